@@ -21,8 +21,8 @@ class Stopped(Exception):
 def name():
     """The script as it was called: `tools/screen` in the repository, `ti_bench-screen` if it is installed."""
     script = pathlib.Path(sys.argv[0])
-    real = script.resolve()
-    return str(real.relative_to(TOP)) if script.name == real.name and TOP in real.parents else script.name
+    place = script.parent.resolve() / script.name
+    return str(place.relative_to(TOP)) if TOP in place.parents else script.name
 
 
 def parser(document, **more):
@@ -46,7 +46,8 @@ def write_bytes(path, data):
 
 def run(main):
     """Ends the process with the status that `main` returns, 0 for None. A reader of its output that has gone ends it
-    quietly, as it ends other programs; text that the locale cannot show is written as escapes."""
+    quietly, as it ends other programs; a file that cannot be read or written is named; text that the locale cannot show
+    is written as escapes."""
     for stream in (sys.stdout, sys.stderr):
         stream.reconfigure(errors='backslashreplace')
     try:
@@ -55,11 +56,22 @@ def run(main):
     except Stopped as stopped:
         status = report(stopped)
     except BrokenPipeError:
-        os.dup2(os.open(os.devnull, os.O_WRONLY), sys.stdout.fileno())
+        drop_output()
         status = 128 + signal.SIGPIPE
+    except OSError as error:
+        # one without a name is a stream, and may be standard output
+        if error.filename is None:
+            drop_output()
+        named = '' if error.filename is None else f'{error.filename}: '
+        status = report(Stopped(f'{named}{error.strerror or error}', UNREADABLE))
     except KeyboardInterrupt:
         status = 128 + signal.SIGINT
     sys.exit(status)
+
+
+def drop_output():
+    """Drops what is still to be written to standard output, which fails."""
+    os.dup2(os.open(os.devnull, os.O_WRONLY), sys.stdout.fileno())
 
 
 def report(stopped):

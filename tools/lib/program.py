@@ -36,9 +36,9 @@ class Program:
         return Run(ended.returncode, ended.stdout, ended.stderr)
 
 
-def option(parser):
-    """The option that names another program."""
-    parser.add_argument('--program', metavar='PATH', help='the program to run, in place of the one that belongs to '
+def option(parser, use='run'):
+    """The option that names another program, and what is done with it."""
+    parser.add_argument('--program', metavar='PATH', help=f'the program to {use}, in place of the one that belongs to '
                         'this script; the variable TI_BENCH names one too')
 
 

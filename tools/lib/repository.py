@@ -13,7 +13,7 @@ def read_text(path):
 
 def write_text(path, text):
     """Makes a file of a text."""
-    pathlib.Path(path).write_text(text, encoding='utf-8', newline='')
+    pathlib.Path(path).write_bytes(text.encode('utf-8'))
 
 
 def shown(path):

@@ -50,7 +50,7 @@ on_all Accepted before after bytes input report told reading on = left after.lef
         by rest is all (nat_lt largest_input (length bytes)) refl on
 
 -- the report of a command on what it took is the report on what was shown
-shown : {C : Type 0} (p : InputCommands C) (command : C) (before after : SourceState) (input : List ℕ) (report : Report)
+pub shown : {C : Type 0} (p : InputCommands C) (command : C) (before after : SourceState) (input : List ℕ) (report : Report)
     → Shows p command before input → Reports p command before after report → OnInput (p.Accepted command) input report
 shown p command before after input report shows (bytes, reading, on) = by (p.reads command) shows reading
   where

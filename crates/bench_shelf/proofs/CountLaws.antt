@@ -8,10 +8,8 @@ use Rattle.source_defs.specs.Lines.{part, lines}
 use Rattle.source_defs.specs.LineLaw.{IsLine, ending}
 use Rattle.source_defs.proofs.LineLaws.{lines_are_lines}
 use Rattle.asm_core.specs.Building.{CanCount}
-use Rattle.bench_shelf.specs.States.{ShelfState}
 use Rattle.bench_shelf.specs.declared.copying.Copying.{Copying}
 use Rattle.bench_shelf.specs.Leading.{IsHeld, HasRoom, count}
-use Rattle.bench_shelf.specs.Causes.{ReadsOnce}
 
 -- the builder has taken as many lines as places are kept
 held_count : (state : Copying) → IsHeld state → state.builder.taken ≡ count state
@@ -60,11 +58,3 @@ pub few_lines : (text : List ℕ) → length (lines text) ≤ length text
 few_lines text =
     let law = lines_are_lines text in
     omega (arith, few_of text (lines text) law.each, ap length law.joined)
-
-pub once_then : (a b c : Copying) (s t u : ShelfState) → ReadsOnce a b s t → ReadsOnce b c t u → ReadsOnce a c s u
-once_then a b c s t u first next = record {
-  copies = omega (arith, first.copies, next.copies);
-  most = next.most;
-  opens = omega (arith, first.copies, next.copies, first.opens, next.opens);
-  bytes = omega (arith, first.copies, next.copies, first.bytes, next.bytes);
-}

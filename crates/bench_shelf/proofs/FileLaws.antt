@@ -1,24 +1,27 @@
 -- A COPY line.
-use Rattle.std.proofs.Common.{◌≡◌, ℕ, zero, suc, ◌+◌, ◌-◌, ◌<◌, ◌≤◌, Bool, true, false, List, [], ◌++◌, Some, None, Ok, Err, length, refl, sym, ap, ◌∙◌, subst, arith, append-nil}
-use Rattle.std.specs.Prelude.{Option, IfSome, nat_lt, nat_le}
-use Rattle.std.specs.FinMap.{get}
+use Rattle.std.proofs.Common.{◌≡◌, ℕ, zero, suc, ◌+◌, ◌-◌, ◌<◌, ◌≤◌, Bool, true, false, List, [], ◌∷◌, ◌++◌, Some, None, Err, length, refl, sym, ap, ◌∙◌, subst, arith, append-nil}
+use Rattle.std.specs.Prelude.{Option, nat_lt, nat_le}
 use Rattle.std.proofs.lemmas.Bool.Decides.{nat_tests}
 use Rattle.source_defs.specs.Refusals.{◌>>=◌}
 use Rattle.source_defs.specs.Layout.{laid, numbered, line_texts}
 use Rattle.asm_defs.specs.Locations.{Line}
 use Rattle.asm_defs.specs.FirstChecks.{check}
-use Rattle.shelf_defs.specs.Files.{Files}
+use Rattle.shelf_defs.specs.Files.{Contents}
 use Rattle.shelf_defs.specs.Copied as spec
-use Rattle.shelf_defs.specs.Copied.{PlacedLine, CopyRefusal, Refused, Copied, lines_in, copy_line, copied_file, refused, most_bytes, most_copies, prepend}
+use Rattle.shelf_defs.specs.Copied.{PlacedLine, CopyRefusal, Refused, Copied, lines_in, copied_file, copy_line, refused, most_bytes, most_copies, prepend}
 use Rattle.shelf_defs.specs.Assembly.{texts, in_place, unless_refused, laid_copied}
 use Rattle.bench_shelf.specs.declared.place.Place.{Place}
 use Rattle.bench_shelf.specs.declared.copying.Copying.{Copying}
 use Rattle.bench_shelf.specs.declared.copy_error.CopyError.{CopyError}
 use Rattle.bench_shelf.specs.declared.copy_error.CopyError.TheVariants as error
+use Rattle.bench_shelf.specs.declared.copy_error.CopyCause.{CopyCause}
 use Rattle.bench_shelf.specs.declared.copy_error.CopyCause.TheVariants as cause
-use Rattle.bench_shelf.specs.CopyAnswers.{CopyRefuses, defined_place, refused_at}
-use Rattle.bench_shelf.specs.Leading.{Holds, Leads, LeadsTo}
-use Rattle.bench_shelf.specs.Causes.{NotRead, Reads}
+use Rattle.bench_shelf.specs.CopyAnswers.{CopyRefuses, IsNoMemory, defined_cause, defined_place, refused_at}
+use Rattle.shelf_defs.specs.Questions.{Answer, Bytes, Unanswered, Question, Agrees, Fits}
+use Rattle.bench_shelf.specs.Leading.{Holds, Leads, LeadsTo, Copies, Asking, EndsBy}
+use Rattle.bench_shelf.specs.Causes.{AsksOne, answer_by_copy, IsOfFile}
+use Rattle.bench_shelf.specs.States.{ShelfState}
+use Rattle.bench_shelf.proofs.AskingLaws.{agrees_front, none_follow, shown_one, asking_then, ends_then, asking_none}
 
 -- what is refused behind lines that were taken
 pub leads_refusal : (old last : Copying) (copies : ℕ) (refusal : CopyRefusal) (error : CopyError)
@@ -30,100 +33,185 @@ leads_refusal old last copies refusal error refuses done holds =
     ∙ ap (λ answer. in_place done answer >>= λ lines. unless_refused (Refused refusal) lines) holds.taken.laid in
     subst (CopyRefuses error) (sym whole) refuses
 
--- a COPY line that may be followed
-copy_by : (many : Bool) (files : Files) (levels : ℕ) (place : spec.Place) (copies : ℕ) (name : List ℕ) → nat_le most_copies copies ≡ many → many ≡ false
-    → copy_line files (suc levels) place copies name ≡ copied_file files (copy_line files levels) place copies name (get files name)
-copy_by many files levels place copies name is few = rw (is ∙ few) refl
+-- a COPY line for which no file is asked
+asks_none : (old : Copying) (found : Contents → Copied) (error : CopyError) (s : ShelfState) → EndsBy (Some error) []
+    → ((contents : Contents) → Leads old (found contents) (Some error) old) → Copies old old found (Some error) s s
+asks_none old found error s ends leads =
+    record { questions = []; asking = asking_none old old found s refl; ends = ends; leads = λ contents agrees. leads contents }
 
-pub copy_more : (levels : ℕ) (files : Files) (place : spec.Place) (copies : ℕ) (name : List ℕ) → 0 < levels → copies < 64
-    → copy_line files levels place copies name ≡ copied_file files (copy_line files (levels - 1)) place copies name (get files name)
-copy_more zero files place copies name some few = absurd (omega (arith, some))
-copy_more (suc levels) files place copies name some few =
-    let less : nat_le most_copies copies ≡ false = grind (arith, nat_tests, few) in
-    let back : suc levels - 1 ≡ levels = omega arith in
-    copy_by (nat_le most_copies copies) files levels place copies name refl less
-    ∙ ap (λ n. copied_file files (copy_line files n) place copies name (get files name)) (sym back)
+-- which is told at the place of the line
+pub refuses_none : (old : Copying) (found : Contents → Copied) (place : Place) (refusal : spec.Cause) (kept : CopyCause) (error : CopyError) (s : ShelfState)
+    → defined_cause kept ≡ refusal → IsNoMemory kept → error ≡ refused_at place kept
+    → ((contents : Contents) → found contents ≡ refused old.copies (spec.At (defined_place place) refusal)) → Copies old old found (Some error) s s
+refuses_none old found place refusal kept error s same memory is refuses =
+    subst (λ error. Copies old old found (Some error) s s) (sym is)
+    (asks_none old found (refused_at place kept) s tt (λ contents.
+    subst (λ found. Leads old found (Some (refused_at place kept)) old) (sym (refuses contents))
+    (leads_refusal old old old.copies (spec.At (defined_place place) refusal) (refused_at place kept)
+    (memory, ap (λ refusal. Err (spec.At (defined_place place) refusal)) (sym same)))))
 
-copy_many : (many : Bool) (files : Files) (levels : ℕ) (place : spec.Place) (copies : ℕ) (name : List ℕ) → nat_le most_copies copies ≡ many → many ≡ true
-    → copy_line files (suc levels) place copies name ≡ refused copies (spec.At place spec.TooMany)
-copy_many many files levels place copies name is few = rw (is ∙ few) refl
+module _ (contents : Contents) (place : spec.Place) (copies : ℕ) (name : List ℕ) where
+  -- a COPY line that may be followed
+  copy_by : (many : Bool) (levels : ℕ) → nat_le most_copies copies ≡ many → many ≡ false
+      → copy_line contents (suc levels) place copies name ≡ copied_file (copy_line contents levels) place copies name (contents copies name)
+  copy_by many levels is few = rw (is ∙ few) refl
 
-pub too_many : (levels : ℕ) (files : Files) (place : spec.Place) (copies : ℕ) (name : List ℕ) → 0 < levels → 64 ≤ copies
-    → copy_line files levels place copies name ≡ refused copies (spec.At place spec.TooMany)
-too_many zero files place copies name some few = absurd (omega (arith, some))
-too_many (suc levels) files place copies name some few =
-    let more : nat_le most_copies copies ≡ true = grind (arith, nat_tests, few) in
-    copy_many (nat_le most_copies copies) files levels place copies name refl more
+  pub copy_more : (levels : ℕ) → 0 < levels → copies < 64
+      → copy_line contents levels place copies name ≡ copied_file (copy_line contents (levels - 1)) place copies name (contents copies name)
+  copy_more zero some few = absurd (omega (arith, some))
+  copy_more (suc levels) some few =
+      let less : nat_le most_copies copies ≡ false = grind (arith, nat_tests, few) in
+      let back : suc levels - 1 ≡ levels = omega arith in
+      copy_by (nat_le most_copies copies) levels refl less
+      ∙ ap (λ n. copied_file (copy_line contents n) place copies name (contents copies name)) (sym back)
 
--- its file was not read
-module _ (old last : Copying) (files : Files) (levels : ℕ) (place : Place) (name : List ℕ) where
+  copy_many : (many : Bool) (levels : ℕ) → nat_le most_copies copies ≡ many → many ≡ true
+      → copy_line contents (suc levels) place copies name ≡ refused copies (spec.At place spec.TooMany)
+  copy_many many levels is few = rw (is ∙ few) refl
+
+  pub too_many : (levels : ℕ) → 0 < levels → 64 ≤ copies → copy_line contents levels place copies name ≡ refused copies (spec.At place spec.TooMany)
+  too_many zero some few = absurd (omega (arith, some))
+  too_many (suc levels) some few =
+      let more : nat_le most_copies copies ≡ true = grind (arith, nat_tests, few) in
+      copy_many (nat_le most_copies copies) levels refl more
+
+module _ (old last : Copying) (contents : Contents) (levels : ℕ) (place : Place) (name : List ℕ) where
   abbrev found_by : Option (List ℕ) → Copied
-  found_by found = copied_file files (copy_line files levels) (defined_place place) old.copies name found
+  found_by found = copied_file (copy_line contents levels) (defined_place place) old.copies name found
 
   too_large : (large : Bool) (bytes : List ℕ) → nat_lt most_bytes (length bytes) ≡ large → large ≡ true
       → found_by (Some bytes) ≡ refused (old.copies + 1) spec.TooLarge
   too_large large bytes is more = rw (is ∙ more) refl
 
   not_large : (large : Bool) (bytes : List ℕ) → nat_lt most_bytes (length bytes) ≡ large → large ≡ false
-      → found_by (Some bytes) ≡ lines_in (copy_line files levels) (Some name) (old.copies + 1) (line_texts bytes)
+      → found_by (Some bytes) ≡ lines_in (copy_line contents levels) (Some name) (old.copies + 1) (line_texts bytes)
   not_large large bytes is few = rw (is ∙ few) refl
 
-  pub leads_not_read : (error : CopyError) → NotRead files place name error → Leads old (found_by (get files name)) (Some error) last
-  leads_not_read (error.At file line refusal) not =
-      let found : found_by (get files name) ≡ refused (old.copies + 1) (spec.At (defined_place place) (spec.Missing name)) = ap found_by not.1 in
+  -- its file was not read
+  pub leads_not_read : (error : CopyError) (answer : Option (List ℕ)) → IsOfFile place name error → Fits most_bytes (answer_by_copy error) answer
+      → Leads old (found_by answer) (Some error) last
+  leads_not_read (error.At file line refusal) answer is fits =
+      let found : found_by answer ≡ refused (old.copies + 1) (spec.At (defined_place place) (spec.Missing name)) = ap found_by fits in
       subst (λ found. Leads old found (Some (error.At file line refusal)) last) (sym found)
-      (subst (λ error. Leads old (refused (old.copies + 1) (spec.At (defined_place place) (spec.Missing name))) (Some error) last) (sym not.0)
+      (subst (λ error. Leads old (refused (old.copies + 1) (spec.At (defined_place place) (spec.Missing name))) (Some error) last) (sym is)
       (leads_refusal old last (old.copies + 1) (spec.At (defined_place place) (spec.Missing name)) (refused_at place (cause.Missing name)) (tt, refl)))
-  leads_not_read error.TooLarge not =
-      let size : most_bytes < length not.0 = not.2 in
-      let more : nat_lt most_bytes (length not.0) ≡ true = grind (arith, nat_tests, size) in
-      let found : found_by (get files name) ≡ refused (old.copies + 1) spec.TooLarge =
-      ap found_by not.1 ∙ too_large (nat_lt most_bytes (length not.0)) not.0 refl more in
+  leads_not_read error.TooLarge answer is fits =
+      let size : most_bytes < length fits.0 = fits.2 in
+      let more : nat_lt most_bytes (length fits.0) ≡ true = grind (arith, nat_tests, size) in
+      let found : found_by answer ≡ refused (old.copies + 1) spec.TooLarge =
+      ap found_by fits.1 ∙ too_large (nat_lt most_bytes (length fits.0)) fits.0 refl more in
       subst (λ found. Leads old found (Some error.TooLarge) last) (sym found)
       (leads_refusal old last (old.copies + 1) spec.TooLarge error.TooLarge refl)
-  leads_not_read error.Fault not = λ done holds. tt
-  leads_not_read error.Memory not = λ done holds. tt
+  leads_not_read error.Fault answer is fits = λ done holds. tt
+  leads_not_read error.Memory answer is fits = λ done holds. tt
 
   -- or it was, and its lines are taken
-  pub leads_read : (mid : Copying) (bytes : List ℕ) (trouble : Option CopyError) → Reads files place name (Ok bytes)
+  pub leads_read : (mid : Copying) (bytes : List ℕ) (answer : Option (List ℕ)) (trouble : Option CopyError) → answer ≡ Some bytes → length bytes ≤ most_bytes
       → ((done : List PlacedLine) → Holds done old → Holds done mid) → mid.copies ≡ old.copies + 1
-      → Leads mid (lines_in (copy_line files levels) (Some name) mid.copies (line_texts bytes)) trouble last
-      → Leads old (found_by (get files name)) trouble last
-  leads_read mid bytes trouble reads same copies leads done holds =
-      let few : nat_lt most_bytes (length bytes) ≡ false = grind (arith, nat_tests, reads.1) in
-      let found : found_by (get files name) ≡ lines_in (copy_line files levels) (Some name) (old.copies + 1) (line_texts bytes) =
-      ap found_by reads.0 ∙ not_large (nat_lt most_bytes (length bytes)) bytes refl few in
-      let more = subst (λ copies. LeadsTo trouble done (lines_in (copy_line files levels) (Some name) copies (line_texts bytes)) last) copies
+      → Leads mid (lines_in (copy_line contents levels) (Some name) mid.copies (line_texts bytes)) trouble last
+      → Leads old (found_by answer) trouble last
+  leads_read mid bytes answer trouble reads size same copies leads done holds =
+      let few : nat_lt most_bytes (length bytes) ≡ false = grind (arith, nat_tests, size) in
+      let found : found_by answer ≡ lines_in (copy_line contents levels) (Some name) (old.copies + 1) (line_texts bytes) =
+      ap found_by reads ∙ not_large (nat_lt most_bytes (length bytes)) bytes refl few in
+      let more = subst (λ copies. LeadsTo trouble done (lines_in (copy_line contents levels) (Some name) copies (line_texts bytes)) last) copies
       (leads done (same done holds)) in
       subst (λ found. LeadsTo trouble done found last) (sym found) more
 
--- the same, where the shelf tells its files
-module _ (old last : Copying) (levels : ℕ) (place : Place) (name : List ℕ) (some : 0 < levels) where
-  pub told_many : (told : Option Files) (error : CopyError) → 64 ≤ old.copies → error ≡ refused_at place cause.TooMany
-      → IfSome told (λ files. Leads old (copy_line files levels (defined_place place) old.copies name) (Some error) last)
-  told_many None error many is = tt
-  told_many (Some files) error many is =
-      subst (λ found. Leads old found (Some error) last) (sym (too_many levels files (defined_place place) old.copies name some many))
-      (subst (λ error. Leads old (refused old.copies (spec.At (defined_place place) spec.TooMany)) (Some error) last) (sym is)
-      (leads_refusal old last old.copies (spec.At (defined_place place) spec.TooMany) (refused_at place cause.TooMany) (tt, refl)))
+-- A COPY line, by what is heard of its file.
+module _ (old : Copying) (levels : ℕ) (place : Place) (name : List ℕ) (some : 0 < levels) (s : ShelfState) where
+  abbrev line_by : Contents → Copied
+  line_by contents = copy_line contents levels (defined_place place) old.copies name
 
-  pub told_not_read : (told : Option Files) (error : CopyError) → old.copies < 64 → IfSome told (λ files. NotRead files place name error)
-      → IfSome told (λ files. Leads old (copy_line files levels (defined_place place) old.copies name) (Some error) last)
-  told_not_read None error few not = tt
-  told_not_read (Some files) error few not =
-      subst (λ found. Leads old found (Some error) last) (sym (copy_more levels files (defined_place place) old.copies name some few))
-      (leads_not_read old last files (levels - 1) place name error not)
+  pub many_copies : (error : CopyError) → 64 ≤ old.copies → error ≡ refused_at place cause.TooMany → Copies old old line_by (Some error) s s
+  many_copies error many is =
+      refuses_none old line_by place spec.TooMany cause.TooMany error s refl tt is
+      (λ contents. too_many contents (defined_place place) old.copies name levels some many)
 
-  pub told_read : (told told_there : Option Files) (mid : Copying) (bytes text : List ℕ) (trouble : Option CopyError) → told_there ≡ told → text ≡ bytes
-      → old.copies < 64 → IfSome told (λ files. Reads files place name (Ok bytes))
-      → ((done : List PlacedLine) → Holds done old → Holds done mid) → mid.copies ≡ old.copies + 1
-      → IfSome told_there (λ files. Leads mid (lines_in (copy_line files (levels - 1)) (Some name) mid.copies (line_texts text)) trouble last)
-      → IfSome told (λ files. Leads old (copy_line files levels (defined_place place) old.copies name) trouble last)
-  told_read None told_there mid bytes text trouble same is few reads holds copies leads = tt
-  told_read (Some files) told_there mid bytes text trouble same is few reads holds copies leads =
-      let next : List ℕ → Files → Type 0 =
-      λ text files. Leads mid (lines_in (copy_line files (levels - 1)) (Some name) mid.copies (line_texts text)) trouble last in
-      let there : next bytes files =
-      subst (λ text. next text files) is (subst (λ found. IfSome found (next text)) same leads) in
-      subst (λ found. Leads old found trouble last) (sym (copy_more levels files (defined_place place) old.copies name some few))
-      (leads_read old last files (levels - 1) place name mid bytes trouble reads holds copies there)
+  module _ (few : old.copies < 64) where
+    abbrev question : Answer → Question
+    question answer = record { name = name; answer = answer }
+
+    by_more : (contents : Contents) (error : Option CopyError) (last : Copying)
+        → Leads old (found_by old last contents (levels - 1) place name (contents old.copies name)) error last → Leads old (line_by contents) error last
+    by_more contents error last leads = subst (λ found. Leads old found error last) (sym (copy_more contents (defined_place place) old.copies name levels some few)) leads
+
+    not_read : (contents : Contents) (error : CopyError) (last : Copying) → IsOfFile place name error → Fits most_bytes (answer_by_copy error) (contents old.copies name)
+        → Leads old (line_by contents) (Some error) last
+    not_read contents error last is fits = by_more contents (Some error) last (leads_not_read old last contents (levels - 1) place name error (contents old.copies name) is fits)
+
+    asking_first : (mid : Copying) (t : ShelfState) (answer : Answer) → mid.copies ≡ old.copies + 1 → AsksOne most_bytes name answer s t
+        → Asking old mid line_by (question answer ∷ []) s t
+    asking_first mid t answer copies asks = record {
+      number = omega (arith, copies);
+      turns = (
+        (
+          defined_place place,
+          λ contents agrees none.
+              let at : old.copies + length {A = Question} [] ≡ old.copies = omega arith in
+              not_read contents (refused_at place (cause.Missing name)) old refl (subst (λ n. contents n name ≡ None) at none),
+        ),
+        none_follow answer,
+        tt,
+      );
+      files = shown_one most_bytes s.files name answer asks.fits;
+      reads = asks.reads;
+    }
+
+    unheard : (error : CopyError) → EndsBy (Some error) (question (answer_by_copy error) ∷ [])
+    unheard (error.At file line cause) = tt
+    unheard error.TooLarge = tt
+    unheard error.Fault = record { front = []; last = question Unanswered; are = refl; is = refl }
+    unheard error.Memory = tt
+
+    -- its file was not read
+    pub copies_unread : (last : Copying) (t : ShelfState) (error : CopyError) → last.copies ≡ old.copies + 1
+        → AsksOne most_bytes name (answer_by_copy error) s t → IsOfFile place name error → Copies old last line_by (Some error) s t
+    copies_unread last t error copies asks is = record {
+      questions = question (answer_by_copy error) ∷ [];
+      asking = asking_first last t (answer_by_copy error) copies asks;
+      ends = unheard error;
+      leads = λ contents agrees. not_read contents error last is agrees.0;
+    }
+
+    ends_by : (bytes : List ℕ) (trouble : Option CopyError) (questions : List Question) → EndsBy trouble questions → EndsBy trouble (question (Bytes bytes) ∷ [] ++ questions)
+    ends_by bytes None questions given = (tt, given)
+    ends_by bytes (Some error) questions given = ends_then error (question (Bytes bytes) ∷ []) questions given
+
+    -- or it was, and its lines were taken, or one is refused
+    module _ (mid last : Copying) (t u : ShelfState) (bytes : List ℕ) (copies : mid.copies ≡ old.copies + 1) (asks : AsksOne most_bytes name (Bytes bytes) s t) (size : length bytes ≤ most_bytes)
+        (holds : (done : List PlacedLine) → Holds done old → Holds done mid) where
+      abbrev inner : List ℕ → Contents → Copied
+      inner text contents = lines_in (copy_line contents (levels - 1)) (Some name) mid.copies (line_texts text)
+
+      on : (contents : Contents) → Agrees most_bytes contents old.copies (question (Bytes bytes) ∷ []) → (error : Option CopyError) (end : Copying)
+          → Leads mid (inner bytes contents) error end → Leads old (line_by contents) error end
+      on contents agrees error end leads =
+          by_more contents error end (leads_read old end contents (levels - 1) place name mid bytes (contents old.copies name) error agrees.0 size holds copies leads)
+
+      joined : (trouble : Option CopyError) → Copies mid last (inner bytes) trouble t u → Copies old last line_by trouble s u
+      joined trouble found = record {
+        questions = question (Bytes bytes) ∷ [] ++ found.questions;
+        asking = asking_then old mid line_by (inner bytes) (question (Bytes bytes) ∷ []) (omega (arith, copies))
+            (λ contents agrees error leads. on contents agrees (Some error) old leads) last s t u found.questions (tt, tt)
+            (asking_first mid t (Bytes bytes) copies asks) found.asking;
+        ends = ends_by bytes trouble found.questions found.ends;
+        leads = λ contents agrees. on contents (agrees_front most_bytes contents old.copies (question (Bytes bytes) ∷ []) found.questions agrees) trouble last
+            (found.leads contents (subst (λ n. Agrees most_bytes contents n found.questions) (sym copies) agrees.1));
+      }
+
+      pub copies_read : (text : List ℕ) (trouble : Option CopyError) → text ≡ bytes → Copies mid last (inner text) trouble t u
+          → Copies old last line_by trouble s u
+      copies_read text trouble is found = joined trouble (subst (λ text. Copies mid last (inner text) trouble t u) is found)
+
+-- a COPY line that stands too deep
+deep_by : (contents : Contents) (levels : ℕ) (place : spec.Place) (copies : ℕ) (name : List ℕ) → levels ≡ 0
+    → copy_line contents levels place copies name ≡ refused copies (spec.At place spec.TooDeep)
+deep_by contents zero place copies name none = refl
+deep_by contents (suc levels) place copies name none = absurd (omega (arith, none))
+
+pub deep_copies : (old : Copying) (levels : ℕ) (place : Place) (name : List ℕ) (s : ShelfState) (error : CopyError) → levels ≡ 0 → error ≡ refused_at place cause.TooDeep
+    → Copies old old (λ contents. copy_line contents levels (defined_place place) old.copies name) (Some error) s s
+deep_copies old levels place name s error none is =
+    refuses_none old (λ contents. copy_line contents levels (defined_place place) old.copies name) place spec.TooDeep cause.TooDeep error s refl tt is
+    (λ contents. deep_by contents levels (defined_place place) old.copies name none)

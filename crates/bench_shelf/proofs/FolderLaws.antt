@@ -24,10 +24,10 @@ same_counts before after f is calls taken empty =
       empty = ap (λ (g : Folder). g.empty) is ∙ empty;
     }
 
-anew : (before after f : Folder) → after ≡ f → f.opens ≡ raised before.opens 1 → f.given ≡ 0
-    → f.largest ≡ before.largest → StartsAnew (untold before) (untold after)
-anew before after f is opens given largest =
-    record { opens = ap (λ (g : Folder). g.opens) is ∙ opens; given = ap (λ (g : Folder). g.given) is ∙ given; largest = ap (λ (g : Folder). g.largest) is ∙ largest }
+anew : (name : List ℕ) (before after f : Folder) → after ≡ f → f.opens ≡ raised before.opens 1 → f.given ≡ 0
+    → f.largest ≡ before.largest → StartsAnew (untold before) (untold after) name
+anew name before after f is opens given largest =
+    record { asked = refl; opens = ap (λ (g : Folder). g.opens) is ∙ opens; given = ap (λ (g : Folder). g.given) is ∙ given; largest = ap (λ (g : Folder). g.largest) is ∙ largest }
 
 module _ {A : Type 0} (before after : Folder) where
   pub tells_refused : (name : List ℕ) (r : Result A OpenError) → OpensFrom before r after
@@ -42,10 +42,10 @@ module _ {A : Type 0} (before after : Folder) where
   tells_counts (Err Failed) opens = same_counts before after _ opens.1 refl refl refl
   tells_counts (Err Missing) opens = same_counts before after _ opens.1 refl refl refl
 
-  pub tells_anew : (r : Result A OpenError) → OpensFrom before r after → StartsAnew (untold before) (untold after)
-  tells_anew (Ok value) opens = anew before after _ opens refl refl refl
-  tells_anew (Err Failed) opens = anew before after _ opens.1 refl refl refl
-  tells_anew (Err Missing) opens = anew before after _ opens.1 refl refl refl
+  pub tells_anew : (name : List ℕ) (r : Result A OpenError) → OpensFrom before r after → StartsAnew (untold before) (untold after) name
+  tells_anew name (Ok value) opens = anew name before after _ opens refl refl refl
+  tells_anew name (Err Failed) opens = anew name before after _ opens.1 refl refl refl
+  tells_anew name (Err Missing) opens = anew name before after _ opens.1 refl refl refl
 
   pub tells_faults : (r : Result A OpenError) → OpensFrom before r after → before.faults ≤ after.faults
   tells_faults (Ok value) opens = let same = ap (λ (f : Folder). f.faults) opens in omega (arith, same)

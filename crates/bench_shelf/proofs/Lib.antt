@@ -4,10 +4,14 @@ pub mod LaidLonger
 pub mod LeadingLaws
 pub mod Reading
 pub mod TakingLaws
+pub mod AmountLaws
+pub mod AskingLaws
 pub mod LoopLaws
 pub mod FileLaws
 pub mod OneLines
 pub mod ModuleLaws
+pub mod AskedLaws
+pub mod FilesLaws
 pub mod CountLaws
 pub mod SinceLaws
 pub mod RunLaws

@@ -3,7 +3,6 @@ use Rattle.std.proofs.Common.{◌≡◌, ℕ, zero, suc, ◌+◌, ◌-◌, ◌<�
 use Rattle.std.proofs.lemmas.List.{get_or-take, get_or-drop}
 use Rattle.std.specs.Prelude.{Option, map, nat_lt, nat_le, if◌then◌else◌}
 use Rattle.std.specs.List.{AllByRecursion}
-use Rattle.std.specs.FinMap.{get}
 use Rattle.source_defs.specs.declared.text.Line.{Line as TextLine}
 use Rattle.source_defs.specs.Characters.{is_line_feed}
 use Rattle.source_defs.specs.Lines.{part, lines}
@@ -11,9 +10,9 @@ use Rattle.source_defs.specs.LineLaw.{IsLine}
 use Rattle.source_defs.specs.Layout.{line_texts}
 use Rattle.source_defs.proofs.LineLaws.{lines_are_lines}
 use Rattle.source_defs.specs.EndedLines.{IsOneLine}
-use Rattle.shelf_defs.specs.Files.{Files}
 use Rattle.shelf_defs.specs.CopyLines.{Asked, Itself, File, Bad, asked}
-use Rattle.shelf_defs.specs.Copied.{Place, PlacedLine, Ending, Open, Ended, Refused, Copied, then_by, lines_in, copy_line, copied_file, copied, asked_line, most_bytes, most_copies}
+use Rattle.shelf_defs.specs.Files.{Contents}
+use Rattle.shelf_defs.specs.Copied.{Place, copy_line, copied_by, PlacedLine, Ending, Open, Ended, Refused, Copied, then_by, lines_in, copied_file, asked_line, most_bytes, most_copies}
 use Rattle.shelf_defs.specs.Assembly.{texts}
 
 -- each of some lines holds none
@@ -77,24 +76,25 @@ one_of_two : (b : Bool) (first second : Copied) → AreOneLines first.lines → 
 one_of_two true first second a b = a
 one_of_two false first second a b = b
 
-module _ (files : Files) where
+module _ (contents : Contents) where
   file_one : (copy : Place → ℕ → List ℕ → Copied) → IsOneCopy copy → (place : Place) (copies : ℕ) (name : List ℕ) (found : Option (List ℕ))
-      → AreOneLines (copied_file files copy place copies name found).lines
+      → AreOneLines (copied_file copy place copies name found).lines
   file_one copy each place copies name None = tt
   file_one copy each place copies name (Some bytes) =
       one_of_two (nat_lt most_bytes (length bytes)) _ (lines_in copy (Some name) (copies + 1) (line_texts bytes)) tt
       (lines_one copy each (Some name) (copies + 1) (line_texts bytes) (texts_one bytes))
 
-  copy_one : (levels : ℕ) → IsOneCopy (copy_line files levels)
+  copy_one : (levels : ℕ) → IsOneCopy (copy_line contents levels)
   copy_one zero place copies name = tt
   copy_one (suc levels) place copies name =
-      one_of_two (nat_le most_copies copies) _ (copied_file files (copy_line files levels) place copies name (get files name)) tt
-      (file_one (copy_line files levels) (copy_one levels) place copies name (get files name))
+      one_of_two (nat_le most_copies copies) _ (copied_file (copy_line contents levels) place copies name (contents copies name)) tt
+      (file_one (copy_line contents levels) (copy_one levels) place copies name (contents copies name))
 
 seen_one : (lines : List PlacedLine) → AreOneLines lines → AllByRecursion IsOneLine (texts lines)
 seen_one [] all = tt
 seen_one (line ∷ lines) all = (all.0, seen_one lines all.1)
 
-pub copied_one : (files : Files) (source : List ℕ) → AllByRecursion IsOneLine (texts (copied files source).lines)
-copied_one files source =
-    seen_one (copied files source).lines (lines_one (copy_line files 4) (copy_one files 4) None 0 (line_texts source) (texts_one source))
+pub copied_one : (contents : Contents) (source : List ℕ) → AllByRecursion IsOneLine (texts (copied_by contents source).lines)
+copied_one contents source =
+    seen_one (copied_by contents source).lines
+    (lines_one (copy_line contents 4) (copy_one contents 4) None 0 (line_texts source) (texts_one source))

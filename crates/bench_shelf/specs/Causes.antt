@@ -1,20 +1,21 @@
--- What answers tell of a shelf.
-use Rattle.std.specs.Prelude.{◌≡◌, ⊤, ℕ, ◌+◌, ◌-◌, ◌*◌, ◌<◌, ◌≤◌, max, List, length, Some, None, Result, Ok, Err}
+-- What a result says of the shelf: its counts, and the files that it was asked for.
+use Rattle.std.specs.Prelude.{◌≡◌, ⊤, ℕ, ◌+◌, ◌<◌, ◌≤◌, max, List, [], ◌∷◌, length}
+use Rattle.std.specs.Prelude.{IfSome}
 use Rattle.std.specs.FinMap.{get}
 use Rattle.count_defs.specs.Counts.{raised, Rose}
-use Rattle.shelf_defs.specs.Files.{Files}
-use Rattle.shelf_defs.specs.Copied.{most_bytes, most_copies}
-use Rattle.bench_shelf.specs.States.{ShelfState}
+use Rattle.shelf_defs.specs.Copied.{most_bytes}
+use Rattle.shelf_defs.specs.Questions.{Answer, NoFile, OverLimit, Unanswered, Question, Fits, names_of}
+use Rattle.shelf_defs.specs.Amounts.{AreTaken}
+use Rattle.bench_shelf.specs.States.{ShelfState, asked_more}
 use Rattle.bench_shelf.specs.declared.error.FileError.{FileError}
 use Rattle.bench_shelf.specs.declared.error.FileError.TheVariants as unread
-use Rattle.bench_shelf.specs.declared.copying.Copying.{Copying}
 use Rattle.bench_shelf.specs.declared.place.Place.{Place}
 use Rattle.bench_shelf.specs.declared.copy_error.CopyCause.TheVariants.{Asm, Missing}
 use Rattle.bench_shelf.specs.declared.copy_error.CopyError.{CopyError}
 use Rattle.bench_shelf.specs.declared.copy_error.CopyError.TheVariants.{At, TooLarge, Fault, Memory}
 use Rattle.bench_shelf.specs.CopyAnswers.{IsNoMemory, refused_at}
 
--- a shelf behind some calls: it has the same files, and none of its counts fell, but for that of the file opened last
+-- a shelf after some calls: it has the same files, and none of its counts fell, but for that of the file opened last
 pub record Later (before after : ShelfState) : Type 0 where
   pub files : after.files ≡ before.files
   pub faults : before.source.faults ≤ after.source.faults
@@ -44,7 +45,7 @@ FileCauses limit unread.Fault before after =
     Rose before.source.faults after.source.faults × TookNoMore limit before after
 FileCauses limit unread.Memory before after = TookNoMore limit before after
 
--- The same of what a line is refused for. No line is refused because memory was wanting.
+-- The same of what a line is refused for. No line is refused because memory ran out.
 abbrev pub ShelfCauses : CopyError → ShelfState → ShelfState → Type 0
 ShelfCauses (At file line (Missing name)) before after =
     Rose before.misses after.misses × TookNoMore most_bytes before after
@@ -54,37 +55,48 @@ ShelfCauses Fault before after =
     Rose before.source.faults after.source.faults × TookNoMore most_bytes before after
 ShelfCauses Memory before after = TookNoMore most_bytes before after
 
--- why the file of a name was not read
-abbrev pub IsUnread : Files → List ℕ → ℕ → FileError → Type 0
-IsUnread files name limit unread.Missing = get files name ≡ None
-IsUnread files name limit unread.TooLarge =
-    (bytes : List ℕ) × (get files name ≡ Some bytes) × (limit < length bytes)
-IsUnread files name limit unread.Fault = ⊤
-IsUnread files name limit unread.Memory = ⊤
+-- the answer to a question for a file that was not read
+abbrev pub answer_by : FileError → Answer
+answer_by unread.Missing = NoFile
+answer_by unread.TooLarge = OverLimit
+answer_by unread.Fault = Unanswered
+answer_by unread.Memory = Unanswered
 
--- why a file of a name was not read for the line at a place
-abbrev pub NotRead : Files → Place → List ℕ → CopyError → Type 0
-NotRead files place name (At file line cause) =
-    (At file line cause ≡ refused_at place (Missing name)) × (get files name ≡ None)
-NotRead files place name TooLarge = (bytes : List ℕ) × (get files name ≡ Some bytes) × (most_bytes < length bytes)
-NotRead files place name Fault = ⊤
-NotRead files place name Memory = ⊤
+-- the same of a file that a COPY line names
+abbrev pub answer_by_copy : CopyError → Answer
+answer_by_copy (At file line cause) = NoFile
+answer_by_copy TooLarge = OverLimit
+answer_by_copy Fault = Unanswered
+answer_by_copy Memory = Unanswered
 
--- the bytes of the file, or why there are none
-abbrev pub Reads : Files → Place → List ℕ → Result (List ℕ) CopyError → Type 0
-Reads files place name (Ok bytes) = (get files name ≡ Some bytes) × (length bytes ≤ most_bytes)
-Reads files place name (Err error) = NotRead files place name error
+-- a line that is refused is the COPY line at this place, whose file is missing
+abbrev pub IsOfFile : Place → List ℕ → CopyError → Type 0
+IsOfFile place name (At file line cause) = At file line cause ≡ refused_at place (Missing name)
+IsOfFile place name TooLarge = ⊤
+IsOfFile place name Fault = ⊤
+IsOfFile place name Memory = ⊤
 
--- an answer that tells nothing of a shelf: the assembler refuses a line, or memory was wanting
+-- an error that says nothing of a shelf: the assembler refuses a line, or memory ran out
 abbrev pub IsOfLine : CopyError → Type 0
 IsOfLine (At file line (Asm cause)) = IsNoMemory (Asm cause)
 IsOfLine Memory = ⊤
 IsOfLine error = ⊥
 
--- each file that is copied is asked for once, and no other; for each no more is taken than one byte past its limit;
--- and at most 64 files are copied
-pub record ReadsOnce (old new : Copying) (before after : ShelfState) : Type 0 where
-  pub copies : old.copies ≤ new.copies
-  pub most : new.copies ≤ most_copies
-  pub opens : after.opens ≡ raised before.opens (new.copies - old.copies)
-  pub bytes : after.source.taken ≤ raised before.source.taken ((most_bytes + 1) * (new.copies - old.copies))
+-- Files were asked for by these questions, one by one, each once. Of each as much was taken as its answer says, and no
+-- more calls were made than bytes were taken and calls gave none. Where none was asked for, the shelf is as it was.
+pub record ReadsOnce (limit : ℕ) (questions : List Question) (before after : ShelfState) : Type 0 where
+  pub files : after.files ≡ before.files
+  pub asked : after.asked ≡ asked_more before.asked (names_of questions)
+  pub opens : after.opens ≡ raised before.opens (length questions)
+  pub bytes : ℕ
+  pub empty : ℕ
+  pub amounts : AreTaken limit questions bytes empty
+  pub taken : after.source.taken ≡ raised before.source.taken bytes
+  pub ends : after.source.empty ≡ raised before.source.empty empty
+  pub calls : after.source.calls ≤ raised before.source.calls (bytes + empty)
+  pub none : questions ≡ [] → after ≡ before
+
+-- The file of a name was asked for, and this is the answer. Where the shelf shows its files, it is that of the file.
+pub record AsksOne (limit : ℕ) (name : List ℕ) (answer : Answer) (before after : ShelfState) : Type 0 where
+  pub reads : ReadsOnce limit (record { name = name; answer = answer } ∷ []) before after
+  pub fits : IfSome before.files (λ files. Fits limit answer (get files name))

@@ -33,6 +33,7 @@ untold folder =
           };
       opens = folder.opens;
       misses = folder.misses;
+      asked = None;
       files = None;
     }
 

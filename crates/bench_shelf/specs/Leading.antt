@@ -1,16 +1,23 @@
 -- What copying some lines leads to.
-use Rattle.std.specs.Prelude.{◌≡◌, ℕ, ◌+◌, ◌-◌, ◌*◌, ◌^◌, ◌≤◌, List, ◌++◌, length, Option, Some, None, Result, Ok, Err}
+use Rattle.std.specs.Prelude.{◌≡◌, ⊤, ℕ, ◌+◌, ◌-◌, ◌*◌, ◌^◌, ◌≤◌, List, [], ◌∷◌, ◌++◌, length}
+use Rattle.std.specs.Prelude.{Option, Some, None, Result, Ok, Err, IfSome}
+use Rattle.shelf_defs.specs.Files.{Contents, of_files}
+use Rattle.shelf_defs.specs.Copied as spec
 use Rattle.shelf_defs.specs.Copied.{PlacedLine, Ending, Open, Ended, Refused, Copied, prepend, most_copies, most_bytes}
 use Rattle.shelf_defs.specs.Assembly.{texts, places, laid_copied}
+use Rattle.shelf_defs.specs.Questions.{Answer, Bytes, Unanswered, Question, Agrees, InTurn, EndsWith}
 use Rattle.asm_core.specs.Building.{HasTaken, IsOpen}
 use Rattle.asm_core.specs.declared.lines.AsmLines.{AsmLines}
 use Rattle.bench_shelf.specs.declared.copying.Copying.{Copying}
 use Rattle.bench_shelf.specs.declared.copy_error.CopyError.{CopyError}
+use Rattle.bench_shelf.specs.declared.copy_error.CopyError.TheVariants.{At, TooLarge, Fault, Memory}
+use Rattle.bench_shelf.specs.declared.copy_error.CopyCause.TheVariants.{Missing}
 use Rattle.asm_checks.specs.declared.failure.Failure.{Failure}
 use Rattle.bench_shelf.specs.declared.place.Place.{Place}
 use Rattle.bench_shelf.specs.CopyAnswers.{CopyRefuses, failed_at}
 use Rattle.bench_shelf.specs.Runs.{places_of}
 use Rattle.bench_shelf.specs.States.{ShelfState}
+use Rattle.bench_shelf.specs.Causes.{ReadsOnce}
 
 -- these lines were taken, and their places are kept
 pub record Holds (done : List PlacedLine) (state : Copying) : Type 0 where
@@ -48,11 +55,48 @@ LeadsTo (Some error) done found new = CopyRefuses error (laid_copied (prepend do
 abbrev pub Leads : Copying → Copied → Option CopyError → Copying → Type 0
 Leads old found error new = (done : List PlacedLine) → Holds done old → LeadsTo error done found new
 
--- lines that copy no file lead to what they lead to without files, and the shelf is left as it was
-pub record LeadsAlone (old : Copying) (found : Copied) (error : Option CopyError) (new : Copying)
+-- After the lines that were taken and these answers this file is the next: if no file had the name, that would be the
+-- refusal.
+abbrev pub IsNextAfter : Copying → (Contents → Copied) → List Question → Question → Type 0
+IsNextAfter old found front question =
+    (place : spec.Place) × ((contents : Contents) → Agrees most_bytes contents old.copies front
+    → contents (old.copies + length front) question.name ≡ None
+    → Leads old (found contents) (Some (At place.file place.line (Missing question.name))) old)
+
+-- A file was asked for by each COPY line that may be followed, in their order, and no other. Where the shelf shows its
+-- files, the answers are those of the files.
+pub record Asking (old new : Copying) (found : Contents → Copied) (questions : List Question)
     (before after : ShelfState) : Type 0 where
-  pub shelf : after ≡ before
-  pub leads : Leads old found error new
+  pub number : new.copies ≡ old.copies + length questions
+  pub turns : InTurn (IsNextAfter old found) [] questions
+  pub files : IfSome before.files (λ files. Agrees most_bytes (of_files files) 0 questions)
+  pub reads : ReadsOnce most_bytes questions before after
+
+abbrev pub IsGiven : Answer → Type 0
+IsGiven (Bytes bytes) = ⊤
+IsGiven other = ⊥
+
+abbrev pub AllGiven : List Question → Type 0
+AllGiven [] = ⊤
+AllGiven (question ∷ questions) = IsGiven question.answer × AllGiven questions
+
+-- where all lines were taken, each file was given; the shelf fails at the file that was asked for last
+abbrev pub EndsBy : Option CopyError → List Question → Type 0
+EndsBy None questions = AllGiven questions
+EndsBy (Some (At file line cause)) questions = ⊤
+EndsBy (Some TooLarge) questions = ⊤
+EndsBy (Some Fault) questions = EndsWith Unanswered questions
+EndsBy (Some Memory) questions = ⊤
+
+-- There are questions and answers such that lines lead by these answers to what they led to, whatever else the shelf
+-- would have answered.
+pub record Copies (old new : Copying) (found : Contents → Copied) (error : Option CopyError)
+    (before after : ShelfState) : Type 0 where
+  pub questions : List Question
+  pub asking : Asking old new found questions before after
+  pub ends : EndsBy error questions
+  pub leads : (contents : Contents) → Agrees most_bytes contents old.copies questions
+      → Leads old (found contents) error new
 
 -- how many lines were taken
 abbrev pub count : Copying → ℕ

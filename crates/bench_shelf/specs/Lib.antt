@@ -7,5 +7,6 @@ pub mod Asking
 pub mod CopyAnswers
 pub mod Leading
 pub mod Causes
-pub mod KeptLines
+pub mod Dialogue
 pub mod Runs
+pub mod Answered

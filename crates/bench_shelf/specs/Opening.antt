@@ -1,29 +1,31 @@
 -- What opening a file does to a shelf.
-use Rattle.std.specs.Prelude.{◌≡◌, ℕ, List, Option, Some, None, IfSome}
+use Rattle.std.specs.Prelude.{◌≡◌, ℕ, List, [], ◌∷◌, Option, Some, None, IfSome}
 use Rattle.std.specs.FinMap.{get}
 use Rattle.count_defs.specs.Counts.{raised, Rose}
 use Rattle.bench_io.specs.Stream.{SourceState}
 use Rattle.shelf_defs.specs.Files.{Files}
-use Rattle.bench_shelf.specs.States.{ShelfState}
+use Rattle.bench_shelf.specs.States.{ShelfState, asked_more}
 use Rattle.bench_shelf.specs.declared.error.OpenError.{OpenError}
 use Rattle.bench_shelf.specs.declared.error.OpenError.TheVariants.{Failed, Missing}
 
--- what is left after a file was opened: its bytes, where the files are told
+-- what is left after a file was opened: its bytes, where the files are shown
 abbrev pub Opens : Option Files → List ℕ → Option (List ℕ) → Type 0
-Opens told name left = IfSome told (λ files. (bytes : List ℕ) × (get files name ≡ Some bytes) × (left ≡ Some bytes))
+Opens shown name left = IfSome shown (λ files. (bytes : List ℕ) × (get files name ≡ Some bytes) × (left ≡ Some bytes))
 
--- no file has the name, where the files are told
+-- no file has the name, where the files are shown
 abbrev pub IsMissing : Option Files → List ℕ → Type 0
-IsMissing told name = IfSome told (λ files. get files name ≡ None)
+IsMissing shown name = IfSome shown (λ files. get files name ≡ None)
 
 -- why a file was not opened: the shelf failed, or the name was missing
 abbrev pub Refuses : OpenError → ShelfState → ShelfState → List ℕ → Type 0
 Refuses Failed before after name = Rose before.source.faults after.source.faults
 Refuses Missing before after name = Rose before.misses after.misses × IsMissing before.files name
 
--- the call is counted, and of the file that was opened no bytes were given yet, nor were any of one that was refused
-pub record StartsAnew (before after : ShelfState) : Type 0 where
+-- the call is counted and its name kept after the others, and of the file that was opened no bytes were given yet, nor
+-- were any of one that was refused
+pub record StartsAnew (before after : ShelfState) (name : List ℕ) : Type 0 where
   pub opens : after.opens ≡ raised before.opens 1
+  pub asked : after.asked ≡ asked_more before.asked (name ∷ [])
   pub given : after.source.given ≡ 0
   pub largest : after.source.largest ≡ before.source.largest
 

@@ -1,30 +1,38 @@
 -- What a shelf of files has, and what it counts.
-use Rattle.std.specs.Prelude.{◌≡◌, ℕ, List, Option, Some}
+use Rattle.std.specs.Prelude.{◌≡◌, ℕ, List, ◌++◌, Option, Some, None}
+use Rattle.std.specs.Option.{option_map}
 use Rattle.std.proofs.Common.{ap}
 use Rattle.std.specs.FinMap.{from_entries}
 use Rattle.bench_io.specs.Stream.{SourceState}
 use Rattle.shelf_defs.specs.Files.{Files}
 
 -- A shelf: what is left of the open file, with the counts of a source; how often a file was asked for by its name, and
--- how often the name was not among the files; and the files, where the shelf tells them.
+-- how often the name was not among the files; the names that it was asked for in their order, where it keeps them; and
+-- the files, where it shows them.
 pub record ShelfState : Type 0 where
   pub source : SourceState
   pub opens : ℕ
   pub misses : ℕ
+  pub asked : Option (List (List ℕ))
   pub files : Option Files
 
--- the files stand as before, and so do the counts of files that were asked for and of misses
+-- names that were asked for after others
+abbrev pub asked_more : Option (List (List ℕ)) → List (List ℕ) → Option (List (List ℕ))
+asked_more others names = option_map (λ before. before ++ names) others
+
+-- the files stand as before, and so do the names and counts of files that were asked for and of misses
 pub record SameFiles (before after : ShelfState) : Type 0 where
   pub files : after.files ≡ before.files
   pub opens : after.opens ≡ before.opens
   pub misses : after.misses ≡ before.misses
+  pub asked : after.asked ≡ before.asked
 
 -- what stands of a shelf while its open file is read
 abbrev pub Standing : Type 0
-Standing = ℕ × ℕ × Option Files
+Standing = ℕ × ℕ × Option Files × Option (List (List ℕ))
 
 abbrev pub standing : ShelfState → Standing
-standing shelf = (shelf.opens, shelf.misses, shelf.files)
+standing shelf = (shelf.opens, shelf.misses, shelf.files, shelf.asked)
 
 abbrev pub same_files : (before after : ShelfState) → standing after ≡ standing before → SameFiles before after
 same_files before after same =
@@ -32,6 +40,7 @@ same_files before after same =
       files = ap (λ (stands : Standing). stands.2) same;
       opens = ap (λ (stands : Standing). stands.0) same;
       misses = ap (λ (stands : Standing). stands.1) same;
+      asked = ap (λ (stands : Standing). stands.3) same;
     }
 
 -- A shelf in memory: its files by name, where the first of equal names counts; what is left of the open one; the
@@ -73,5 +82,6 @@ told shelf =
           };
       opens = shelf.opens;
       misses = shelf.misses;
+      asked = None;
       files = Some (by_name shelf.files);
     }

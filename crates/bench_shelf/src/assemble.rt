@@ -1,18 +1,11 @@
 //! A source with the files that it copies as a module.
 
-ghost use Rattle.std.specs.Prelude.{◌≡◌, ◌≤◌, ◌+◌, ◌*◌, Ok, IfSome, IfOk, IfErr, OnOk, length};
-ghost use Rattle.std.specs.FinMap.{empty};
-ghost use Rattle.count_defs.specs.Counts.{raised};
-ghost use Rattle.source_defs.specs.EndedLines.{text_of};
-ghost use Rattle.asm_defs.specs.Modules.{module_of_source};
-ghost use Rattle.object_tags.specs.Seen.{defined_module};
-ghost use Rattle.source_defs.specs.Layout.{line_texts};
-ghost use Rattle.shelf_defs.specs.Alone.{CopiesNone};
-ghost use Rattle.shelf_defs.specs.Copied.{copied, most_bytes, most_copies};
-ghost use Rattle.shelf_defs.specs.Assembly.{texts, module_of_files};
+ghost use Rattle.std.specs.Prelude.{◌≤◌, IfSome, IfErr, OnOk, length};
+ghost use Rattle.shelf_defs.specs.Copied.{most_bytes};
+ghost use Rattle.shelf_defs.specs.Assembly.{module_of_files};
 ghost use Rattle.bench_shelf.specs.CopyAnswers.{GivesCopied};
 ghost use Rattle.bench_shelf.specs.Causes.{Later, ShelfCauses, TookNoMore};
-ghost use Rattle.bench_shelf.specs.KeptLines.{IsOfLines};
+ghost use Rattle.bench_shelf.specs.Answered.{Answered};
 
 use crate::copy_error::CopyError;
 use crate::copying::Copying;
@@ -23,43 +16,31 @@ use std::alloc::Global;
 /// How deep files are copied.
 const DEEPEST: u32 = 4;
 
-/// Assembles a source of at most 1,048,576 bytes with the files of a shelf that it copies. Where the shelf tells its
-/// files, the module is that of the copied lines, each with a carriage return and a line feed behind it. Lines behind
-/// the first END line of any file are not read. In all no more bytes are taken than one more than the 262,144 that a
-/// file may have, for each of the 64 lines that may copy one. A file is asked for as often as it is copied, and no
-/// other is.
+/// Assembles a source of at most 1,048,576 bytes with the files of a shelf that it copies. By the answers of the
+/// shelf, the module is that of the copied lines as one text, each line ended by a carriage return and a line feed.
+/// Lines after the first END line of any file are not read. The shelf is asked for a file where the source copies one
+/// by the answers before, in the order of the lines, and for no other, also where the source is refused. Of each file
+/// that is given all bytes are taken, and of one that is too large one byte more than the 262,144 that it may have.
 ///
 /// # Errors
 /// `At` carries the first line that is refused, in the order in which the lines are copied: because it cannot be
-/// copied or by the first checks; else the first that the second checks refuse. Where the shelf tells its files it
-/// comes exactly where there is one. `Missing` comes only where the shelf's count of misses rose. `TooLarge` comes
-/// exactly where more than 262,144 bytes of one file were taken, which is the last that was opened, and where the
-/// shelf tells its files exactly where a file that is copied has more. `Fault` comes only where the shelf's count of
-/// faults rose, and `Memory` is want of memory. What the shelf gave before an error stays taken.
+/// copied or by the first checks; else the first that the second checks refuse. `Missing` comes only where the shelf's
+/// count of misses rose. `TooLarge` comes exactly where more than 262,144 bytes of one file were taken, the last that
+/// was asked for. `Fault` comes only where the shelf's count of faults rose, at the file that was asked for last, and
+/// `Memory` is out of memory. What the shelf gave before an error stays taken.
 pub fn copy_assemble<F: Shelf>(
     alloc: Global,
     shelf: &mut F,
     text: &[u8],
 ) -> Result<Module, CopyError>
     requires { length text.now ≤ 1048576 }
-    ensures answer { IfSome (F.shelf shelf.old).files (λ files. GivesCopied result (module_of_files files text.now)) }
-    // A source that copies no file leaves the shelf as it was, and needs none.
-    ensures alone { CopiesNone (line_texts text.now) → (F.shelf shelf.new ≡ F.shelf shelf.old)
-        × GivesCopied result (module_of_files empty text.now) }
-    ensures text { IfSome (F.shelf shelf.old).files (λ files. IfOk result (λ found.
-        module_of_source (text_of (texts (copied files text.now).lines)) ≡ Ok (defined_module found))) }
-    // Also where the shelf tells no files.
-    ensures lines { IfOk result (λ found. IsOfLines (defined_module found)) }
+    ensures answered { Answered (F.shelf shelf.old) (F.shelf shelf.new) text.now result }
+    // Where the shelf shows its files, that is the module of the source with these.
+    ensures shown { IfSome (F.shelf shelf.old).files (λ files. GivesCopied result (module_of_files files text.now)) }
     ensures causes { IfErr result (λ error. ShelfCauses error (F.shelf shelf.old) (F.shelf shelf.new)) }
-    // Behind Ok too no more bytes of one file were taken than it may have.
+    // With `Ok` too no more bytes of one file were taken than it may have.
     ensures within { OnOk result (TookNoMore most_bytes (F.shelf shelf.old) (F.shelf shelf.new)) }
     ensures later { Later (F.shelf shelf.old) (F.shelf shelf.new) }
-    // Each file that is copied is asked for once, and no other.
-    ensures opens { (F.shelf shelf.new).opens ≤ raised (F.shelf shelf.old).opens most_copies }
-    ensures opened { IfSome (F.shelf shelf.old).files (λ files. OnOk result
-        ((F.shelf shelf.new).opens ≡ raised (F.shelf shelf.old).opens (copied files text.now).copies)) }
-    ensures taken { (F.shelf shelf.new).source.taken
-        ≤ raised (F.shelf shelf.old).source.taken ((most_bytes + 1) * most_copies) }
 {
     let mut copying = Copying::new(alloc);
     if let Err(error) = copying.copy_lines(shelf, DEEPEST, &None, text) {

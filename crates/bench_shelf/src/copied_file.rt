@@ -1,9 +1,10 @@
 //! A file that a COPY line names.
 
-ghost use Rattle.std.specs.Prelude.{◌≡◌, ◌≤◌, ◌+◌, Ok, IfSome, IfOk, IfErr, OnOk, length};
-ghost use Rattle.count_defs.specs.Counts.{raised};
+ghost use Rattle.std.specs.Prelude.{◌≤◌, IfOk, IfErr, OnOk, length};
 ghost use Rattle.shelf_defs.specs.Copied.{most_bytes};
-ghost use Rattle.bench_shelf.specs.Causes.{Later, ShelfCauses, Reads, NotRead, TookNoMore};
+ghost use Rattle.shelf_defs.specs.Questions.{Bytes};
+ghost use Rattle.bench_shelf.specs.Causes.{AsksOne, Later, ShelfCauses, IsOfFile, TookNoMore};
+ghost use Rattle.bench_shelf.specs.Causes.{answer_by_copy};
 
 use crate::copy_error::{CopyCause, CopyError};
 use crate::error::FileError;
@@ -23,14 +24,12 @@ pub(crate) fn read_copied<F: Shelf>(
     place: Place,
     name: &FileName,
 ) -> Result<Vec<u8>, CopyError>
-    ensures ok { IfOk result (λ bytes.
-        IfSome (F.shelf shelf.old).files (λ files. Reads files place name.now (Ok bytes.items))) }
+    ensures given { IfOk result (λ bytes.
+        AsksOne most_bytes name.now (Bytes bytes.items) (F.shelf shelf.old) (F.shelf shelf.new)) }
+    ensures refused { IfErr result (λ error.
+        AsksOne most_bytes name.now (answer_by_copy error) (F.shelf shelf.old) (F.shelf shelf.new)) }
     ensures size { IfOk result (λ bytes. length bytes.items ≤ most_bytes) }
-    // It is asked for once, and no other; no more than one byte past its limit is taken.
-    ensures opens { (F.shelf shelf.new).opens ≡ raised (F.shelf shelf.old).opens 1 }
-    ensures taken { (F.shelf shelf.new).source.taken ≤ raised (F.shelf shelf.old).source.taken (most_bytes + 1) }
-    ensures err { IfErr result (λ error.
-        IfSome (F.shelf shelf.old).files (λ files. NotRead files place name.now error)) }
+    ensures place { IfErr result (λ error. IsOfFile place name.now error) }
     ensures causes { IfErr result (λ error. ShelfCauses error (F.shelf shelf.old) (F.shelf shelf.new)) }
     ensures within { OnOk result (TookNoMore most_bytes (F.shelf shelf.old) (F.shelf shelf.new)) }
     ensures later { Later (F.shelf shelf.old) (F.shelf shelf.new) }

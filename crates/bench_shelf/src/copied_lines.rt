@@ -1,17 +1,13 @@
 //! Lines with the lines of the files that they copy.
 
-ghost use Rattle.std.specs.Prelude.{◌≡◌, OnOk, IfSome, IfErr, length};
-ghost use Rattle.std.specs.FinMap.{empty};
+ghost use Rattle.std.specs.Prelude.{◌≤◌, OnOk, IfErr, length};
 ghost use Rattle.source_defs.specs.Layout.{line_texts};
-ghost use Rattle.shelf_defs.specs.Alone.{CopiesNone, IsNoFile};
-ghost use Rattle.shelf_defs.specs.CopyLines.{asked};
 ghost use Rattle.shelf_defs.specs.Copied as spec;
-ghost use Rattle.shelf_defs.specs.Copied.{most_bytes};
+ghost use Rattle.shelf_defs.specs.Copied.{most_bytes, most_copies};
 ghost use Rattle.asm_core.specs.Building.{IsOpen};
 ghost use Rattle.bench_shelf.specs.CopyAnswers.{defined_place};
-ghost use Rattle.bench_shelf.specs.Leading.{Leads, LeadsAlone, HasRoom, Grows, trouble};
-ghost use Rattle.bench_shelf.specs.Causes.{Later, ShelfCauses, ReadsOnce, TookNoMore};
-ghost use Rattle.bench_shelf.specs.KeptLines.{KeepsLines};
+ghost use Rattle.bench_shelf.specs.Leading.{Copies, HasRoom, Grows, trouble};
+ghost use Rattle.bench_shelf.specs.Causes.{Later, ShelfCauses, TookNoMore};
 
 use crate::copied_file::read_copied;
 use crate::copy_error::{CopyCause, CopyError};
@@ -27,7 +23,7 @@ const MOST_COPIES: u32 = 64;
 
 impl Copying {
     /// Takes the lines of a file, or of the source itself, with those of the files that they copy, which may be copied
-    /// `levels` deep. It ends behind a line that ends the source.
+    /// `levels` deep. It ends after a line that ends the source.
     ///
     /// # Errors
     /// The first line that is refused, or why a file was not read.
@@ -42,18 +38,14 @@ impl Copying {
     ) -> Result<(), CopyError>
         requires going { IsOpen self.old.builder }
         requires room { HasRoom (length text.now) self.old }
-        ensures leads { IfSome (F.shelf shelf.old).files (λ files. Leads self.old
-            (spec.lines_in (spec.copy_line files levels) file.now self.old.copies (line_texts text.now))
-            (trouble result) self.new) }
-        ensures alone { CopiesNone (line_texts text.now) → LeadsAlone self.old
-            (spec.lines_in (spec.copy_line empty levels) file.now self.old.copies (line_texts text.now))
-            (trouble result) self.new (F.shelf shelf.old) (F.shelf shelf.new) }
+        ensures copies { Copies self.old self.new
+            (λ contents. spec.lines_in (spec.copy_line contents levels) file.now self.old.copies (line_texts text.now))
+            (trouble result) (F.shelf shelf.old) (F.shelf shelf.new) }
         ensures causes { IfErr result (λ error. ShelfCauses error (F.shelf shelf.old) (F.shelf shelf.new)) }
         ensures within { OnOk result (TookNoMore most_bytes (F.shelf shelf.old) (F.shelf shelf.new)) }
         ensures later { Later (F.shelf shelf.old) (F.shelf shelf.new) }
         ensures grows { OnOk result (Grows (length text.now) self.old self.new) }
-        ensures once { ReadsOnce self.old self.new (F.shelf shelf.old) (F.shelf shelf.new) }
-        ensures kept { KeepsLines self.old self.new }
+        ensures most { self.new.copies ≤ most_copies }
     {
         for line in lines(text) {
             let own = part(text, line.span);
@@ -86,18 +78,14 @@ impl Copying {
     ) -> Result<(), CopyError>
         requires going { IsOpen self.old.builder }
         requires room { HasRoom 1 self.old }
-        ensures leads { IfSome (F.shelf shelf.old).files (λ files. Leads self.old
-            (spec.one_line (spec.copy_line files levels) (defined_place place) self.old.copies text.now)
-            (trouble result) self.new) }
-        ensures alone { IsNoFile (asked text.now) → LeadsAlone self.old
-            (spec.one_line (spec.copy_line empty levels) (defined_place place) self.old.copies text.now)
-            (trouble result) self.new (F.shelf shelf.old) (F.shelf shelf.new) }
+        ensures copies { Copies self.old self.new
+            (λ contents. spec.one_line (spec.copy_line contents levels) (defined_place place) self.old.copies text.now)
+            (trouble result) (F.shelf shelf.old) (F.shelf shelf.new) }
         ensures causes { IfErr result (λ error. ShelfCauses error (F.shelf shelf.old) (F.shelf shelf.new)) }
         ensures within { OnOk result (TookNoMore most_bytes (F.shelf shelf.old) (F.shelf shelf.new)) }
         ensures later { Later (F.shelf shelf.old) (F.shelf shelf.new) }
         ensures grows { OnOk result (Grows 1 self.old self.new) }
-        ensures once { ReadsOnce self.old self.new (F.shelf shelf.old) (F.shelf shelf.new) }
-        ensures kept { KeepsLines self.old self.new }
+        ensures most { self.new.copies ≤ most_copies }
     {
         match asked_by(text) {
             Asked::Itself => match self.take(&place.file, place.line, text) {
@@ -120,14 +108,14 @@ impl Copying {
     ) -> Result<(), CopyError>
         requires going { IsOpen self.old.builder }
         requires room { HasRoom 1 self.old }
-        ensures leads { IfSome (F.shelf shelf.old).files (λ files. Leads self.old
-            (spec.copy_line files levels (defined_place place) self.old.copies name) (trouble result) self.new) }
+        ensures copies { Copies self.old self.new
+            (λ contents. spec.copy_line contents levels (defined_place place) self.old.copies name)
+            (trouble result) (F.shelf shelf.old) (F.shelf shelf.new) }
         ensures causes { IfErr result (λ error. ShelfCauses error (F.shelf shelf.old) (F.shelf shelf.new)) }
         ensures within { OnOk result (TookNoMore most_bytes (F.shelf shelf.old) (F.shelf shelf.new)) }
         ensures later { Later (F.shelf shelf.old) (F.shelf shelf.new) }
         ensures grows { OnOk result (Grows 1 self.old self.new) }
-        ensures once { ReadsOnce self.old self.new (F.shelf shelf.old) (F.shelf shelf.new) }
-        ensures kept { KeepsLines self.old self.new }
+        ensures most { self.new.copies ≤ most_copies }
     {
         if levels == 0 {
             return Err(place.refused(CopyCause::TooDeep));

@@ -1,9 +1,8 @@
 //! A file by its name.
 
-ghost use Rattle.std.specs.Prelude.{◌≡◌, ◌<◌, ◌≤◌, ◌+◌, Some, IfSome, IfOk, IfErr, OnOk, length};
-ghost use Rattle.std.specs.FinMap.{get};
-ghost use Rattle.count_defs.specs.Counts.{raised};
-ghost use Rattle.bench_shelf.specs.Causes.{Later, FileCauses, IsUnread, TookNoMore};
+ghost use Rattle.std.specs.Prelude.{◌<◌, ◌≤◌, IfOk, IfErr, OnOk, length};
+ghost use Rattle.shelf_defs.specs.Questions.{Bytes};
+ghost use Rattle.bench_shelf.specs.Causes.{AsksOne, Later, FileCauses, TookNoMore, answer_by};
 
 use crate::error::{FileError, OpenError};
 use crate::file_name::FileName;
@@ -17,7 +16,6 @@ use std::alloc::Global;
 /// # Errors
 /// `Missing` comes only where the shelf's count of misses rose, and `Fault` only where that of faults rose. `TooLarge`
 /// comes exactly where more than `limit` bytes were taken of the file, and `Memory` is want of memory.
-#[tactic(auto, using(crate::proofs::Reading::file_is, crate::proofs::Reading::file_is_large))]
 pub fn read_named<F: Shelf>(
     alloc: Global,
     shelf: &mut F,
@@ -25,15 +23,13 @@ pub fn read_named<F: Shelf>(
     limit: usize,
 ) -> Result<Vec<u8>, FileError>
     requires { limit < usize.MAX }
-    ensures ok { IfOk result (λ bytes.
-        IfSome (F.shelf shelf.old).files (λ files. get files name.now ≡ Some bytes.items)) }
+    ensures given { IfOk result (λ bytes.
+        AsksOne limit name.now (Bytes bytes.items) (F.shelf shelf.old) (F.shelf shelf.new)) }
+    ensures refused { IfErr result (λ error.
+        AsksOne limit name.now (answer_by error) (F.shelf shelf.old) (F.shelf shelf.new)) }
     ensures size { IfOk result (λ bytes. length bytes.items ≤ limit) }
-    ensures err { IfErr result (λ error.
-        IfSome (F.shelf shelf.old).files (λ files. IsUnread files name.now limit error)) }
     ensures causes { IfErr result (λ error. FileCauses limit error (F.shelf shelf.old) (F.shelf shelf.new)) }
     ensures within { OnOk result (TookNoMore limit (F.shelf shelf.old) (F.shelf shelf.new)) }
-    ensures taken { (F.shelf shelf.new).source.taken ≤ raised (F.shelf shelf.old).source.taken (limit + 1) }
-    ensures opens { (F.shelf shelf.new).opens ≡ raised (F.shelf shelf.old).opens 1 }
     ensures later { Later (F.shelf shelf.old) (F.shelf shelf.new) }
 {
     match shelf.open_file(name) {

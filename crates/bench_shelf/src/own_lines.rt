@@ -1,15 +1,13 @@
 //! Lines that stand for themselves.
 
-ghost use Rattle.std.specs.Prelude.{◌≡◌, List, [], OnOk, IfOk, IfErr, length};
+ghost use Rattle.std.specs.Prelude.{◌≡◌, List, [], OnOk, IfErr, length};
 ghost use Rattle.shelf_defs.specs.Copied.{PlacedLine, own_line};
 ghost use Rattle.shelf_defs.specs.Assembly.{texts, in_place};
 ghost use Rattle.asm_defs.specs.Modules.{module_of_lines};
 ghost use Rattle.asm_core.specs.Building.{IsOpen};
-ghost use Rattle.object_tags.specs.Seen.{defined_module};
 ghost use Rattle.bench_shelf.specs.CopyAnswers.{defined_place, failed_at, place_in, GivesCopied};
-ghost use Rattle.bench_shelf.specs.Leading.{Holds, Leads, HasRoom, Grows, count, trouble_at};
+ghost use Rattle.bench_shelf.specs.Leading.{Holds, IsHeld, Leads, HasRoom, Grows, count, trouble_at};
 ghost use Rattle.bench_shelf.specs.Causes.{IsOfLine};
-ghost use Rattle.bench_shelf.specs.KeptLines.{HasLines, KeepsLines, IsOfLines};
 
 use crate::copy_error::{CopyCause, CopyError};
 use crate::copying::Copying;
@@ -27,7 +25,6 @@ impl Copying {
         ensures going { IsOpen result.builder }
         ensures copies { result.copies ≡ 0 }
         ensures count { count result ≡ 0 }
-        ensures lines { HasLines result }
     {
         Copying {
             alloc,
@@ -52,7 +49,6 @@ impl Copying {
         ensures grows { OnOk result (Grows 1 self.old self.new) }
         ensures copies { self.new.copies ≡ self.old.copies }
         ensures causes { IfErr result (λ failure. IsOfLine (failed_at (place_in file.now line) failure)) }
-        ensures kept { KeepsLines self.old self.new }
     {
         match self.builder.line(text) {
             Ok(()) => {}
@@ -69,8 +65,7 @@ impl Copying {
     pub(crate) fn finish(self) -> Result<Module, CopyError>
         ensures module { (done : List PlacedLine) → Holds done self →
             GivesCopied result (in_place done (module_of_lines (texts done))) }
-        ensures causes { HasLines self → IfErr result IsOfLine }
-        ensures lines { HasLines self → IfOk result (λ found. IsOfLines (defined_module found)) }
+        ensures causes { IsHeld self → IfErr result IsOfLine }
     {
         let Copying { builder, runs, .. } = self;
         match builder.finish() {

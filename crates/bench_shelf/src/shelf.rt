@@ -12,8 +12,9 @@ use bench_io::Source;
 /// Files by name, of which one at a time is open. The open file is a source: where none is open, it is at its end.
 pub trait Shelf: Source {
     /// The open file as a source, with all that is counted of the files that were open; the counts of calls of
-    /// `open_file` and of names that were missing; and the files, where the shelf tells them. No count falls but that
-    /// of the bytes of the file opened last, which starts anew where one is opened, and no call changes the files.
+    /// `open_file` and of names that were missing; the names that it was asked for, where it keeps them; and the
+    /// files, where it shows them. No count falls but that of the bytes of the file opened last, which starts
+    /// anew where one is opened, and no call changes the files.
     ghost shelf: { Self → ShelfState };
 
     /// Opens a file in place of the one that was open. Its bytes are then left for `take`. The call is counted,
@@ -29,7 +30,7 @@ pub trait Shelf: Source {
 
         ensures counts { SameCounts (shelf self.old).source (shelf self.new).source }
         // Also where the call is refused.
-        ensures anew { StartsAnew (shelf self.old) (shelf self.new) }
+        ensures anew { StartsAnew (shelf self.old) (shelf self.new) name.now }
         ensures faults { (shelf self.old).source.faults ≤ (shelf self.new).source.faults }
         ensures misses { (shelf self.old).misses ≤ (shelf self.new).misses }
         ensures files { (shelf self.new).files ≡ (shelf self.old).files };
@@ -37,7 +38,7 @@ pub trait Shelf: Source {
     /// The open file is the shelf as a source.
     ghost source_is: { (it : Self) → Self.state it ≡ (shelf it).source };
 
-    /// Reading it changes neither the files nor the counts of files that were asked for and of misses.
+    /// Reading it changes neither the files nor the names and counts of files that were asked for and of misses.
     ghost keeps: { (before after : Self) → Self.kept after ≡ Self.kept before
         → SameFiles (shelf before) (shelf after) };
 }

@@ -2,4 +2,5 @@ pub mod NameLaws
 pub mod ReadingLaws
 pub mod AsmLaws
 pub mod LinkLaws
-pub mod FileLists
+pub mod ModuleLists
+pub mod AskedLaws

@@ -1,13 +1,17 @@
 -- What is read of files.
-use Rattle.std.specs.Prelude.{◌≡◌, ⊤, ℕ, ◌+◌, ◌≤◌, List, ◌∷◌, ◌++◌, length, map, Result, Ok, Err, IfSome, IsOk}
-use Rattle.count_defs.specs.Counts.{raised, Rose}
+use Rattle.std.specs.Prelude.{◌≡◌, ⊤, ℕ, List, length, map, Result, Ok, Err}
+use Rattle.count_defs.specs.Counts.{Rose}
+use Rattle.shelf_defs.specs.Files.{Contents}
+use Rattle.shelf_defs.specs.Questions.{Answer, NoFile, OverLimit, Unanswered, Question, Agrees, EndsWith, IsNextOf}
+use Rattle.shelf_defs.specs.Questions.{names_of}
 use Rattle.bench_shelf.specs.States.{ShelfState}
 use Rattle.bench_shelf.specs.Causes.{TookMore, TookNoMore}
+use Rattle.bench_shelf.specs.Dialogue.{Dialogue}
 use Rattle.report_defs.specs.declared.status.Status.{Status}
 use Rattle.report_defs.specs.declared.status.Status.TheVariants as status
 use Rattle.report_defs.specs.Report.{largest_input}
 use Rattle.file_report_defs.specs.LinkedFiles as spec
-use Rattle.file_report_defs.specs.LinkedFiles.{FilesRefusal}
+use Rattle.file_report_defs.specs.LinkedFiles.{FilesRefusal, read_by}
 use Rattle.file_commands.specs.declared.file_text.FileText.{FileText}
 use Rattle.file_commands.specs.declared.error.ReadingError.{ReadingError}
 use Rattle.file_commands.specs.declared.error.ReadingError.TheVariants.{Missing, TooLarge, Fault, Memory}
@@ -30,7 +34,7 @@ abbrev pub Gives : {A B : Type 0} → (A → B) → Result A ReadingError → Re
 Gives see (Ok value) defined = defined ≡ Ok (see value)
 Gives see (Err error) defined = Refuses error defined
 
--- what an error tells of the shelf
+-- what an error says of the shelf
 abbrev pub ErrorCauses : ReadingError → ShelfState → ShelfState → Type 0
 ErrorCauses (Missing name) before after =
     Rose before.misses after.misses × TookNoMore largest_input before after
@@ -39,26 +43,44 @@ ErrorCauses Fault before after =
     Rose before.source.faults after.source.faults × TookNoMore largest_input before after
 ErrorCauses Memory before after = TookNoMore largest_input before after
 
+-- the answer to a question for a file that was not read
+abbrev pub answer_by : ReadingError → Answer
+answer_by (Missing name) = NoFile
+answer_by TooLarge = OverLimit
+answer_by Fault = Unanswered
+answer_by Memory = Unanswered
+
 -- a name that is missing is the one that was asked for
 abbrev pub IsOfName : List ℕ → ReadingError → Type 0
 IsOfName name (Missing other) = other ≡ name
 IsOfName name error = ⊤
 
--- Files are asked for one by one, each once, up to this name and no further. Those before it are read, where the shelf
--- tells its files.
-pub record StopsAt (names : List (List ℕ)) (name : List ℕ) (before after : ShelfState) : Type 0 where
-  pub front : List (List ℕ)
-  pub rest : List (List ℕ)
-  pub are : names ≡ front ++ name ∷ rest
-  pub opens : after.opens ≡ raised before.opens (length front + 1)
-  pub read : IfSome before.files (λ files. IsOk (spec.read_files files front))
+-- a shelf was asked for files by their names, in the order of the names
+abbrev pub LinkDialogue : ShelfState → ShelfState → List (List ℕ) → List Question → Type 0
+LinkDialogue before after names questions =
+    Dialogue largest_input (length names) (IsNextOf names) before after questions
 
--- where the reading of files ends, by its error
-abbrev pub StopsBy : List (List ℕ) → ReadingError → ShelfState → ShelfState → Type 0
-StopsBy names (Missing name) before after = StopsAt names name before after
-StopsBy names TooLarge before after = (name : List ℕ) × StopsAt names name before after
-StopsBy names Fault before after = (name : List ℕ) × StopsAt names name before after
-StopsBy names Memory before after = after.opens ≤ raised before.opens (length names)
+-- the last that was asked for is a missing name
+abbrev pub EndsMissing : List ℕ → List Question → Type 0
+EndsMissing name questions = (ends : EndsWith NoFile questions) × (ends.last.name ≡ name)
+
+-- where the reading ends: after all names, or at the file that was asked for last
+abbrev pub EndsReading : {A : Type 0} → List (List ℕ) → Result A ReadingError → List Question → Type 0
+EndsReading names (Ok texts) questions = names_of questions ≡ names
+EndsReading names (Err (Missing name)) questions = EndsMissing name questions
+EndsReading names (Err TooLarge) questions = EndsWith OverLimit questions
+EndsReading names (Err Fault) questions = EndsWith Unanswered questions
+EndsReading names (Err Memory) questions = ⊤
+
+-- Files were read by their names. There are questions and answers such that the result is that of the definitions by
+-- these answers.
+pub record Reads {A : Type 0} (see : A → List (List ℕ × List ℕ)) (names : List (List ℕ))
+    (result : Result A ReadingError) (before after : ShelfState) : Type 0 where
+  pub questions : List Question
+  pub dialogue : LinkDialogue before after names questions
+  pub ends : EndsReading names result questions
+  pub gives : (contents : Contents) → Agrees largest_input contents 0 questions
+      → Gives see result (read_by contents 0 names)
 
 -- the refusal of the definitions; a shelf that failed and want of memory have none
 abbrev pub refusal_of : ReadingError → Result FilesRefusal Status

@@ -1,42 +1,47 @@
--- What is reported of files, and what that tells of their shelf.
+-- What is reported of files, and what was asked of their shelf.
 --
--- A shelf may keep its files to itself. Then a report is still that of some lines, or of some texts under the names
--- that were given, and each refusal has its cause: a file is told as too large exactly where more bytes of one were
--- taken than it may have.
-use Rattle.std.specs.Prelude.{◌≡◌, ℕ, List, map, length, IfSome, OnOk, Result, Ok, Err}
-use Rattle.std.specs.FinMap.{empty}
-use Rattle.count_defs.specs.Counts.{raised, Rose}
+-- A report is that of the definitions by the answers of the shelf. Each refusal has its cause: a file is too large
+-- exactly where more bytes of one were taken than it may have.
+use Rattle.std.specs.Prelude.{◌≡◌, List, ℕ, length, OnOk, Result, Ok, Err}
+use Rattle.count_defs.specs.Counts.{Rose}
 use Rattle.source_defs.specs.Refusals.{◌>>=◌}
-use Rattle.source_defs.specs.Layout.{line_texts}
 use Rattle.object_defs.specs.Modules.{Module}
-use Rattle.shelf_defs.specs.Alone.{CopiesNone}
+use Rattle.shelf_defs.specs.Files.{Contents}
 use Rattle.shelf_defs.specs.Copied as copied
-use Rattle.shelf_defs.specs.Copied.{CopyRefusal, most_bytes}
-use Rattle.shelf_defs.specs.Assembly.{module_of_files}
+use Rattle.shelf_defs.specs.Copied.{CopyRefusal, most_bytes, copied_by}
+use Rattle.shelf_defs.specs.Assembly.{module_by}
+use Rattle.shelf_defs.specs.Questions.{OverLimit, Unanswered, Question, Agrees, EndsWith, names_of}
 use Rattle.bench_shelf.specs.States.{ShelfState}
 use Rattle.bench_shelf.specs.CopyAnswers.{IsOwnCause}
 use Rattle.bench_shelf.specs.Causes.{TookMore, TookNoMore}
-use Rattle.bench_shelf.specs.KeptLines.{IsOfLines}
+use Rattle.bench_shelf.specs.Dialogue.{CopyDialogue}
 use Rattle.report_defs.specs.declared.status.Status.{Status}
 use Rattle.report_defs.specs.declared.status.Status.TheVariants as status
 use Rattle.report_defs.specs.Report.{Report, largest_input}
 use Rattle.file_report_defs.specs.LinkedFiles.{FilesRefusal, Missing, TooLarge, InFile, Unlinked}
-use Rattle.file_report_defs.specs.LinkedFiles.{read_files, linked_texts}
+use Rattle.file_report_defs.specs.LinkedFiles.{read_by, linked_texts}
 use Rattle.file_report_defs.specs.Reports.{copy_report, files_report}
-use Rattle.file_commands.specs.Reading.{StopsAt}
+use Rattle.file_commands.specs.Reading.{LinkDialogue, EndsMissing}
 
--- Why nothing is reported of a source: the shelf failed, which it has counted. Want of memory tells nothing. Of no file
--- more bytes were taken than it may have.
-abbrev pub CopyFails : ShelfState → ShelfState → Status → Type 0
-CopyFails before after status.ReadFault =
-    Rose before.source.faults after.source.faults × TookNoMore most_bytes before after
-CopyFails before after status.Memory = TookNoMore most_bytes before after
-CopyFails before after other = ⊥
+-- the shelf failed at the file that was asked for last, and has counted it
+pub record Failed (limit : ℕ) (before after : ShelfState) (questions : List Question) : Type 0 where
+  pub ends : EndsWith Unanswered questions
+  pub rose : Rose before.source.faults after.source.faults
+  pub within : TookNoMore limit before after
+
+-- Why nothing is reported of a source. Where memory ran out there is no cause. Of no file more bytes were taken than it
+-- may have.
+abbrev pub CopyFails : ShelfState → ShelfState → List ℕ → Status → Type 0
+CopyFails before after text status.ReadFault =
+    (questions : List Question) × CopyDialogue before after text questions × Failed most_bytes before after questions
+CopyFails before after text status.Memory =
+    (questions : List Question) × CopyDialogue before after text questions × TookNoMore most_bytes before after
+CopyFails before after text other = ⊥
 
 -- A name that is missing was counted, and a file is too large exactly where more bytes of one were taken than it may
--- have. No line is refused because memory was wanting.
+-- have. No line is refused because memory ran out.
 abbrev pub CopyCauses : Result Module CopyRefusal → ShelfState → ShelfState → Type 0
-CopyCauses (Ok found) before after = IsOfLines found × TookNoMore most_bytes before after
+CopyCauses (Ok found) before after = TookNoMore most_bytes before after
 CopyCauses (Err (copied.At place (copied.Missing name))) before after =
     Rose before.misses after.misses × TookNoMore most_bytes before after
 CopyCauses (Err (copied.At place (copied.Asm cause))) before after =
@@ -44,41 +49,45 @@ CopyCauses (Err (copied.At place (copied.Asm cause))) before after =
 CopyCauses (Err (copied.At place cause)) before after = TookNoMore most_bytes before after
 CopyCauses (Err copied.TooLarge) before after = TookMore most_bytes before after
 
--- The report of a source with the files that it copies. Of a source that copies none it is that of its module, whatever
--- the shelf tells, and the shelf is left as it was. Where the files are told, each that is copied was asked for once.
+-- The report of a source with the files that it copies, by the answers of the shelf, whatever else it would have
+-- answered. Each file that is copied was asked for once, and no other.
 pub record CopyReported (before after : ShelfState) (text : List ℕ) (report : Report) : Type 0 where
+  pub questions : List Question
+  pub dialogue : CopyDialogue before after text questions
   pub answer : Result Module CopyRefusal
-  pub told : IfSome before.files (λ files. answer ≡ module_of_files files text)
-  pub alone : CopiesNone (line_texts text) → (after ≡ before) × (answer ≡ module_of_files empty text)
-  pub opened : IfSome before.files (λ files.
-      OnOk answer (after.opens ≡ raised before.opens (copied.copied files text).copies))
+  pub gives : (contents : Contents) → Agrees most_bytes contents 0 questions → answer ≡ module_by contents text
+  pub opened : OnOk answer ((contents : Contents) → Agrees most_bytes contents 0 questions
+      → length questions ≡ (copied_by contents text).copies)
   pub causes : CopyCauses answer before after
   pub is : report ≡ copy_report answer
 
--- What reading files tells: all were read; or one is missing, or too large. No text has been looked at. Each was asked
--- for once, and none behind one that is missing or too large.
-abbrev pub ReadCauses : List (List ℕ) → Result (List (List ℕ × List ℕ)) FilesRefusal → ShelfState → ShelfState → Type 0
-ReadCauses names (Ok texts) before after =
-    (map (λ text. text.0) texts ≡ names) × TookNoMore largest_input before after
-    × (after.opens ≡ raised before.opens (length names))
-ReadCauses names (Err (Missing name)) before after =
-    Rose before.misses after.misses × TookNoMore largest_input before after × StopsAt names name before after
-ReadCauses names (Err TooLarge) before after =
-    TookMore largest_input before after × (name : List ℕ) × StopsAt names name before after
-ReadCauses names (Err (InFile name refused)) before after = ⊥
-ReadCauses names (Err (Unlinked cause)) before after = ⊥
+-- What reading files leads to: all were read; or the last that was asked for is missing, or too large. Their texts are
+-- not looked at before.
+abbrev pub ReadCauses : List (List ℕ) → Result (List (List ℕ × List ℕ)) FilesRefusal → List Question → ShelfState
+    → ShelfState → Type 0
+ReadCauses names (Ok texts) questions before after =
+    (names_of questions ≡ names) × TookNoMore largest_input before after
+ReadCauses names (Err (Missing name)) questions before after =
+    EndsMissing name questions × Rose before.misses after.misses × TookNoMore largest_input before after
+ReadCauses names (Err TooLarge) questions before after =
+    EndsWith OverLimit questions × TookMore largest_input before after
+ReadCauses names (Err (InFile name refused)) questions before after = ⊥
+ReadCauses names (Err (Unlinked cause)) questions before after = ⊥
 
--- the report of the linked memory of files
+-- The report of the linked memory of files, by the answers of the shelf, whatever else it would have answered.
 pub record LinkReported (before after : ShelfState) (names : List (List ℕ)) (report : Report) : Type 0 where
+  pub questions : List Question
+  pub dialogue : LinkDialogue before after names questions
   pub texts : Result (List (List ℕ × List ℕ)) FilesRefusal
-  pub told : IfSome before.files (λ files. texts ≡ read_files files names)
-  pub causes : ReadCauses names texts before after
+  pub gives : (contents : Contents) → Agrees largest_input contents 0 questions → texts ≡ read_by contents 0 names
+  pub causes : ReadCauses names texts questions before after
   pub is : report ≡ files_report (texts >>= linked_texts)
 
--- Why nothing is reported of files that are linked: likewise, and no file is asked for behind the one that failed.
+-- why nothing is reported of files that are linked: likewise
 abbrev pub LinkFails : List (List ℕ) → ShelfState → ShelfState → Status → Type 0
 LinkFails names before after status.ReadFault =
-    Rose before.source.faults after.source.faults × TookNoMore largest_input before after
-    × (name : List ℕ) × StopsAt names name before after
-LinkFails names before after status.Memory = TookNoMore largest_input before after
+    (questions : List Question) × LinkDialogue before after names questions
+    × Failed largest_input before after questions
+LinkFails names before after status.Memory =
+    (questions : List Question) × LinkDialogue before after names questions × TookNoMore largest_input before after
 LinkFails names before after other = ⊥

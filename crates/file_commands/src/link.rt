@@ -1,10 +1,8 @@
 //! `link` with files.
 
-ghost use Rattle.std.specs.Prelude.{◌≡◌, ◌≤◌, ◌+◌, ◌*◌, length, Err};
-ghost use Rattle.count_defs.specs.Counts.{raised};
+ghost use Rattle.std.specs.Prelude.{◌≡◌, ◌≤◌, length, Err};
 ghost use Rattle.source_defs.specs.Refusals.{seen};
 ghost use Rattle.bench_shelf.specs.Causes.{Later};
-ghost use Rattle.report_defs.specs.Report.{largest_input};
 ghost use Rattle.file_report_defs.specs.Words.{most_files};
 ghost use Rattle.file_report_defs.specs.LinkedFiles.{linked_texts};
 ghost use Rattle.file_report_defs.specs.Reports.{files_report};
@@ -25,15 +23,14 @@ use std::alloc::Global;
 
 /// What is to be reported of up to 16 files of object text: the linked memory of their modules, or why there is none.
 /// All files are read first, in their order, each of at most 1,048,576 bytes; then their texts are read in that order;
-/// then the modules of all are linked. It is the report of the defined linked memory where the shelf tells its files.
-/// Also where it tells none, a file is reported as too large exactly where more than 1,048,576 bytes of one were taken.
-/// In all no more bytes are taken than one more than these, for each of the files. Each file is asked for once, and none
-/// behind one that is missing or too large, or at which the shelf failed.
+/// then the modules of all are linked. It is the report of the linked memory of the files by the answers of the shelf.
+/// Each file is asked for once, and none after one that is missing or too large, or at which the shelf failed. A file
+/// is reported as too large exactly where more than 1,048,576 bytes of one were taken, and then one more was.
 ///
 /// # Errors
-/// `Refused` and `Fault` tell which file is missing or has a bad place, that one is too large, and why the modules
-/// are not linked. `ReadFault` comes only where the shelf's count of faults rose, and `Memory` is want of memory. Of
-/// no file more bytes were taken than it may have then.
+/// `Refused` and `Fault` say which file is missing or has a bad place, that one is too large, and why the modules
+/// are not linked. `ReadFault` comes only where the shelf's count of faults rose, at the file that was asked for last,
+/// and `Memory` is out of memory. Of no file more bytes were taken than it may have then.
 pub fn link_files<F: Shelf>(
     alloc: Global,
     shelf: &mut F,
@@ -42,9 +39,6 @@ pub fn link_files<F: Shelf>(
     requires { length names.now ≤ most_files }
     ensures report { Reported (LinkReported (F.shelf shelf.old) (F.shelf shelf.new) names.now)
         (LinkFails names.now (F.shelf shelf.old) (F.shelf shelf.new)) (answer result) }
-    ensures opens { (F.shelf shelf.new).opens ≤ raised (F.shelf shelf.old).opens (length names.now) }
-    ensures taken { (F.shelf shelf.new).source.taken
-        ≤ raised (F.shelf shelf.old).source.taken ((largest_input + 1) * length names.now) }
     ensures later { Later (F.shelf shelf.old) (F.shelf shelf.new) }
 {
     match read_files(alloc, shelf, names) {

@@ -15,7 +15,7 @@ use Rattle.asm_defs.specs.Statements.{statement_in}
 use Rattle.asm_defs.specs.Locations.{Line}
 use Rattle.asm_defs.specs.FirstChecks.{check}
 use Rattle.asm_defs.specs.Modules.{module_behind}
-use Rattle.shelf_defs.specs.Files.{Files}
+use Rattle.shelf_defs.specs.Files.{Files, of_files}
 use Rattle.shelf_defs.specs.CopyLines.{Itself, asked, ends_source}
 use Rattle.shelf_defs.specs.Copied.{Place, PlacedLine, Ended, Copied, lines_in, copy_line, deepest, copied}
 use Rattle.shelf_defs.specs.Assembly.{texts, places, place_of, in_place, module_of_copied, module_of_files}
@@ -128,9 +128,9 @@ module _ (half : ℕ) (bytes : List ℕ) (files : Files) (stands : StandEven (2 
       let below : 2 * half + 2 * length (words_in bytes) ≤ 65536 = omega (arith, fit, within) in
       ap (λ lines. copied files (concat lines)) (listing_is (2 * half) bytes (codes "END"))
       ∙ (ap (copied files) (text_of found_texts)
-      ∙ (ap (lines_in (copy_line files deepest) None 0) (lines_joined (map listed found_texts) (clean_lines found_texts (clean_all half bytes None all stands.below stands.within tt)))
-      ∙ subst (λ texts. lines_in (copy_line files deepest) None 0 (numbered 1 (map listed texts)) ≡ whole 1 0 (map listed texts)) (sym texts_are)
-      (copied_is (copy_line files deepest) found_front (codes "END") 1 0
+      ∙ (ap (lines_in (copy_line (of_files files) deepest) None 0) (lines_joined (map listed found_texts) (clean_lines found_texts (clean_all half bytes None all stands.below stands.within tt)))
+      ∙ subst (λ texts. lines_in (copy_line (of_files files) deepest) None 0 (numbered 1 (map listed texts)) ≡ whole 1 0 (map listed texts)) (sym texts_are)
+      (copied_is (copy_line (of_files files) deepest) found_front (codes "END") 1 0
       (own_front (2 * half) stands.below bytes all stands.even below (are_words bytes all)) (own_end None tt))))
 
   module_is : module_of_files files (concat (memory_listing (2 * half) bytes)) ≡ in_place (placed 1 (map listed found_texts)) (listed_module (2 * half) bytes None)

@@ -2,16 +2,15 @@
 --
 -- Profile: all files are read first, in their order; then their texts are read in that order; and then the modules of
 -- all are linked, in the order of the files.
-use Rattle.std.specs.Prelude.{ℕ, nat_lt, if◌then◌else◌, List, [], ◌∷◌, ◌++◌, length, Option, Some, None}
+use Rattle.std.specs.Prelude.{ℕ, ◌+◌, nat_lt, if◌then◌else◌, List, [], ◌∷◌, ◌++◌, length, Option, Some, None}
 use Rattle.std.specs.Prelude.{Result, Ok, Err}
-use Rattle.std.specs.FinMap.{get}
 use Rattle.source_defs.specs.Refusals.{Refusal, ◌>>=◌}
 use Rattle.object_defs.specs.declared.causes.TagCause.{TagCause}
 use Rattle.object_defs.specs.Modules.{Module}
 use Rattle.object_defs.specs.Reading.{read}
 use Rattle.link_defs.specs.Causes.{LinkCause}
 use Rattle.link_defs.specs.LinkedMemory.{LinkedMemory, linked}
-use Rattle.shelf_defs.specs.Files.{Files}
+use Rattle.shelf_defs.specs.Files.{Files, Contents, of_files}
 use Rattle.report_defs.specs.Report.{largest_input}
 
 -- why files are not linked: no file has a name, or one is too large, or its text is refused, or the modules are not
@@ -27,12 +26,16 @@ abbrev pub bytes_of : List ℕ → Option (List ℕ) → Result (List ℕ × Lis
 bytes_of name None = Err (Missing name)
 bytes_of name (Some bytes) = if nat_lt largest_input (length bytes) then Err TooLarge else Ok (name, bytes)
 
-abbrev pub read_files : Files → List (List ℕ) → Result (List (List ℕ × List ℕ)) FilesRefusal
-read_files files [] = Ok []
-read_files files (name ∷ names) = do
-  first ← bytes_of name (get files name)
-  others ← read_files files names
+-- the files of some names, by the number of files that were asked for before
+abbrev pub read_by : Contents → ℕ → List (List ℕ) → Result (List (List ℕ × List ℕ)) FilesRefusal
+read_by contents number [] = Ok []
+read_by contents number (name ∷ names) = do
+  first ← bytes_of name (contents number name)
+  others ← read_by contents (number + 1) names
   Ok (first ∷ others)
+
+abbrev pub read_files : Files → List (List ℕ) → Result (List (List ℕ × List ℕ)) FilesRefusal
+read_files files names = read_by (of_files files) 0 names
 
 -- an answer to a file's text
 abbrev pub in_file : {A : Type 0} → List ℕ → Result A (Refusal TagCause) → Result A FilesRefusal

@@ -11,9 +11,9 @@ use Rattle.asm_defs.specs.declared.causes.AsmCause.{AsmCause}
 use Rattle.asm_defs.specs.Locations.{Line}
 use Rattle.asm_defs.specs.FirstChecks.{check}
 use Rattle.asm_defs.specs.Modules.{module_behind}
-use Rattle.shelf_defs.specs.Files.{Files}
+use Rattle.shelf_defs.specs.Files.{Files, Contents, of_files}
 use Rattle.shelf_defs.specs.Copied.{Place, PlacedLine, Asm, CopyRefusal, At, Ending, Open, Ended, Refused}
-use Rattle.shelf_defs.specs.Copied.{Copied, copied}
+use Rattle.shelf_defs.specs.Copied.{Copied, copied_by}
 
 abbrev pub texts : List PlacedLine → List (List ℕ)
 texts lines = map (λ line. line.text) lines
@@ -48,5 +48,8 @@ module_of_copied found = do
   in_place found.lines (module_behind lines)
 
 -- the module of a source with the files that it copies, or why there is none
+abbrev pub module_by : Contents → List ℕ → Result Module CopyRefusal
+module_by contents source = module_of_copied (copied_by contents source)
+
 abbrev pub module_of_files : Files → List ℕ → Result Module CopyRefusal
-module_of_files files source = module_of_copied (copied files source)
+module_of_files files source = module_by (of_files files) source

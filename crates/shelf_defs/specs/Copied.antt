@@ -6,10 +6,9 @@
 -- stand before it, that no file has the name, and the size of the file.
 use Rattle.std.specs.Prelude.{ℕ, zero, suc, ◌+◌, nat_lt, nat_le, if◌then◌else◌, List, [], ◌∷◌, ◌++◌, length}
 use Rattle.std.specs.Prelude.{Option, Some, None}
-use Rattle.std.specs.FinMap.{get}
 use Rattle.source_defs.specs.Layout.{line_texts}
 use Rattle.asm_defs.specs.declared.causes.AsmCause.{AsmCause}
-use Rattle.shelf_defs.specs.Files.{Files}
+use Rattle.shelf_defs.specs.Files.{Files, Contents, of_files}
 use Rattle.shelf_defs.specs.CopyLines.{Asked, Itself, File, Bad, asked, ends_source}
 
 -- where a line stands: in a file, or in the source itself; and its number there, from 1
@@ -104,23 +103,27 @@ module _ (copy : Place → ℕ → List ℕ → Copied) where
   lines_in file copies (line ∷ lines) =
       followed (one_line (record { file = file; line = line.0 }) copies line.1) (λ copies. lines_in file copies lines)
 
--- what a COPY line comes to, where so many more levels of files may be copied
-module _ (files : Files) where
-  abbrev pub copied_bytes : (Place → ℕ → List ℕ → Copied) → ℕ → List ℕ → List ℕ → Copied
-  copied_bytes copy copies name bytes =
+  -- what the COPY line of a file comes to, by the file's bytes
+  abbrev pub copied_bytes : ℕ → List ℕ → List ℕ → Copied
+  copied_bytes copies name bytes =
       if nat_lt most_bytes (length bytes) then refused (copies + 1) TooLarge
-      else lines_in copy (Some name) (copies + 1) (line_texts bytes)
+      else lines_in (Some name) (copies + 1) (line_texts bytes)
 
-  abbrev pub copied_file : (Place → ℕ → List ℕ → Copied) → Place → ℕ → List ℕ → Option (List ℕ) → Copied
-  copied_file copy place copies name (Some bytes) = copied_bytes copy copies name bytes
-  copied_file copy place copies name None = refused (copies + 1) (At place (Missing name))
+  abbrev pub copied_file : Place → ℕ → List ℕ → Option (List ℕ) → Copied
+  copied_file place copies name (Some bytes) = copied_bytes copies name bytes
+  copied_file place copies name None = refused (copies + 1) (At place (Missing name))
 
+-- what a COPY line comes to, by the number of levels of files that may still be copied
+module _ (contents : Contents) where
   abbrev pub copy_line : ℕ → Place → ℕ → List ℕ → Copied
   copy_line zero place copies name = refused copies (At place TooDeep)
   copy_line (suc levels) place copies name =
       if nat_le most_copies copies then refused copies (At place TooMany)
-      else copied_file (copy_line levels) place copies name (get files name)
+      else copied_file (copy_line levels) place copies name (contents copies name)
 
 -- the lines of a source with those of the files that it copies
+abbrev pub copied_by : Contents → List ℕ → Copied
+copied_by contents source = lines_in (copy_line contents deepest) None 0 (line_texts source)
+
 abbrev pub copied : Files → List ℕ → Copied
-copied files source = lines_in (copy_line files deepest) None 0 (line_texts source)
+copied files source = copied_by (of_files files) source

@@ -1,9 +1,9 @@
 -- Files by name.
-use Rattle.std.specs.Prelude.{ℕ, ◌==◌, Bool, not, ◌&&◌, ◌||◌, nat_lt, nat_le, List, length, slice_index}
+use Rattle.std.specs.Prelude.{ℕ, ◌==◌, Bool, not, ◌&&◌, ◌||◌, nat_lt, nat_le, List, length, slice_index, Option}
 use Rattle.std.specs.List.{list_all}
 use Rattle.std.specs.Ordering.{nat_cmp}
 use Rattle.std.specs.Cmp.Lexicographic.{slice_cmp}
-use Rattle.std.specs.FinMap.{FinMap}
+use Rattle.std.specs.FinMap.{FinMap, get}
 use Rattle.source_defs.specs.Names.{is_letter_or_digit}
 
 -- Profile: a letter, a digit, or one of `.`, `_` and `-`.
@@ -22,3 +22,12 @@ is_file_name bytes =
 -- files: names, and the bytes that stand under each
 abbrev pub Files : Type 0
 Files = FinMap (slice_cmp nat_cmp) (List ℕ)
+
+-- What a shelf has under a name, by how many files were asked for before and by the name: a file may change between one
+-- question and the next.
+abbrev pub Contents : Type 0
+Contents = ℕ → List ℕ → Option (List ℕ)
+
+-- files that do not change
+abbrev pub of_files : Files → Contents
+of_files files number name = get files name

@@ -3,3 +3,5 @@ pub mod CopyLines
 pub mod Copied
 pub mod Assembly
 pub mod Alone
+pub mod Questions
+pub mod Amounts

@@ -1,3 +1,4 @@
 pub mod NameLaws
 pub mod Ends
+pub mod Taking
 pub mod Laws

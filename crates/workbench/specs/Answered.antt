@@ -3,15 +3,17 @@ use Rattle.std.specs.Prelude.{Result}
 use Rattle.report_defs.specs.declared.status.Status.{Status}
 use Rattle.report_defs.specs.declared.status.Status.TheVariants as status
 use Rattle.report_defs.specs.Report.{Report}
-use Rattle.file_report_defs.specs.Words.{FileCommand}
+use Rattle.file_report_defs.specs.Words.{FileCommand, OverFiles}
 use Rattle.reports.specs.Answers.{Reported}
-use Rattle.workbench.specs.FileRun.{FileRun, ReportsWith, Leaves, ReadFailedWith}
+use Rattle.workbench.specs.FileProgram.{Reading, Reports, Leaves, ReadFails}
 
 -- why there is no report, and what is left then
-abbrev pub FailsWith : FileCommand → FileRun → Status → Type 0
-FailsWith command run status.ReadFault = Leaves command run × ReadFailedWith command run
-FailsWith command run status.Memory = Leaves command run
-FailsWith command run other = ⊥
+abbrev pub FailsWith : FileCommand → Reading → Reading → Status → Type 0
+FailsWith command before after status.ReadFault =
+    Leaves (OverFiles command) before after × ReadFails (OverFiles command) before after
+FailsWith command before after status.Memory = Leaves (OverFiles command) before after
+FailsWith command before after other = ⊥
 
-abbrev pub AnswersWith : FileCommand → FileRun → Result Report Status → Type 0
-AnswersWith command run answer = Reported (ReportsWith command run) (FailsWith command run) answer
+abbrev pub AnswersWith : FileCommand → Reading → Reading → Result Report Status → Type 0
+AnswersWith command before after answer =
+    Reported (Reports (OverFiles command) before after) (FailsWith command before after) answer

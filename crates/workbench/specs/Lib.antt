@@ -1,4 +1,4 @@
 pub mod Asked
-pub mod FileRun
+pub mod FileProgram
 pub mod Answered
 pub mod Laws

@@ -1,13 +1,9 @@
 //! The commands that only the program with files has.
 
-ghost use Rattle.std.specs.Prelude.{Some};
 ghost use Rattle.bench_shelf.specs.Causes.{Later};
-ghost use Rattle.file_report_defs.specs.Words as spec;
 ghost use Rattle.reports.specs.Answers.{answer};
-ghost use Rattle.reports.specs.Outputs.{Outputs};
 ghost use Rattle.workbench.specs.Answered.{AnswersWith};
 ghost use Rattle.workbench.specs.Asked.{defined_over};
-ghost use Rattle.workbench.specs.FileRun.{TakesOfShelf};
 
 use crate::asm::asm;
 use crate::command::FileCommand;
@@ -25,15 +21,9 @@ pub(crate) fn report_over<S: Source, F: Shelf>(
     input: &mut S,
     shelf: &mut F,
 ) -> Result<Report, Unreported>
-    ensures answers { (outputs : Outputs) → AnswersWith (defined_over command.now) (record {
-      input = S.state input.old;
-      input' = S.state input.new;
-      shelf = F.shelf shelf.old;
-      shelf' = F.shelf shelf.new;
-      outputs = outputs;
-    }) (answer result) }
-    ensures shelf { TakesOfShelf (Some (spec.OverFiles (defined_over command.now)))
-        (F.shelf shelf.old) (F.shelf shelf.new) }
+    ensures answers { AnswersWith (defined_over command.now)
+        (record { input = S.state input.old; shelf = F.shelf shelf.old })
+        (record { input = S.state input.new; shelf = F.shelf shelf.new }) (answer result) }
     ensures later { Later (F.shelf shelf.old) (F.shelf shelf.new) }
 {
     match command {

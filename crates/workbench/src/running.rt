@@ -2,7 +2,8 @@
 
 ghost use Rattle.bench_shelf.specs.Causes.{Later};
 ghost use Rattle.file_report_defs.specs.Words.{program_command};
-ghost use Rattle.workbench.specs.FileRun.{EndsFileRun, TakesOfShelf};
+ghost use Rattle.reports.specs.Run.{EndsBy};
+ghost use Rattle.workbench.specs.FileProgram.{TakesOfShelf, file_program};
 ghost use Rattle.workbench.specs.Laws.{LawsOfFileRuns};
 
 use crate::command::{ProgramCommand, read_program_command};
@@ -35,11 +36,10 @@ pub fn bench_with<S: Source, F: Shelf, O: Sink, E: Sink>(
     err: &mut E,
 ) -> Status
     ensures laws { LawsOfFileRuns }
-    ensures ends { EndsFileRun words.now (record {
-      input = S.state input.old;
-      input' = S.state input.new;
-      shelf = F.shelf shelf.old;
-      shelf' = F.shelf shelf.new;
+    ensures ends { EndsBy file_program (record {
+      said = program_command words.now;
+      before = record { input = S.state input.old; shelf = F.shelf shelf.old };
+      after = record { input = S.state input.new; shelf = F.shelf shelf.new };
       outputs = record {
         out = O.state out.old;
         out' = O.state out.new;

@@ -6,7 +6,6 @@ ghost use Rattle.file_report_defs.specs.Whole as whole;
 ghost use Rattle.file_report_defs.specs.Words as spec;
 ghost use Rattle.bench_shelf.specs.States.{ShelfState};
 ghost use Rattle.reports.specs.Answers.{answer, WantsMemory, Reported};
-ghost use Rattle.reports.specs.Outputs.{Outputs};
 ghost use Rattle.workbench.specs.Answered.{AnswersWith};
 
 use bench_commands::load_program;
@@ -24,13 +23,9 @@ pub(crate) fn watch<S: Source>(
     items: &WatchedItems,
     input: &mut S,
 ) -> Result<Report, Unreported>
-    ensures { (shelf : ShelfState) → (outputs : Outputs) → AnswersWith (spec.Watch limit items.now) (record {
-      input = S.state input.old;
-      input' = S.state input.new;
-      shelf = shelf;
-      shelf' = shelf;
-      outputs = outputs;
-    }) (answer result) }
+    ensures { (shelf : ShelfState) → AnswersWith (spec.Watch limit items.now)
+        (record { input = S.state input.old; shelf = shelf })
+        (record { input = S.state input.new; shelf = shelf }) (answer result) }
 {
     let source = read_all(alloc, input, LARGEST_INPUT)?;
     watch_source(alloc, limit, items, source.as_slice())

@@ -5,7 +5,7 @@ use Rattle.object_tags.specs.Seen.{defined_module}
 use Rattle.std.proofs.lemmas.List.{map-append}
 use Rattle.file_commands.specs.declared.file_text.FileText.{FileText}
 use Rattle.reports.specs.Answers.{error_answer}
-use Rattle.file_commands.proofs.FileLists.{modules_next, modules_end}
+use Rattle.file_commands.proofs.ModuleLists.{modules_next, modules_end}
 use Rattle.file_commands.proofs.modules.modules_of.Goals as goal
 
 pub returns-in-Err-clause-is : goal.returns-in-Err-clause-is

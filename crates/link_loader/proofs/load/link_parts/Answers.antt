@@ -50,8 +50,16 @@ returns c =
     let found = rw c.as_slice-4.ensures.value at (c.in_ok-uses.ensures x.defs.items x.words.items names.1 loaded.1) in
     let known = rw c.as_slice-5.ensures.value at (c.in_ok-check_names.ensures x.defs.items names.1) in
     let entered = rw c.as_slice-6.ensures.value at c.in_ok-entry.ensures in
-    rw (names.0, inside, loaded.0, found.1, known, entered, c.in_ok-pairs.ensures,
-      words_are x.defs.items found.0 c.in_ok-words.words c.in_ok-uses.uses c.replace.new.self x.words.items loaded.1 found.2 c.replace.ensures) refl
+    rw (
+      names.0,
+      inside,
+      loaded.0,
+      found.1,
+      known,
+      entered,
+      c.in_ok-pairs.ensures,
+      words_are x.defs.items found.0 c.in_ok-words.words c.in_ok-uses.uses c.replace.new.self x.words.items loaded.1 found.2 c.replace.ensures,
+    ) refl
 
 none_of_ok : (found : Option (ℕ × ℕ)) → unless (λ (word : ℕ × ℕ). OutOfMemoryRange word.0) found ≡ Ok None → found ≡ None
 none_of_ok (Some word) e = cc

@@ -1,70 +1,66 @@
-use Rattle.std.proofs.Common.{◌≡◌, ℕ, ◌<◌, ◌∷◌, Some, refl, sym, ap, ◌∙◌, subst, arith}
-use Rattle.std.specs.Prelude.{IfSome}
+use Rattle.std.proofs.Common.{ℕ, ◌<◌, ◌∷◌, Some, None, refl, sym, ap, ◌∙◌, subst, arith}
 use Rattle.source_defs.specs.Lines.{LinesLieInside}
 use Rattle.source_defs.specs.Layout.{line_texts}
 use Rattle.source_defs.proofs.LaidLaws.{texts_of}
-use Rattle.bench_shelf.proofs.LoopLaws.{first_text, TakesLine, own_leads, own_told, own_takes, takes_as, line_place, Follows, all_taken, follows_first, alone_first, alone_more, alone_end, alone_refused, alone_taken, later_first, follows_more, follows_end, follows_refused, later_then, counts_first, counts_more, counts_grow, once_first}
-use Rattle.bench_shelf.proofs.CountLaws.{once_then}
+use Rattle.shelf_defs.specs.CopyLines.{File, Bad}
+use Rattle.shelf_defs.specs.Copied as spec
+use Rattle.shelf_defs.specs.Copied.{most_bytes}
+use Rattle.bench_shelf.specs.declared.copy_error.CopyCause.TheVariants as cause
+use Rattle.bench_shelf.specs.Leading.{Copies}
+use Rattle.bench_shelf.specs.CopyAnswers.{defined_place, failed_at, place_in}
+use Rattle.bench_shelf.proofs.FileLaws.{refuses_none, deep_copies, many_copies, copies_unread, copies_read}
 use Rattle.bench_shelf.proofs.SinceLaws.{causes_since, each_since}
 use Rattle.bench_shelf.proofs.Keeping.{within_then}
-use Rattle.std.specs.FinMap.{empty}
-use Rattle.shelf_defs.specs.CopyLines.{asked, Itself}
-use Rattle.shelf_defs.specs.Alone.{IsNoFile}
-use Rattle.shelf_defs.specs.Copied.{copy_line, most_bytes, one_line, own_line}
-use Rattle.bench_shelf.specs.Leading.{Leads, LeadsAlone}
-use Rattle.bench_shelf.specs.CopyAnswers.{defined_place, failed_at, place_in}
-use Rattle.bench_shelf.proofs.FileLaws.{told_many, told_not_read, told_read}
+use Rattle.bench_shelf.proofs.LoopLaws.{first_text, line_by, own_copies, own_refuses, asked_copies, own_takes, takes_as, TakesLine, line_place, all_taken, follows_first, follows_more, follows_end, follows_refused, later_first, later_then, counts_first, counts_more, counts_grow}
 use Rattle.bench_shelf.proofs.copying.Copying.+copying.Goals as goal
 use Rattle.bench_shelf.proofs.copying.Copying.+copying.Given.{Over}
 use Rattle.bench_shelf.proofs.copying.Copying.+copying.Goals.{copy_lines-After-is_ended, copy_lines-After-failed, copy_lines-then-copies_nothing+in-Ok, copy_lines-else-copies_nothing+in-Ok-copy_asked}
 
-pub copy_file-returns-then-self-ge-MOST_COPIES-clause-leads : goal.copy_file-returns-then-self-ge-MOST_COPIES-clause-leads
-copy_file-returns-then-self-ge-MOST_COPIES-clause-leads g t c =
+pub copy_asked-returns-in-Ok-clause-copies : goal.copy_asked-returns-in-Ok-clause-copies
+copy_asked-returns-in-Ok-clause-copies g t c =
+    own_copies c.args.levels _ c.args.self.now c.take.new.self (defined_place c.args.place) c.args.text.now None (sym c.in-Itself.ensures) c.take.ensures.copies tt
+    c.in-Ok.ensures.leads
+
+pub copy_asked-returns-in-Err-clause-copies : goal.copy_asked-returns-in-Err-clause-copies
+copy_asked-returns-in-Err-clause-copies g t c =
+    own_refuses c.args.levels _ c.args.self.now c.take.new.self (defined_place c.args.place) c.args.text.now c.args.place c.in-Err.failure c.failed.result
+    (sym c.failed.ensures) (sym c.in-Itself.ensures) c.take.ensures.copies c.in-Err.ensures.leads
+
+pub copy_asked-returns-in-File-clause-copies : goal.copy_asked-returns-in-File-clause-copies
+copy_asked-returns-in-File-clause-copies g t c =
+    asked_copies c.args.levels _ _ c.args.self.now c.copy_file.new.self (defined_place c.args.place) c.args.text.now (File c.in-File.name) _ c.in-File.ensures
+    c.copy_file.ensures.copies
+
+pub copy_asked-returns-in-Bad-clause-copies : goal.copy_asked-returns-in-Bad-clause-copies
+copy_asked-returns-in-Bad-clause-copies g t c =
+    asked_copies c.args.levels _ _ c.args.self.now c.args.self.now (defined_place c.args.place) c.args.text.now Bad _ c.in-Bad.ensures
+    (refuses_none c.args.self.now _ c.args.place spec.BadCopy cause.BadCopy c.refused.result _ refl tt c.refused.ensures (λ contents. refl))
+
+pub copy_file-returns-then-levels-eq0-clause-copies : goal.copy_file-returns-then-levels-eq0-clause-copies
+copy_file-returns-then-levels-eq0-clause-copies g t c =
+    deep_copies c.args.self.now c.args.levels c.args.place c.args.name _ _ c.if-levels-eq0.true c.refused.ensures
+
+pub copy_file-returns-then-self-ge-MOST_COPIES-clause-copies : goal.copy_file-returns-then-self-ge-MOST_COPIES-clause-copies
+copy_file-returns-then-self-ge-MOST_COPIES-clause-copies g t c =
     let some : 0 < c.args.levels = omega (arith, c.if-levels-eq0.false) in
-    told_many c.args.self.now c.args.self.now c.args.levels c.args.place c.args.name some _ _ c.if-self-ge-MOST_COPIES.true
-    c.refused-then-self-ge-MOST_COPIES.ensures
+    many_copies c.args.self.now c.args.levels c.args.place c.args.name some _ _ c.if-self-ge-MOST_COPIES.true c.refused-then-self-ge-MOST_COPIES.ensures
 
-pub copy_file-returns-in-Err-clause-leads : goal.copy_file-returns-in-Err-clause-leads
-copy_file-returns-in-Err-clause-leads g t c =
+pub copy_file-returns-in-Err-clause-copies : goal.copy_file-returns-in-Err-clause-copies
+copy_file-returns-in-Err-clause-copies g t c =
     let some : 0 < c.args.levels = omega (arith, c.if-levels-eq0.false) in
-    told_not_read c.args.self.now c.args.self.now c.args.levels c.args.place c.args.name some _ c.in-Err.error c.if-self-ge-MOST_COPIES.false
-    c.in-Err.ensures.err
+    copies_unread c.args.self.now c.args.levels c.args.place c.args.name some _ c.if-self-ge-MOST_COPIES.false _ _ c.in-Err.error refl
+    c.in-Err.ensures.refused c.in-Err.ensures.place
 
-pub copy_file-returns-clause-leads : goal.copy_file-returns-clause-leads
-copy_file-returns-clause-leads g t c =
+pub copy_file-returns-clause-copies : goal.copy_file-returns-clause-copies
+copy_file-returns-clause-copies g t c =
     let some : 0 < c.args.levels = omega (arith, c.if-levels-eq0.false) in
-    told_read c.args.self.now c.copy_lines.new.self c.args.levels c.args.place c.args.name some _ _ _ c.in-Ok.bytes.items _ _
-    c.read_copied.ensures.later.files c.as_slice.ensures.value c.if-self-ge-MOST_COPIES.false c.in-Ok.ensures.ok
-    (λ done holds. record { taken = holds.taken; places = holds.places }) refl c.copy_lines.ensures.leads
+    copies_read c.args.self.now c.args.levels c.args.place c.args.name some _ c.if-self-ge-MOST_COPIES.false _ c.copy_lines.new.self _ _ c.in-Ok.bytes.items refl
+    c.in-Ok.ensures.given c.in-Ok.ensures.size (λ done holds. record { taken = holds.taken; places = holds.places }) _ _
+    c.as_slice.ensures.value c.copy_lines.ensures.copies
 
-pub copy_lines-returns-in-Err-copy_asked-clause-leads : goal.copy_lines-returns-in-Err-copy_asked-clause-leads
-copy_lines-returns-in-Err-copy_asked-clause-leads g t c =
-    let i = c.loop-line.invariant in
-    let text = c.args.text.now in
-    let line = c.in-Some.line in
-    let next = c.next.new.self in
-    let first = first_text text _ next line c.part-own.result.now c.in-Some.ensures.steps c.part-own.ensures in
-    follows_refused c.args.levels c.args.file.now c.args.self.now c.loop-line.self c.copy_asked.new.self (line_texts text) (texts_of text next) _
-    line.number c.part-own.result.now first _ _ c.in-Err-copy_asked.error i.3.files i.7
-    (subst (λ at. IfSome (g.F.Shelf.shelf c.loop-line.shelf).files (λ files. Leads c.loop-line.self
-    (one_line (copy_line files c.args.levels) (defined_place at) c.loop-line.self.copies c.part-own.result.now) (Some c.in-Err-copy_asked.error) c.copy_asked.new.self))
-    c.place_in-else-copies_nothing.ensures c.in-Err-copy_asked.ensures.leads)
-
-pub copy_lines-returns-clause-leads : goal.copy_lines-returns-clause-leads
-copy_lines-returns-clause-leads g t c =
-    let i = c.loop-line.invariant in
-    let text = c.args.text.now in
-    all_taken c.args.levels c.args.file.now c.args.self.now c.loop-line.self (line_texts text) (texts_of text c.loop-line.line-iterator) _
-    (ap (texts_of text) c.in-None.ensures.steps.0) i.2 i.7
-
-pub copy_lines-returns-in-Err-copy_asked-clause-once : goal.copy_lines-returns-in-Err-copy_asked-clause-once
-copy_lines-returns-in-Err-copy_asked-clause-once g t c = once_then _ _ _ _ _ _ c.loop-line.invariant.4 c.in-Err-copy_asked.ensures.once
-
-pub copy_lines-returns-clause-grows : goal.copy_lines-returns-clause-grows
-copy_lines-returns-clause-grows g t c = counts_grow _ _ _ _ _ _ c.loop-line.invariant.5 c.loop-line.invariant.4
-
-pub copy_lines-returns-clause-once : goal.copy_lines-returns-clause-once
-copy_lines-returns-clause-once g t c = c.loop-line.invariant.4
+pub copy_file-returns-clause-causes : goal.copy_file-returns-clause-causes
+copy_file-returns-clause-causes g t c =
+    each_since _ _ _ c.read_copied.ensures.later c.in-Ok.ensures.within _ c.copy_lines.ensures.causes
 
 pub copy_lines-loop-line-init : goal.copy_lines-loop-line-init
 copy_lines-loop-line-init g t c =
@@ -72,57 +68,57 @@ copy_lines-loop-line-init g t c =
     let old = c.args.self.now in
     let gives = c.into_iter-line-iterator.ensures.into_iter_gives in
     let all = gives ∙ c.lines-line-items.ensures.all in
-    let told = (g.F.Shelf.shelf c.args.shelf.now).files in (
-      tt,
-      tt,
-      c.requires.going,
-      later_first _,
-      once_first text old _ c.requires.room,
-      counts_first text old _ c.requires.room all,
-      subst (LinesLieInside text) (sym gives) c.lines-line-items.ensures.inside,
-      subst (λ left. IfSome told (Follows c.args.levels c.args.file.now old (line_texts text) old (texts_of text left))) (sym all)
-          (follows_first c.args.levels c.args.file.now told old (line_texts text)),
-      λ has. has,
-      omega arith,
-      λ alone. alone_first c.args.levels c.args.file.now old (line_texts text) _ _ (ap (texts_of text) all) alone,
-    )
+    record {
+      next = tt;
+      finite = tt;
+      going = c.requires.going;
+      later = later_first _;
+      most = c.requires.room.copies;
+      counts = counts_first text old _ c.requires.room all;
+      inside = subst (LinesLieInside text) (sym gives) c.lines-line-items.ensures.inside;
+      follows = follows_first c.args.levels c.args.file.now _ _ old (line_texts text) _ (ap (texts_of text) all) refl;
+      within = omega arith;
+    }
 
-pub copy_file-returns-clause-causes : goal.copy_file-returns-clause-causes
-copy_file-returns-clause-causes g t c =
-    each_since _ _ _ c.read_copied.ensures.later c.in-Ok.ensures.within _ c.copy_lines.ensures.causes
+pub copy_lines-returns-clause-copies : goal.copy_lines-returns-clause-copies
+copy_lines-returns-clause-copies g t c =
+    let i = c.loop-line.invariant in
+    let text = c.args.text.now in
+    all_taken c.args.levels c.args.file.now _ _ c.args.self.now c.loop-line.self (line_texts text) (texts_of text c.loop-line.line-iterator)
+    (ap (texts_of text) c.in-None.ensures.steps.0) i.going i.follows
 
-pub copy_lines-returns-in-Err-copy_asked-clause-causes : goal.copy_lines-returns-in-Err-copy_asked-clause-causes
-copy_lines-returns-in-Err-copy_asked-clause-causes g t c =
-    causes_since _ _ _ c.loop-line.invariant.3 c.loop-line.invariant.9 c.in-Err-copy_asked.error c.in-Err-copy_asked.ensures.causes
+pub copy_lines-returns-clause-grows : goal.copy_lines-returns-clause-grows
+copy_lines-returns-clause-grows g t c = counts_grow _ _ _ _ c.loop-line.invariant.counts
 
-pub copy_lines-returns-in-Err-copy_asked-clause-alone : goal.copy_lines-returns-in-Err-copy_asked-clause-alone
-copy_lines-returns-in-Err-copy_asked-clause-alone g t c alone =
+-- a line of a file is refused
+pub copy_lines-returns-in-Err-copy_asked-clause-copies : goal.copy_lines-returns-in-Err-copy_asked-clause-copies
+copy_lines-returns-in-Err-copy_asked-clause-copies g t c =
     let i = c.loop-line.invariant in
     let text = c.args.text.now in
     let line = c.in-Some.line in
     let next = c.next.new.self in
-    let first = first_text text _ next line c.part-own.result.now c.in-Some.ensures.steps c.part-own.ensures in
-    alone_refused c.args.levels c.args.file.now c.args.self.now c.loop-line.self c.copy_asked.new.self (line_texts text) (texts_of text next) _
-    line.number c.part-own.result.now first _ _ _ (i.10 alone) c.in-Err-copy_asked.error
-    (subst (λ at. IsNoFile (asked c.part-own.result.now) → LeadsAlone c.loop-line.self
-    (one_line (copy_line empty c.args.levels) (defined_place at) c.loop-line.self.copies c.part-own.result.now) (Some c.in-Err-copy_asked.error) c.copy_asked.new.self
-    (g.F.Shelf.shelf c.loop-line.shelf) (g.F.Shelf.shelf c.copy_asked.new.shelf)) c.place_in-else-copies_nothing.ensures c.in-Err-copy_asked.ensures.alone)
+    let own = c.part-own.result.now in
+    let now = c.loop-line.self in
+    let last = c.copy_asked.new.self in
+    let first = first_text text _ next line own c.in-Some.ensures.steps c.part-own.ensures in
+    let error = c.in-Err-copy_asked.error in
+    let state = g.F.Shelf.shelf in
+    follows_refused c.args.levels c.args.file.now _ _ c.args.self.now now last (line_texts text) (texts_of text next) _ line.number own first i.follows _ error
+    (subst (λ at. Copies now last (line_by c.args.levels (defined_place at) now.copies own) (Some error) (state c.loop-line.shelf) (state c.copy_asked.new.shelf))
+    c.place_in-else-copies_nothing.ensures c.in-Err-copy_asked.ensures.copies)
 
-pub copy_lines-returns-clause-alone : goal.copy_lines-returns-clause-alone
-copy_lines-returns-clause-alone g t c alone =
-    let i = c.loop-line.invariant in
-    let text = c.args.text.now in
-    alone_taken c.args.levels c.args.file.now c.args.self.now c.loop-line.self (line_texts text) (texts_of text c.loop-line.line-iterator) _ _
-    (ap (texts_of text) c.in-None.ensures.steps.0) i.2 (i.10 alone)
+pub copy_lines-returns-in-Err-copy_asked-clause-causes : goal.copy_lines-returns-in-Err-copy_asked-clause-causes
+copy_lines-returns-in-Err-copy_asked-clause-causes g t c =
+    causes_since _ _ _ c.loop-line.invariant.later c.loop-line.invariant.within c.in-Err-copy_asked.error c.in-Err-copy_asked.ensures.causes
 
 -- a line was taken on either way
 taken_line : (g : Over) (t : ℕ) (c : copy_lines-After-is_ended g t)
-    → TakesLine c.args.levels (line_place c.args.levels c.args.file.now c.in-Some.line.number) c.part-own.result.now c.loop-line.self c.if-copies_nothing.self
+    → TakesLine c.args.levels (line_place c.args.file.now c.in-Some.line.number) c.part-own.result.now c.loop-line.self c.if-copies_nothing.self
     (g.F.Shelf.shelf c.loop-line.shelf) (g.F.Shelf.shelf c.if-copies_nothing.shelf)
 taken_line g t c =
     let i = c.loop-line.invariant in
     let state = g.F.Shelf.shelf in
-    let place = line_place c.args.levels c.args.file.now c.in-Some.line.number in
+    let place = line_place c.args.file.now c.in-Some.line.number in
     let own = c.part-own.result.now in
     let now = c.loop-line.self in
     let mid = c.if-copies_nothing.self in
@@ -130,61 +126,38 @@ taken_line g t c =
       | copy_lines-then-copies_nothing+in-Ok w ↦
           takes_as c.args.levels place place own now mid w.take.new.self _ _ _ refl w.self-is (ap state w.shelf-is)
           (own_takes c.args.levels place own now w.take.new.self _ (w.if-copies_nothing.ensures refl) w.in-Ok.ensures.leads w.in-Ok.ensures.grows
-          w.take.ensures.copies i.4.most w.take.ensures.kept)
+          w.take.ensures.copies i.most)
       | copy_lines-else-copies_nothing+in-Ok-copy_asked w ↦
           takes_as c.args.levels place _ own now mid w.copy_asked.new.self _ _ _ (ap defined_place w.place_in-else-copies_nothing.ensures) w.self-is
           (ap state w.shelf-is) (record {
-            leads = w.in-Ok-copy_asked.ensures.leads;
-            alone = w.in-Ok-copy_asked.ensures.alone;
+            copies = w.in-Ok-copy_asked.ensures.copies;
             later = w.copy_asked.ensures.later;
-            once = w.copy_asked.ensures.once;
+            most = w.copy_asked.ensures.most;
             grows = w.in-Ok-copy_asked.ensures.grows;
-            kept = w.copy_asked.ensures.kept;
             within = w.in-Ok-copy_asked.ensures.within;
           })
     ]
 
-pub copy_lines-returns-then-is_ended-clause-leads : goal.copy_lines-returns-then-is_ended-clause-leads
-copy_lines-returns-then-is_ended-clause-leads g t c =
+pub copy_lines-returns-then-is_ended-clause-copies : goal.copy_lines-returns-then-is_ended-clause-copies
+copy_lines-returns-then-is_ended-clause-copies g t c =
     let i = c.loop-line.invariant in
     let text = c.args.text.now in
     let line = c.in-Some.line in
     let next = c.next.new.self in
-    let first = first_text text _ next line c.part-own.result.now c.in-Some.ensures.steps c.part-own.ensures in
     let own = c.part-own.result.now in
-    let now = c.loop-line.self in
-    let mid = c.if-copies_nothing.self in
-    let taken = taken_line g t (goal.at.copy_lines-returns-then-is_ended-clause-leads g t c).After-is_ended in
-    follows_end c.args.levels c.args.file.now c.args.self.now now mid (line_texts text) (texts_of text next) _ line.number own first _ _ i.3.files
-    (λ going. (cc (c.is_ended.ensures.open.1 going, c.if-is_ended.true))) i.7 taken.leads
+    let first = first_text text _ next line own c.in-Some.ensures.steps c.part-own.ensures in
+    let taken = taken_line g t (goal.at.copy_lines-returns-then-is_ended-clause-copies g t c).After-is_ended in
+    follows_end c.args.levels c.args.file.now _ _ c.args.self.now c.loop-line.self c.if-copies_nothing.self (line_texts text) (texts_of text next) _ line.number own
+    first i.follows _ (λ going. (cc (c.is_ended.ensures.open.1 going, c.if-is_ended.true))) taken.copies
 
-pub copy_lines-returns-then-is_ended-clause-once : goal.copy_lines-returns-then-is_ended-clause-once
-copy_lines-returns-then-is_ended-clause-once g t c =
-    let i = c.loop-line.invariant in
-    let text = c.args.text.now in
-    let taken = taken_line g t (goal.at.copy_lines-returns-then-is_ended-clause-once g t c).After-is_ended in
-    once_then _ _ _ _ _ _ i.4 taken.once
+pub copy_lines-returns-then-is_ended-clause-most : goal.copy_lines-returns-then-is_ended-clause-most
+copy_lines-returns-then-is_ended-clause-most g t c = (taken_line g t (goal.at.copy_lines-returns-then-is_ended-clause-most g t c).After-is_ended).most
 
 pub copy_lines-returns-then-is_ended-clause-grows : goal.copy_lines-returns-then-is_ended-clause-grows
 copy_lines-returns-then-is_ended-clause-grows g t c =
     let i = c.loop-line.invariant in
-    let text = c.args.text.now in
     let taken = taken_line g t (goal.at.copy_lines-returns-then-is_ended-clause-grows g t c).After-is_ended in
-    counts_grow _ _ _ _ _ _ (counts_more _ _ _ _ _ _ _ i.5 c.in-Some.ensures.steps taken.grows) (once_then _ _ _ _ _ _ i.4 taken.once)
-
-pub copy_lines-returns-then-is_ended-clause-alone : goal.copy_lines-returns-then-is_ended-clause-alone
-copy_lines-returns-then-is_ended-clause-alone g t c alone =
-    let i = c.loop-line.invariant in
-    let text = c.args.text.now in
-    let line = c.in-Some.line in
-    let next = c.next.new.self in
-    let first = first_text text _ next line c.part-own.result.now c.in-Some.ensures.steps c.part-own.ensures in
-    let own = c.part-own.result.now in
-    let now = c.loop-line.self in
-    let mid = c.if-copies_nothing.self in
-    let taken = taken_line g t (goal.at.copy_lines-returns-then-is_ended-clause-alone g t c).After-is_ended in
-    alone_end c.args.levels c.args.file.now c.args.self.now now mid (line_texts text) (texts_of text next) _ line.number own first _ _ _ (i.10 alone)
-    (λ going. (cc (c.is_ended.ensures.open.1 going, c.if-is_ended.true))) taken.alone
+    counts_grow _ _ _ _ (counts_more _ _ _ _ _ _ _ i.counts c.in-Some.ensures.steps taken.grows)
 
 pub copy_lines-loop-line-preserved : goal.copy_lines-loop-line-preserved
 copy_lines-loop-line-preserved g t c =
@@ -193,64 +166,37 @@ copy_lines-loop-line-preserved g t c =
     let text = c.args.text.now in
     let line = c.in-Some.line in
     let next = c.next.new.self in
-    let first = first_text text _ next line c.part-own.result.now c.in-Some.ensures.steps c.part-own.ensures in
     let own = c.part-own.result.now in
-    let now = c.loop-line.self in
-    let mid = c.if-copies_nothing.self in
+    let first = first_text text _ next line own c.in-Some.ensures.steps c.part-own.ensures in
     let taken = taken_line g t (goal.at.copy_lines-loop-line-preserved g t c).After-is_ended in
-    let inside : LinesLieInside text (line ∷ next) = subst (LinesLieInside text) c.in-Some.ensures.steps i.6 in
-    let going = c.is_ended.ensures.open.0 c.if-is_ended.false in (
-      tt,
-      tt,
-      going,
-      later_then _ _ _ i.3 taken.later,
-      once_then _ _ _ _ _ _ i.4 taken.once,
-      counts_more _ _ _ _ _ _ _ i.5 c.in-Some.ensures.steps taken.grows,
-      inside.1,
-      follows_more c.args.levels c.args.file.now c.args.self.now now mid (line_texts text) (texts_of text next) _ line.number own first _ _ i.3.files going i.7 taken.leads,
-      λ has. taken.kept (i.8 has),
-      within_then most_bytes (state c.args.shelf.now) (state c.loop-line.shelf) (state c.if-copies_nothing.shelf) i.9 taken.within,
-      λ alone. alone_more c.args.levels c.args.file.now c.args.self.now now mid (line_texts text) (texts_of text next) _ line.number own first _ _ _ (i.10 alone) going
-          taken.alone,
-    )
+    let inside : LinesLieInside text (line ∷ next) = subst (LinesLieInside text) c.in-Some.ensures.steps i.inside in
+    let going = c.is_ended.ensures.open.0 c.if-is_ended.false in
+    record {
+      next = tt;
+      finite = tt;
+      going = going;
+      later = later_then _ _ _ i.later taken.later;
+      most = taken.most;
+      counts = counts_more _ _ _ _ _ _ _ i.counts c.in-Some.ensures.steps taken.grows;
+      inside = inside.1;
+      follows = follows_more c.args.levels c.args.file.now _ _ c.args.self.now c.loop-line.self c.if-copies_nothing.self (line_texts text) (texts_of text next) _
+          line.number own first i.follows _ going taken.copies;
+      within = within_then most_bytes (state c.args.shelf.now) (state c.loop-line.shelf) (state c.if-copies_nothing.shelf) i.within taken.within;
+    }
 
 -- a line that stands for itself was refused
-refused_line : (g : Over) (t : ℕ) (c : copy_lines-After-failed g t)
-    → (asked c.part-own.result.now ≡ Itself)
-    × Leads c.loop-line.self (own_line (line_place c.args.levels c.args.file.now c.in-Some.line.number) c.loop-line.self.copies c.part-own.result.now)
-    (Some c.failed.result) c.take.new.self
-refused_line g t c =
+pub copy_lines-returns-in-Err-clause-copies : goal.copy_lines-returns-in-Err-clause-copies
+copy_lines-returns-in-Err-clause-copies g t c =
+    let i = c.loop-line.invariant in
+    let text = c.args.text.now in
+    let line = c.in-Some.line in
+    let next = c.next.new.self in
+    let own = c.part-own.result.now in
     let now = c.loop-line.self in
-    let place = line_place c.args.levels c.args.file.now c.in-Some.line.number in
-    let is : failed_at (place_in c.args.file.now c.in-Some.line.number) c.in-Err.failure ≡ c.failed.result =
-    sym (c.failed.ensures ∙ ap (λ at. failed_at at c.in-Err.failure) c.place_in.ensures) in (
-      c.if-copies_nothing.ensures refl,
-      subst (λ error. Leads now (own_line place now.copies c.part-own.result.now) (Some error) c.take.new.self) is c.in-Err.ensures.leads,
-    )
-
-pub copy_lines-returns-in-Err-clause-leads : goal.copy_lines-returns-in-Err-clause-leads
-copy_lines-returns-in-Err-clause-leads g t c =
-    let i = c.loop-line.invariant in
-    let text = c.args.text.now in
-    let line = c.in-Some.line in
-    let next = c.next.new.self in
-    let own = c.part-own.result.now in
     let first = first_text text _ next line own c.in-Some.ensures.steps c.part-own.ensures in
-    let refused = refused_line g t (goal.at.copy_lines-returns-in-Err-clause-leads g t c).After-failed in
-    follows_refused c.args.levels c.args.file.now c.args.self.now c.loop-line.self c.take.new.self (line_texts text) (texts_of text next) _ line.number own first
-    _ _ c.failed.result i.3.files i.7 (own_told c.args.levels _ c.loop-line.self c.take.new.self _ own (Some c.failed.result) refused.0 refused.1)
-
-pub copy_lines-returns-in-Err-clause-alone : goal.copy_lines-returns-in-Err-clause-alone
-copy_lines-returns-in-Err-clause-alone g t c alone =
-    let i = c.loop-line.invariant in
-    let text = c.args.text.now in
-    let line = c.in-Some.line in
-    let next = c.next.new.self in
-    let own = c.part-own.result.now in
-    let first = first_text text _ next line own c.in-Some.ensures.steps c.part-own.ensures in
-    let refused = refused_line g t (goal.at.copy_lines-returns-in-Err-clause-alone g t c).After-failed in
-    alone_refused c.args.levels c.args.file.now c.args.self.now c.loop-line.self c.take.new.self (line_texts text) (texts_of text next) _ line.number own first
-    _ _ _ (i.10 alone) c.failed.result (λ none. record {
-      shelf = refl;
-      leads = own_leads (copy_line empty c.args.levels) c.loop-line.self c.take.new.self _ own (Some c.failed.result) refused.0 refused.1;
-    })
+    let after = (goal.at.copy_lines-returns-in-Err-clause-copies g t c).After-failed in
+    follows_refused c.args.levels c.args.file.now _ _ c.args.self.now now c.take.new.self (line_texts text) (texts_of text next) _ line.number own first i.follows
+    _ c.failed.result (own_refuses c.args.levels _ now c.take.new.self (line_place c.args.file.now line.number) own
+    (place_in c.args.file.now line.number) after.in-Err.failure c.failed.result
+    (sym (after.failed.ensures ∙ ap (λ at. failed_at at after.in-Err.failure) after.place_in.ensures)) (after.if-copies_nothing.ensures refl)
+    c.take.ensures.copies after.in-Err.ensures.leads)

@@ -1,14 +1,11 @@
-use Rattle.std.proofs.Common.{◌+◌, ◌*◌}
-use Rattle.std.specs.Prelude.{IfSome}
+use Rattle.std.proofs.Common.{◌+◌, ◌*◌, ◌≤◌}
 use Rattle.source_defs.specs.Lines.{LinesLieInside}
 use Rattle.source_defs.specs.Layout.{line_texts}
 use Rattle.source_defs.proofs.LaidLaws.{texts_of}
-use Rattle.shelf_defs.specs.Alone.{CopiesNone}
-use Rattle.shelf_defs.specs.Copied.{most_bytes}
+use Rattle.shelf_defs.specs.Copied.{most_bytes, most_copies}
 use Rattle.asm_core.specs.Building.{IsOpen}
-use Rattle.bench_shelf.specs.Causes.{Later, ReadsOnce, TookNoMore}
-use Rattle.bench_shelf.proofs.LoopLaws.{Follows, FollowsAlone, Counts}
-use Rattle.bench_shelf.specs.KeptLines.{KeepsLines}
+use Rattle.bench_shelf.specs.Causes.{Later, TookNoMore}
+use Rattle.bench_shelf.proofs.LoopLaws.{Follows, Counts}
 use Rattle.bench_shelf.proofs.copying.Copying.+copying.Given as goal
 
 -- a COPY line leads to files that are one level deeper
@@ -25,15 +22,14 @@ decreases-copy_lines g l = 3 * l.levels + 2
 abbrev pub invariant-copy_lines-loop-line : goal.invariant-copy_lines-loop-line
 invariant-copy_lines-loop-line g l =
     let state = g.F.Shelf.shelf in
-    (goal.iterator-copy_lines-loop-line g).can_next l.line-iterator
-    × (goal.iterator-copy_lines-loop-line g).is_finite l.line-iterator
-    × IsOpen l.self.builder
-    × Later (state l.fn.shelf) (state l.shelf)
-    × ReadsOnce l.fn.self l.self (state l.fn.shelf) (state l.shelf)
-    × Counts l.text l.fn.self l.self l.line-iterator
-    × LinesLieInside l.text l.line-iterator
-    × IfSome (state l.fn.shelf).files (Follows l.levels l.file l.fn.self (line_texts l.text) l.self (texts_of l.text l.line-iterator))
-    × KeepsLines l.fn.self l.self
-    × TookNoMore most_bytes (state l.fn.shelf) (state l.shelf)
-    × (CopiesNone (line_texts l.text)
-    → FollowsAlone l.levels l.file l.fn.self (line_texts l.text) l.self (texts_of l.text l.line-iterator) (state l.fn.shelf) (state l.shelf))
+    record {
+      next : (goal.iterator-copy_lines-loop-line g).can_next l.line-iterator;
+      finite : (goal.iterator-copy_lines-loop-line g).is_finite l.line-iterator;
+      going : IsOpen l.self.builder;
+      later : Later (state l.fn.shelf) (state l.shelf);
+      most : l.self.copies ≤ most_copies;
+      counts : Counts l.text l.fn.self l.self l.line-iterator;
+      inside : LinesLieInside l.text l.line-iterator;
+      follows : Follows l.levels l.file l.fn.self (line_texts l.text) l.self (texts_of l.text l.line-iterator) (state l.fn.shelf) (state l.shelf);
+      within : TookNoMore most_bytes (state l.fn.shelf) (state l.shelf);
+    }

@@ -32,14 +32,6 @@ returns-in-Ok-note_place-clause-grows c =
       few = omega (arith, ap length c.in-Ok-note_place.ensures, length-append (places_of c.args.self.now.runs.items) (place ∷ []));
     }
 
-pub returns-in-Ok-note_place-clause-kept : goal.returns-in-Ok-note_place-clause-kept
-returns-in-Ok-note_place-clause-kept c has =
-    (has.0 ++ c.args.text.now ∷ [], c.in-Ok.ensures has.0 has.1)
-
-pub returns-in-Err-clause-kept : goal.returns-in-Err-clause-kept
-returns-in-Err-clause-kept c has =
-    (has.0 ++ c.args.text.now ∷ [], c.in-Ok.ensures has.0 has.1)
-
 pub returns-in-Err-At-clause-causes : goal.returns-in-Err-At-clause-causes
 returns-in-Err-At-clause-causes c =
     let held = c.requires.room.held in

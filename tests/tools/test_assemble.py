@@ -1,0 +1,196 @@
+"""Tests of tools/assemble."""
+import os
+import subprocess
+import unittest
+
+from calling import TOOLS, TOP, Calling
+from lib import notes
+
+ACCEPTED = b' ST @>8300,5\n EXIT\n'
+IMAGE = bytes.fromhex('BE 00 05 0B')
+# The end of a source's name, its last line, the cause and the note.
+NOTES = [
+    ('gpl', b'\xef\xbb\xbf* x', 'bad label', 'the line begins with a byte order mark; save the file without one'),
+    ('gpl', b'\xff\xfe*\0', 'bad label', 'the line begins with the mark of UTF-16; save the file as plain text'),
+    ('gpl', b'; x', 'bad label', 'a comment line begins with *'),
+    ('a', b'LOOP: NOP', 'bad label', 'a label has no colon'),
+    ('a', b'LONGNAME NOP', 'bad label', 'a name has at most six letters and digits, and LONGNAME has 8'),
+    ('a', b'A_B NOP', 'bad label', 'a name has letters and digits alone, and no _'),
+    ('a', b'1AB NOP', 'bad label', 'a name begins with a letter'),
+    ('gpl', b'DATA 1,2', 'unknown operation',
+     'what begins in column 1 is a label, so the operation of this line is 1,2'),
+    ('a', b'MOV R1,R2', 'unknown operation',
+     'what begins in column 1 is a label, so the operation of this line is R1,R2'),
+    ('gpl', b' ST @>8300, 5', 'bad operand', 'a blank ends the operands; write none after a comma'),
+    ('a', b' DATA 1,\t2', 'bad operand', 'a blank ends the operands; write none after a comma'),
+    ('a', b' MOV R1 ,R2', 'operand count', 'a blank ends the operands; write none before a comma'),
+    ('gpl', b' BYTE 1,,2', 'bad operand', 'an operand is empty'),
+    ('gpl', b' BYTE 1,', 'bad operand', 'an operand is empty'),
+    ('gpl', b' TEXT "ABC"', 'bad operand', 'a text or a character is written between two \', not between two "'),
+    ('a', b' IDT "MAIN"', 'bad directive', 'a text or a character is written between two \', not between two "'),
+    ('gpl', b" TEXT 'IT'S'", 'bad operand',
+     "a quote is open at the end of the line; a ' in a text is written twice"),
+    ('a', b' LI R1,0x1f', 'bad token', 'a hexadecimal number begins with >, as >1F'),
+    ('gpl', b' ST @COUNTER,5', 'bad token', 'a name has at most six letters and digits, and COUNTER has 7'),
+    ('a', b' REF VDP_WD', 'bad operand', 'a name has letters and digits alone, and no _'),
+    ('gpl', b' MOVE 8,G@>6000,R@0', 'bad operand',
+     'MOVE takes length, target and source, in this order, and G@ is no target'),
+    ('a', b' REF SORT\n BL SORT', 'bad relocation', 'an operand without @ or * is a register; the address is @SORT'),
+    ('a', b' COPY "sub/A.SRC"', 'bad directive', 'COPY takes the name of a file beside the source, and no path'),
+]
+# Lines that are refused, and whose text does not say for certain why.
+NO_NOTES = [
+    ('gpl', b' ST COUNT,5'), ('gpl', b' BYTE 256'), ('a', b'A MOVV R1,R2'), ('a', b'LOOP ST@X'),
+    ('a', b' TEXT COUNTER'), ('a', b' CLR R1,R2 ,x'), ('a', b' CLR R1,COUNTER'), ('gpl', b' DCLR COUNTER'),
+    ('a', b' IDT COUNTER'), ('a', b' JMP COUNT'), ('a', b' LI 16,>12345678'),
+    ('gpl', b" DATA 'A_B',1,'LONGNAME','\"'"), ('gpl', b' EQU 1'), ('a', b'LABEL COPY "MY_LONGNAME.SRC"'),
+]
+
+
+class Accepted(Calling):
+    def test_the_output_is_the_image_or_the_object_text(self):
+        self.file('in ner/a.gpl', ACCEPTED)
+        self.file('B.ASM', b' END\n')
+        ended = self.call('assemble', 'in ner/a.gpl')
+        self.assertEqual((ended.returncode, ended.stdout, ended.stderr), (0, IMAGE, b''))
+        ended = self.call('assemble', 'B.ASM')
+        self.assertEqual((ended.returncode, ended.stderr), (0, b''))
+        self.assertTrue(ended.stdout.startswith(b'0'))
+
+    def test_an_option_says_what_the_source_is(self):
+        self.file('a.txt', ACCEPTED)
+        self.assertEqual(self.call('assemble', '--gpl', 'a.txt').stdout, IMAGE)
+        self.assertEqual(self.call('assemble', '--asm', 'a.txt').returncode, 1)
+        ended = self.call('assemble', 'a.txt')
+        self.assertEqual(ended.returncode, 2)
+        self.assertIn(b'a.txt: no source has a name with this ending; give --gpl or --asm', ended.stderr)
+
+    def test_a_file_is_replaced_as_a_whole_and_keeps_its_permissions_and_links(self):
+        self.file('a.gpl', ACCEPTED)
+        old = self.file('old', b'longer than the image')
+        old.chmod(0o640)
+        (self.folder / 'link').symlink_to('old')
+        for output in ('new', 'link'):
+            self.assertEqual(self.call('assemble', 'a.gpl', '-o', output).stderr, b'')
+        self.assertEqual(((self.folder / 'new').read_bytes(), old.read_bytes()), (IMAGE, IMAGE))
+        self.assertTrue((self.folder / 'link').is_symlink())
+        self.assertEqual(old.stat().st_mode & 0o777, 0o640)
+        self.assertEqual(sorted(os.listdir(self.folder)), ['a.gpl', 'link', 'new', 'old'])
+
+    def test_a_device_is_written_as_it_is(self):
+        self.file('a.gpl', ACCEPTED)
+        self.assertEqual(self.call('assemble', 'a.gpl', '-o', '/dev/null').returncode, 0)
+        ended = self.call('assemble', 'a.gpl', '-o', '/dev/full')
+        self.assertEqual((ended.returncode, ended.stderr.count(b'\n')), (3, 1))
+
+    def test_copied_files_are_beside_the_source(self):
+        self.file('sub/main.a', b' COPY "EQU.SRC"\n DATA N\n')
+        self.file('sub/EQU.SRC', b'N EQU 5\n')
+        self.assertEqual(self.call('assemble', 'sub/main.a').returncode, 0)
+
+    def test_a_pipe_is_a_source(self):
+        ended = subprocess.run(['bash', '-c', '"$0" --gpl <(echo " FOO")', TOOLS / 'assemble'], capture_output=True)
+        self.assertRegex(ended.stderr, rb'/dev/fd/\d+:1: unknown operation\n     FOO\n')
+
+
+class Refused(Calling):
+    def refusal(self, name, source, *words, **environment):
+        """Status and standard error of a source that is refused."""
+        self.file(name, source)
+        ended = self.call('assemble', name, *words, **environment)
+        self.assertEqual(ended.stdout, b'')
+        return ended.returncode, ended.stderr
+
+    def test_place_cause_and_line(self):
+        self.assertEqual(self.refusal('sub/a b.gpl', b' RTN\r\n FOO  @A\r\n'),
+                         (1, b'sub/a b.gpl:2: unknown operation\n     FOO  @A\n'))
+
+    def test_the_output_is_left_alone(self):
+        self.file('out', b'before')
+        self.assertEqual(self.refusal('a.gpl', b' FOO\n', '-o', 'out')[0], 1)
+        self.assertEqual((self.folder / 'out').read_bytes(), b'before')
+        self.assertEqual(self.refusal('a.gpl', b' FOO\n', '-o', 'new')[0], 1)
+        self.assertFalse((self.folder / 'new').exists())
+
+    def test_a_line_of_a_copied_file_has_its_path(self):
+        self.file('sub/IN-1.SRC', b'* x\n FOO\n')
+        self.assertEqual(self.refusal('sub/main.a', b' COPY "IN-1.SRC"\n'),
+                         (1, b'sub/IN-1.SRC:2: unknown operation\n     FOO\n'))
+        self.assertEqual(self.refusal('sub/main.a', b" COPY 'OUT.SRC'\n"),
+                         (1, b"sub/main.a:1: missing OUT.SRC\n     COPY 'OUT.SRC'\n"))
+
+    def test_a_cause_without_a_line(self):
+        self.assertEqual(self.refusal('a.gpl', b'*' * (1 << 20) + b'\n'), (1, b'a.gpl: too large\n'))
+        self.file('A.SRC', b'*\n' * 131_073)
+        self.assertEqual(self.refusal('b.a', b' COPY "A.SRC"\n'), (1, b'b.a: too large\n'))
+
+    def test_a_run_that_ends_otherwise(self):
+        for exits, status, reason in (('exit 3', 3, b'a file that it copies cannot be read'),
+                                      ('exit 5', 5, b'out of memory'),
+                                      ('exit 9', 9, b'the program ended with status 9'),
+                                      ('kill -TERM $$', 143, b'the program ended with status -15')):
+            self.file('program', b'#!/bin/sh\ncat >/dev/null\n' + exits.encode()).chmod(0o755)
+            self.assertEqual(self.refusal('a.a', b'', '--program', './program'), (status, b'a.a: ' + reason + b'\n'))
+
+    def test_notes(self):
+        for ending, source, cause, note in NOTES:
+            with self.subTest(source):
+                name, number = f'a.{ending}', source.count(b'\n') + 1
+                status, text = self.refusal(name, source + b'\n')
+                place = f'{name}:{number}: '.encode()
+                wanted = [place + cause.encode(), place + b'note: ' + note.encode(), b'']
+                lines = text.split(b'\n')
+                self.assertEqual((status, lines[:1] + lines[2:]), (1, wanted))
+
+    def test_no_line_that_is_accepted_would_have_a_note(self):
+        causes = ('bad label', 'unknown operation', 'operand count', 'bad operand', 'bad token', 'bad directive')
+        for words in (TOP / 'examples').glob('*/words'):
+            if words.read_text().split()[0] in ('asm', 'gasm', 'run', 'trace', 'watch'):
+                for line in (words.parent / 'input').read_text(encoding='latin-1').splitlines():
+                    found = [] if line[:1] == '*' or ' COPY ' in line else [notes.note(line, cause) for cause in causes]
+                    self.assertFalse(any(found), line)
+
+    def test_no_note_without_certainty(self):
+        for ending, source in NO_NOTES:
+            with self.subTest(source):
+                status, text = self.refusal(f'a.{ending}', source + b'\n')
+                self.assertEqual((status, text.count(b'\n')), (1, 2), text)
+
+    def test_a_line_is_shown_without_control_codes_and_not_longer_than_it_may_be(self):
+        self.assertEqual(self.refusal('a.gpl', b' FOO \x1b[2J\t\xc3\xa9\r')[1],
+                         b'a.gpl:1: unknown operation\n     FOO \\x1b[2J\t\xc3\xa9\\x0d\n')
+        self.assertEqual(self.refusal('a.gpl', b' FOO' + 300 * b'x')[1],
+                         b'a.gpl:1: line too long\n     FOO' + 252 * b'x' + b' ..\n')
+
+    def test_names_are_bytes_in_every_locale(self):
+        name = os.fsdecode(b'caf\xe9.gpl')
+        for locale in ('C', 'C.UTF-8', 'POSIX'):
+            self.assertTrue(self.refusal(name, b' FOO\n', LC_ALL=locale)[1].startswith(b'caf\xe9.gpl:1: '))
+
+    def test_a_link_is_called_by_its_own_name(self):
+        self.file('a.txt', b'')
+        (self.folder / 'ti_bench-assemble').symlink_to(TOOLS / 'assemble')
+        ended = subprocess.run(['./ti_bench-assemble', 'a.txt'], capture_output=True, cwd=self.folder)
+        self.assertTrue(ended.stderr.startswith(b'ti_bench-assemble: a.txt: '), ended.stderr)
+
+
+class Unreadable(Calling):
+    def test_files_that_cannot_be_read_or_written(self):
+        self.file('a.gpl', ACCEPTED)
+        (self.folder / 'sub').mkdir()
+        for words, status, text in (
+                (['none.gpl'], 3, 'none.gpl: No such file or directory'),
+                (['none.gpl', '-o', 'a.gpl'], 3, 'none.gpl: No such file or directory'),
+                (['sub', '--gpl'], 3, 'sub: Is a directory'),
+                (['a.gpl', '-o', 'sub'], 3, 'sub: Is a directory'),
+                (['a.gpl', '-o', 'none/out'], 3, 'none/out: No such file or directory'),
+                (['a.gpl', '-o', 'a.gpl'], 2, 'a.gpl: this is the source itself'),
+                (['a.gpl', '--program', './none'], 3, 'no program ./none')):
+            with self.subTest(words):
+                ended = self.call('assemble', *words)
+                self.assertEqual((ended.returncode, ended.stderr.decode()), (status, f'tools/assemble: {text}\n'))
+        self.assertEqual((self.folder / 'a.gpl').read_bytes(), ACCEPTED)
+
+
+if __name__ == '__main__':
+    unittest.main()

@@ -1,0 +1,129 @@
+"""Tests of lib.installation, lib.distribution and lib.elf. tests/install tries whole installations."""
+import os
+import pathlib
+import re
+import shutil
+import subprocess
+
+from calling import TOP, Calling
+from lib import command, distribution, elf
+from lib.distribution import File, Link
+from lib.installation import LIST, Installation
+
+FIRST = {'lib/ti_bench/tools/a': File(b'one', True), 'lib/ti_bench/lib/m.py': File(b'm = 1\n'),
+         'bin/a': Link('lib/ti_bench/tools/a')}
+SECOND = {'lib/ti_bench/tools/b': File(b'two'), 'bin/a': Link('lib/ti_bench/tools/b')}
+
+
+class Installations(Calling):
+    def setUp(self):
+        super().setUp()
+        self.prefix = self.folder / 'a/prefix'
+
+    def files(self):
+        """All files and links of the folder of the test."""
+        return sorted(str(path.relative_to(self.folder)) for path in self.folder.rglob('*')
+                      if path.is_symlink() or path.is_file())
+
+    def test_files_are_put_replaced_and_removed_with_the_folders_made_for_them(self):
+        self.assertEqual(Installation(self.prefix).put(FIRST), [])
+        self.assertEqual((self.prefix / 'bin/a').read_bytes(), b'one')
+        self.assertEqual((self.prefix / 'lib/ti_bench/tools/a').stat().st_mode & 0o777, 0o755)
+        self.file('a/prefix/lib/ti_bench/lib/__pycache__/m.cpython-39.pyc', b'')
+        self.assertEqual(Installation(self.prefix).put(SECOND), [])
+        self.assertEqual(self.files(), [f'a/prefix/{path}' for path in sorted([LIST, *SECOND])])
+        self.assertFalse((self.prefix / 'lib/ti_bench/lib').exists())
+        self.assertEqual(Installation(self.prefix).remove(), [])
+        self.assertEqual(list(self.folder.iterdir()), [])
+
+    def test_files_of_others_stop_it_before_anything_is_written(self):
+        for name in ('a/prefix/bin/a', 'a/prefix/lib', 'a', 'a/prefix/lib/ti_bench/tools/a/other'):
+            with self.subTest(name=name):
+                other = self.file(name, b'of another')
+                with self.assertRaisesRegex(command.Stopped, re.escape(name.removesuffix('/other'))):
+                    Installation(self.prefix).put(FIRST)
+                self.assertEqual(self.files(), [name])
+                other.unlink()
+                shutil.rmtree(self.folder / 'a', ignore_errors=True)
+
+    def test_what_has_changed_is_neither_replaced_nor_removed(self):
+        Installation(self.prefix).put(FIRST)
+        self.file('a/prefix/lib/ti_bench/lib/m.py', b'm = 2\n')
+        self.assertEqual(Installation(self.prefix).put(SECOND), ['lib/ti_bench/lib/m.py'])
+        (self.prefix / 'bin/a').unlink()
+        (self.prefix / 'bin/a').symlink_to('elsewhere')
+        with self.assertRaisesRegex(command.Stopped, 'bin/a'):
+            Installation(self.prefix).put(FIRST)
+        self.assertEqual(Installation(self.prefix).remove(), ['bin/a'])
+        self.assertEqual(self.files(), ['a/prefix/bin/a', 'a/prefix/lib/ti_bench/lib/m.py'])
+
+    def test_one_that_was_stopped_is_made_whole_by_the_next(self):
+        class Stopping(Installation):
+            """An installation that is stopped at its second file."""
+            def write(self, path, file):
+                if path == 'bin/a':
+                    raise KeyboardInterrupt
+                super().write(path, file)
+
+        Installation(self.prefix).put(FIRST)
+        with self.assertRaises(KeyboardInterrupt):
+            Stopping(self.prefix).put(SECOND)
+        self.assertEqual(Installation(self.prefix).put(SECOND), [])
+        Installation(self.prefix).remove()
+        self.assertEqual(list(self.folder.iterdir()), [])
+
+    def test_a_link_leads_right_from_a_folder_that_is_one_itself(self):
+        (self.folder / 'elsewhere/deep').mkdir(parents=True)
+        self.prefix.mkdir(parents=True)
+        (self.prefix / 'bin').symlink_to(self.folder / 'elsewhere/deep')
+        Installation(self.prefix).put(FIRST)
+        self.assertEqual((self.folder / 'elsewhere/deep/a').read_bytes(), b'one')
+        Installation(self.prefix).remove()
+        self.assertTrue((self.prefix / 'bin').is_symlink())
+
+    def test_a_list_that_is_none_or_leads_outside_is_refused(self):
+        for text in (b'something else\n', b'file\t00\t../outside\n', b'file\t00\t/etc/passwd\n'):
+            self.file(f'a/prefix/{LIST}', text)
+            with self.assertRaises(command.Stopped):
+                Installation(self.prefix)
+
+    def test_nothing_to_remove_is_said(self):
+        with self.assertRaisesRegex(command.Stopped, 'nothing was installed'):
+            Installation(self.prefix).remove()
+
+
+class HandedOut(Calling):
+    def test_each_tool_has_a_command_and_all_that_documents_name_is_there(self):
+        found = distribution.files(os.environ['TI_BENCH'])
+        placed = distribution.installed(found)
+        for tool in distribution.TOOLS:
+            self.assertIn(placed[f'bin/ti_bench-{tool}'].target, placed)
+        self.assertTrue(placed['lib/ti_bench/tools/launcher'].executable)
+        listed = re.search(r'^## Documents\n(.*?)\n\n', (TOP / 'README.md').read_text('utf-8'), re.M | re.S)
+        links = re.findall(r'\]\(([^)]+)\)', listed[1] if listed else '')
+        self.assertEqual([link for link in links if link not in found], [])
+
+    def test_a_file_that_is_missing_is_named(self):
+        with self.assertRaisesRegex(command.Stopped, 'tools/install is missing'):
+            distribution.files(os.environ['TI_BENCH'], self.folder)
+
+
+class Libraries(Calling):
+    def test_they_are_those_that_readelf_tells(self):
+        if not shutil.which('readelf'):
+            self.skipTest('no readelf here')
+        for path in (os.environ['TI_BENCH'], '/bin/sh', '/usr/bin/env'):
+            dynamic = subprocess.run(['readelf', '-dVW', path], capture_output=True, text=True).stdout
+            program = elf.Program(pathlib.Path(path).read_bytes(), path)
+            self.assertEqual(program.libraries(), re.findall(r'\(NEEDED\).*\[(.*)\]', dynamic))
+            self.assertEqual(sorted(version for versions in program.versions().values() for version in versions),
+                             sorted(re.findall(r'Name: (\S+)  Flags', dynamic)))
+
+    def test_another_file_is_no_program(self):
+        for data in (b'', b'#!/bin/sh\n', b'\x7fELF\x01\x01' + bytes(60)):
+            with self.assertRaisesRegex(command.Stopped, 'is no program for Linux on x86-64'):
+                elf.Program(data, 'x')
+
+    def test_the_newest_version_is_by_its_numbers(self):
+        self.assertEqual(elf.newest(['GLIBC_2.4', 'GLIBC_2.34', 'GLIBC_2.2.5', 'GLIBC_PRIVATE']), '2.34')
+        self.assertEqual(elf.newest([]), '')
