@@ -11,7 +11,7 @@ use Rattle.report_defs.specs.Commands.{command_of}
 use Rattle.bench_io.specs.Stream.{SourceState}
 use Rattle.reports.specs.Run.{Run, EndsSaid, EndsBy}
 use Rattle.reports.specs.RunLaws.{HasNoFault}
-use Rattle.reports.proofs.Runs.{written, usage_answer}
+use Rattle.reports.proofs.Runs.{written, usage_answer, no_miss}
 use Rattle.report_defs.specs.Commands.{reads}
 use Rattle.bench_commands.specs.InputRun.{Shows}
 use Rattle.bench_commands.specs.Bench.{bench_input, bench_program}
@@ -83,3 +83,29 @@ pub answers_steadily : (words : List (List ℕ)) (input input' : Supply) (s : St
 answers_steadily words input input' s e =
     answers_by (run_of words input input' e.out e.err) input s (command_of words) refl
     (no_fault words input input' e.out e.err) e.ends (is_memory s)
+
+-- no fault is reported where none rose
+none_read : (run : Run Command SourceState) (found : Option Command) → HasNoFault bench_program run
+    → EndsSaid bench_program found run status.ReadFault → ⊥
+none_read run None none ends = let is = usage_answer bench_program run status.ReadFault none ends in absurd (cc)
+none_read run (Some command) none (nothing, failed) = none.reading failed.1
+
+none_write : (run : Run Command SourceState) (found : Option Command) → HasNoFault bench_program run
+    → EndsSaid bench_program found run status.WriteFault → ⊥
+none_write run None none ends = let is = usage_answer bench_program run status.WriteFault none ends in absurd (cc)
+none_write run (Some command) none (inl (report, on, missed)) = no_miss run.outputs report none.out none.err missed
+none_write run (Some command) none (inr (front, on, missed)) = no_miss run.outputs front none.out none.err missed
+
+pub no_read_fault : (words : List (List ℕ)) (input input' : Supply) (s : Status) → EndsSteadily words input input' s
+    → s ≢ status.ReadFault
+no_read_fault words input input' s e is =
+    let run = run_of words input input' e.out e.err in
+    none_read run (command_of words) (no_fault words input input' e.out e.err)
+    (subst (λ (t : Status). EndsBy bench_program run t) is e.ends)
+
+pub no_write_fault : (words : List (List ℕ)) (input input' : Supply) (s : Status) → EndsSteadily words input input' s
+    → s ≢ status.WriteFault
+no_write_fault words input input' s e is =
+    let run = run_of words input input' e.out e.err in
+    none_write run (command_of words) (no_fault words input input' e.out e.err)
+    (subst (λ (t : Status). EndsBy bench_program run t) is e.ends)

@@ -18,7 +18,7 @@ pub record IsProgram {C W X : Type 0} (p : Program C W X) : Type 0 where
   pub fails : (command : C) (before after : W) → p.ReadFails command before after → p.Fails before after
 
 -- no report is missed by outputs that do not fail
-no_miss : (o : Outputs) (report : Report) → (Rose o.out.faults o.out'.faults → ⊥)
+pub no_miss : (o : Outputs) (report : Report) → (Rose o.out.faults o.out'.faults → ⊥)
     → (Rose o.err.faults o.err'.faults → ⊥) → MissedReport o report → ⊥
 no_miss o (Whole status pieces) out err missed = out missed.0.rose
 no_miss o (Faulty fault) out err missed = err missed.0.rose
