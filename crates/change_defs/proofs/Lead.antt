@@ -2,7 +2,7 @@
 use Rattle.std.proofs.Common.{◌≡◌, ℕ, zero, suc, ◌+◌, Bool, true, false, cond, nat_eq, ◌&&◌, List, [], ◌∷◌, ◌++◌, length, take, drop, replicate}
 use Rattle.std.proofs.Common.{refl, sym, ap, ap₂, ◌∙◌, append_assoc, length-append, arith}
 use Rattle.std.proofs.lemmas.Bool.Decides.{nat_tests}
-use Rattle.change_defs.specs.Changes.{Change, joined, changes_from, changes, changed, applied, ChangesLead}
+use Rattle.change_defs.specs.Changes.{Change, joined, changes_from, changed, applied, ChangesLead}
 
 take_front : (p a : List ℕ) → take (length p) (p ++ a) ≡ p
 take_front [] a = refl

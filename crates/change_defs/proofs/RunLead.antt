@@ -8,7 +8,7 @@ use Rattle.gpl_step_defs.specs.Run.{GplRun, one_more, run}
 use Rattle.gpl_step_defs.proofs.KeptSteps.{steps_keep_states}
 use Rattle.report_defs.specs.Trace.{SeenState, seen_state}
 use Rattle.change_defs.specs.Changes.{changes, applied}
-use Rattle.change_defs.specs.Steps.{step_changes, state_applied, changes_after, state_by_changes, RunChangesLead}
+use Rattle.change_defs.specs.Steps.{step_changes, state_applied, changes_after, RunChangesLead}
 use Rattle.change_defs.proofs.Lead.{changes_lead}
 
 abbrev seen : List ℕ → List ℕ → List ℕ → SeenState
@@ -24,10 +24,10 @@ state_changes_lead s next p q =
     ∙ ap (λ r. seen next.cells next.vdp r)
     (changes_lead s.registers next.registers (p.registers.size ∙ sym q.registers.size))
 
-abbrev LeavesState : GplRun → Type 0
+abbrev pub LeavesState : GplRun → Type 0
 LeavesState r = IsState r.last
 
-runs_keep : (limit : ℕ) (s : GplState) → IsState s → LeavesState (run limit s)
+pub runs_keep : (limit : ℕ) (s : GplState) → IsState s → LeavesState (run limit s)
 runs_keep zero s is = is
 runs_keep (suc limit) s is = by (runs_keep limit) (step s) (steps_keep_states.keeps s is)
   where

@@ -1,10 +1,10 @@
 -- The text of the changes of a step determines them.
-use Rattle.std.proofs.Common.{◌≡◌, ℕ, zero, suc, ◌+◌, ◌-◌, ◌*◌, ◌/◌, ◌%◌, ◌^◌, ◌<◌, ◌≤◌, Bool, true, false, not, eqb, cond, nat_eq, ◌&&◌}
-use Rattle.std.proofs.Common.{List, [], ◌∷◌, ◌++◌, length, get_or, refl, sym, ap, ap₂, ◌∙◌, subst, append_assoc, append-nil, arith}
+use Rattle.std.proofs.Common.{◌≡◌, ℕ, ◌+◌, ◌/◌, ◌%◌, ◌^◌, ◌<◌, ◌≤◌, Bool, true, false, not, eqb, cond, nat_eq, ◌&&◌}
+use Rattle.std.proofs.Common.{List, [], ◌∷◌, ◌++◌, refl, sym, ap, ap₂, ◌∙◌, subst, append_assoc, append-nil, arith}
 use Rattle.std.specs.Prelude.{◌==◌, codes}
 use Rattle.std.specs.Fmt.{decimal}
 use Rattle.std.proofs.lemmas.Fmt.{decimal_by_steps}
-use Rattle.std.proofs.lemmas.Bool.{agree_below, agree_below_at}
+use Rattle.std.proofs.lemmas.Bool.{agree_below_at}
 use Rattle.std.proofs.lemmas.Bool.Decides.{nat_tests}
 use Rattle.source_defs.specs.Numbers.{hexadecimal_digit, is_hexadecimal_digit, digit_value}
 use Rattle.source_defs.specs.Digits.{byte_digits, word_digits, marked_word}
@@ -14,7 +14,7 @@ use Rattle.change_defs.specs.declared.part.Part.TheVariants.{Cells, Video, Regis
 use Rattle.change_defs.specs.Changes.{Change}
 use Rattle.change_defs.specs.Steps.{StepChanges}
 use Rattle.change_defs.specs.Text.{size_of, place_text, repeated_text, change_text, change_texts, part_text, step_text}
-use Rattle.debug_report_defs.specs.Reader.{Sign, Digit, sign_of, Reading, Phase, Nothing, Place, Byte, Times, with_change, between, with_last, ended, after_sign, read_from, changes_of_text}
+use Rattle.debug_report_defs.specs.Reader.{Digit, sign_of, Reading, Phase, Place, Byte, Times, with_change, between, ended, after_sign, read_from, changes_of_text}
 
 read_append : (r : Reading) (a b : List ℕ) → read_from r (a ++ b) ≡ read_from (read_from r a) b
 read_append r [] b = refl
@@ -52,8 +52,10 @@ module _ (made : StepChanges) (part : Part) (at : ℕ) where
         where
           is : (d : ℕ) → d < 10 → is_hexadecimal_digit (48 + d) ≡ true
           is d lt = agree_below_at (λ d. is_hexadecimal_digit (48 + d)) (λ d. true) 10 d refl lt
+
           value : (d : ℕ) → d < 10 → digit_value (48 + d) ≡ d
           value d lt = eqb_same _ _ (agree_below_at (λ d. eqb (digit_value (48 + d)) d) (λ d. true) 10 d refl lt)
+
           sign : (d : ℕ) → d < 10 → sign_of (48 + d) ≡ Digit d
           sign d lt = rw (is d lt, value d lt) refl
 
@@ -203,4 +205,4 @@ step_read made fit =
     let all = part_read Registers made.registers (read_from (read_from begun a) b) (record { cells = made.cells; vdp = made.vdp; registers = [] }) vdp fit.registers in
     ap (λ (r : Reading). (ended r).made)
     (read_append begun (a ++ (b ++ c)) (codes "\n") ∙ read_append begun a (b ++ c) ∙ read_append (read_from begun a) b c)
-    ∙ ap (λ (r : Reading). r.made) all.2.1
+    ∙ ap (λ (r : Reading). r.made) all.2

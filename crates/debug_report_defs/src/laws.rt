@@ -14,7 +14,8 @@ pub fn debug_fronts_begin_reports()
     ensures { DebugFrontsBeginReports }
 {}
 
-/// The changes that the lines of `gsteps` show lead from the first state of a program to the state after each step.
+/// The changes that are read from the lines of `gsteps` lead from the first state of a program to the state after each
+/// step.
 #[tactic(auto, using(crate::proofs::ReportLaws::lines_give_states))]
 pub fn lines_give_states()
     ensures { LinesGiveStates }
