@@ -99,9 +99,9 @@ module _ (shows : ShowsChanges) (input : List ℕ) (trace : Trace) (t : TracesSo
   module _ {C : Type 0} (p : InputCommands C) (no_usage : HasNoUsage p) (command : C) (before after : SourceState) (o : Outputs)
       (takes : TakesWhole (p.reads command) before after input)
       (whole : (report : spec.Report) → spec.ProgramReport (spec.ReportsProgram (spec.shown_lines shows) trace.limit) (program_of_source input) report
-          → p.Accepted command input report)
+      → p.Accepted command input report)
       (front : (report : spec.Report) → (length input ≤ spec.largest_input) × spec.ProgramReport (spec.ShowsSteps shows trace.limit) (program_of_source input) report
-          → p.FrontOn command input report) where
+      → p.FrontOn command input report) where
     pub by_trace : (st : Status) → EndsTrace shows o trace st
         → EndsBy (input_program p) (run_of p no_usage command before after o) st
     by_trace st (inl w) =

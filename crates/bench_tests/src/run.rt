@@ -57,7 +57,10 @@ pub(crate) fn run_with(
     let mut input = MemSource::new(input, Vec::from_slice(alloc, take_fails)?);
     let mut out = MemSink::new(alloc, 16384, Vec::from_slice(alloc, put_fails)?)?;
     let mut err = MemSink::new(alloc, 16384, Vec::from_slice(alloc, put_fails)?)?;
-    let status = if words.first().is_some_and(|name| *name == b"gsteps".as_slice()) {
+    let status = if words
+        .first()
+        .is_some_and(|name| *name == b"gsteps".as_slice())
+    {
         debug(alloc, &list, &mut input, &mut out, &mut err)
     } else {
         bench_with(alloc, &list, &mut input, shelf, &mut out, &mut err)

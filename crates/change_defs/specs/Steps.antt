@@ -28,11 +28,11 @@ state_applied made s =
       registers = applied made.registers s.registers;
     }
 
--- the changes of the step after so many steps
+-- the changes of the next step after this number of steps
 abbrev pub changes_after : GplState → ℕ → StepChanges
 changes_after s made = step_changes (seen_state (run made s).last) (seen_state (run (made + 1) s).last)
 
--- the first state of a run, with the changes of so many of its steps made, one step after the other
+-- the first state of a run, with the changes of this number of its steps made, one step after the other
 abbrev pub state_by_changes : GplState → ℕ → SeenState
 state_by_changes s zero = seen_state s
 state_by_changes s (suc earlier) = state_applied (changes_after s earlier) (state_by_changes s earlier)

@@ -46,5 +46,5 @@ module _ (limit : ℕ) (before after : SourceState) (o : Outputs) (bytes : List 
       end ends
   by_steps end (inr (answer, reported, ends)) =
       let accepted = reported_as (spec.ProgramReport RunsNone (program_of_source bytes)) (AcceptedReport (Gsteps limit) bytes) WantsMemory answer
-          (program_none (spec.ReportsProgram (spec.shown_lines all_changes_text) limit) (program_of_source bytes)) reported in
+      (program_none (spec.ReportsProgram (spec.shown_lines all_changes_text) limit) (program_of_source bytes)) reported in
       by_answer debug_input no_usage (Gsteps limit) before after o bytes takes answer end accepted ends

@@ -1,6 +1,6 @@
 //! The program, over any input and outputs.
 
-ghost use Rattle.std.specs.Prelude.{Some};
+ghost use Rattle.std.specs.Prelude.{◌≡◌, Some};
 ghost use Rattle.debug_report_defs.specs.Words.{debug_command, KeepsLimit};
 ghost use Rattle.reports.specs.Run.{EndsBy};
 ghost use Rattle.debug_commands.specs.Debug.{debug_program};
@@ -77,7 +77,13 @@ fn run_debug_command<S: Source, O: Sink, E: Sink>(
         Ok(bytes) => bytes,
         Err(error) => return finish(&Err(error.into()), out, err),
     };
-    match command {
-        DebugCommand::Gsteps { limit } => gsteps(alloc, limit, bytes.as_slice(), out, err),
-    }
+    gsteps(alloc, steps_of(command), bytes.as_slice(), out, err)
+}
+
+/// The most steps of `gsteps`, which is the only command.
+fn steps_of(command: DebugCommand) -> u32
+    ensures { command ≡ DebugCommand.Gsteps result }
+{
+    let DebugCommand::Gsteps { limit } = command;
+    limit
 }

@@ -25,11 +25,11 @@ DebugFrontsBeginReports =
     (command : DebugCommand) (input : List ℕ) (front report : Report)
     → FrontOn command input front → ReportOn command input report → Begins front report
 
--- what the line of the step after so many steps has after its front
+-- what the line of the next step after this number of steps has after its front
 abbrev pub text_after : GplState → ℕ → List ℕ
 text_after s made = step_text (changes_after s made) ++ codes "\n"
 
--- the first state of a run, with the changes made that are read from the lines of so many of its steps
+-- the first state of a run, with the changes made that are read from the lines of this number of its steps
 abbrev pub state_by_texts : GplState → ℕ → SeenState
 state_by_texts s zero = seen_state s
 state_by_texts s (suc earlier) = state_applied (changes_of_text (text_after s earlier)) (state_by_texts s earlier)
