@@ -36,6 +36,13 @@ class Program:
         return Run(ended.returncode, ended.stdout, ended.stderr)
 
 
+def other(program, name):
+    """Another program of the repository: the one that a variable names, as TI_DEBUG, or the one that is built in the
+    folder of its crate as the given program is in its own."""
+    path = os.environ.get(name.upper())
+    return Program(path or str(pathlib.Path(program.path).parents[2] / name / 'out' / name))
+
+
 def option(parser, use='run'):
     """The option that names another program, and what is done with it."""
     parser.add_argument('--program', metavar='PATH', help=f'the program to {use}, in place of the one that belongs to '

@@ -5,10 +5,8 @@ use Rattle.std.specs.Prelude.{MatchBool, nat_lt}
 use Rattle.std.specs.Option.{option_map}
 use Rattle.std.proofs.lemmas.Bool.Decides.{nat_tests}
 use Rattle.bench_io.specs.Stream.{SourceState, IsAtEnd}
-use Rattle.report_defs.specs.declared.command.Command.{Command}
 use Rattle.report_defs.specs.declared.fault.Fault.TheVariants.{TooLarge}
-use Rattle.report_defs.specs.Commands.{reads}
-use Rattle.report_defs.specs.Report.{Report, Faulty, largest_input, AcceptedReport, OnInput, ReportOn}
+use Rattle.report_defs.specs.Report.{Report, Faulty, largest_input, OnInput}
 use Rattle.interp_defs.proofs.MachinesOfRuns.{machines_match_steps}
 use Rattle.line_table.proofs.Joined.{source_gives_words}
 use Rattle.report_defs.proofs.OneReport.{one_report}
@@ -20,7 +18,9 @@ use Rattle.report_defs.proofs.EnteredWords.{entered_words_come_back, entered_wor
 use Rattle.word_listings.proofs.LinkLaw.{entered_listings_link}
 use Rattle.word_listings.proofs.ListingLaw.{entered_listings_come_back}
 use Rattle.reports.proofs.Runs.{IsProgram, laws_of}
-use Rattle.bench_commands.specs.Bench.{ReadsInput, Reads, Reports, Shows, bench_program}
+use Rattle.reports.specs.RunLaws.{OneReport}
+use Rattle.bench_commands.specs.InputRun.{ReadsInput, Reads, InputCommands, Reports, Shows, Fails, ReadFails, input_program}
+use Rattle.bench_commands.specs.Bench.{bench_input, bench_program}
 use Rattle.bench_commands.specs.Laws.{LawsOfRuns}
 
 -- a report on bytes that were taken is one on all bytes of the input
@@ -50,18 +50,26 @@ on_all Accepted before after bytes input report told reading on = left after.lef
         by rest is all (nat_lt largest_input (length bytes)) refl on
 
 -- the report of a command on what it took is the report on what was shown
-pub shown : (command : Command) (before after : SourceState) (input : List ℕ) (report : Report) → Shows command before input
-    → Reports command before after report → ReportOn command input report
-shown command before after input report shows (bytes, reading, on) = by (reads command) shows reading
+pub shown : {C : Type 0} (p : InputCommands C) (command : C) (before after : SourceState) (input : List ℕ) (report : Report)
+    → Shows p command before input → Reports p command before after report → OnInput (p.Accepted command) input report
+shown p command before after input report shows (bytes, reading, on) = by (p.reads command) shows reading
   where
     by : (read : Bool) → MatchBool read (before.left ≡ Some input) (input ≡ []) → Reads read before after bytes
-        → ReportOn command input report
-    by true shows reading = on_all (AcceptedReport command) before after bytes input report shows reading on
-    by false none (same, nothing) = subst (λ b. ReportOn command b report) (nothing ∙ sym none) on
+        → OnInput (p.Accepted command) input report
+    by true shows reading = on_all (p.Accepted command) before after bytes input report shows reading on
+    by false none (same, nothing) = subst (λ b. OnInput (p.Accepted command) b report) (nothing ∙ sym none) on
+
+-- a program over one input, by its one report
+pub over_input : {C : Type 0} (p : InputCommands C) → OneReport (input_program p) → IsProgram (input_program p)
+over_input p one =
+    record {
+      one_report = one;
+      shown = λ command before after input report. shown p command before after input report;
+      fails = λ command before after failed. failed.1;
+    }
 
 pub is_program : IsProgram bench_program
-is_program =
-    record { one_report = one_report; shown = shown; fails = λ command before after failed. failed.1 }
+is_program = over_input bench_input one_report
 
 pub laws : LawsOfRuns
 laws =

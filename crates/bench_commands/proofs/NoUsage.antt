@@ -59,7 +59,7 @@ exec_no_usage : (limit : ℕ) (found : Result LinkedMemory (List ℕ)) (report :
 exec_no_usage limit (Ok linked) report on = same_no_usage report _ on.is (end_no_usage on.ending)
 exec_no_usage limit (Err line) report is = same_no_usage report (Rejected line) is (λ e. absurd cc)
 
-program_none : (lines : ProgramRun → List (List ℕ)) (limit : ℕ) (source : List ℕ) (report : Report)
+pub program_none : (lines : ProgramRun → List (List ℕ)) (limit : ℕ) (source : List ℕ) (report : Report)
     → ProgramReport (ReportsProgram lines limit) (program_of_source source) report → IsNoUsage report
 program_none lines limit source report on =
     source_no_usage (ReportsProgram lines limit)

@@ -13,7 +13,8 @@ use Rattle.reports.specs.Run.{Run, EndsSaid, EndsBy}
 use Rattle.reports.specs.RunLaws.{HasNoFault}
 use Rattle.reports.proofs.Runs.{written, usage_answer, no_miss}
 use Rattle.report_defs.specs.Commands.{reads}
-use Rattle.bench_commands.specs.Bench.{Shows, bench_program}
+use Rattle.bench_commands.specs.InputRun.{Shows}
+use Rattle.bench_commands.specs.Bench.{bench_input, bench_program}
 use Rattle.bench_commands.specs.Steady.{AnswersSteadily, EndsSteadily, read_of, steady_source, steady_sink}
 use Rattle.bench_commands.proofs.Laws.{is_program}
 
@@ -59,7 +60,7 @@ is_memory status.Memory = inl refl
 is_memory status.Stopped = inr (λ e. absurd cc)
 
 -- such an input shows its bytes
-shows : (command : Command) (input : Supply) → Shows command (steady_source input) (read_of command input.left)
+shows : (command : Command) (input : Supply) → Shows bench_input command (steady_source input) (read_of command input.left)
 shows command input = by (reads command)
   where
     by : (reading : Bool)
@@ -73,7 +74,7 @@ answers_by : (run : Run Command SourceState) (input : Supply) (s : Status) (foun
 answers_by run input s None is none ends memory = usage_answer bench_program run s none ends
 answers_by run input s (Some command) is none ends (inl memory) = inr memory
 answers_by run input s (Some command) is none ends (inr some) =
-    let shown = subst (λ source. Shows command source (read_of command input.left)) (sym is) (shows command input) in
+    let shown = subst (λ source. Shows bench_input command source (read_of command input.left)) (sym is) (shows command input) in
     let w = written bench_program is_program command run (read_of command input.left) s shown none ends some in
     inl (w.report, w.reported, w.status_is)
 

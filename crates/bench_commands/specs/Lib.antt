@@ -1,4 +1,5 @@
 pub mod LinkedInput
+pub mod InputRun
 pub mod Bench
 pub mod Ran
 pub mod Loaded

@@ -16,8 +16,8 @@ use Rattle.report_defs.specs.declared.status.Status.{Status}
 use Rattle.report_defs.specs.declared.status.Status.TheVariants.{WriteFault}
 use Rattle.report_defs.specs.Commands.{most_steps}
 use Rattle.report_defs.specs.Program.{program_lines, program_status}
-use Rattle.report_defs.specs.Trace.{seen_state, step_lines}
-use Rattle.report_defs.specs.Report.{Whole, AcceptedReport}
+use Rattle.report_defs.specs.Trace.{ShowsChanges, seen_state, step_lines, changes_text}
+use Rattle.report_defs.specs.Report.{Whole, AcceptedReport, ProgramReport}
 use Rattle.bench_commands.specs.declared.commands.program.LoadedProgram.{LoadedProgram}
 use Rattle.bench_commands.specs.declared.prepared.Prepared.{Prepared}
 use Rattle.bench_commands.specs.declared.prepared.Prepared.TheVariants as prepared
@@ -25,7 +25,7 @@ use Rattle.bench_commands.specs.declared.trace.Trace.{Trace}
 use Rattle.reports.specs.declared.unreported.Unreported.{Unreported}
 use Rattle.reports.specs.Made.{defined_report}
 use Rattle.reports.specs.Answers.{WantsMemory, Reported, error_answer}
-use Rattle.bench_commands.specs.Loaded.{LoadsProgram}
+use Rattle.bench_commands.specs.Loaded.{LoadsProgram, RunsNone}
 use Rattle.reports.specs.Outputs.{Outputs, EndsWith}
 
 -- The interpreter has booted on a machine, and stands before the first step of the program.
@@ -50,6 +50,12 @@ pub record TracesSource (input : List ℕ) (trace : Trace) : Type 0 where
   pub started : Started new.machine trace.session
   pub can : CanTrace trace
 
+-- a trace of a source for up to so many steps, or why there is none
+abbrev pub StartsTrace : ℕ → List ℕ → Result Trace Unreported → Type 0
+StartsTrace limit input (Ok trace) = (trace.limit ≡ limit) × TracesSource input trace
+StartsTrace limit input (Err unreported) =
+    Reported (ProgramReport RunsNone (program_of_source input)) WantsMemory (error_answer unreported)
+
 -- what is made of an input that is not too large, or why nothing is
 abbrev pub Prepares : Command → List ℕ → Result Prepared Unreported → Type 0
 Prepares command input (Ok (prepared.Report report)) = AcceptedReport command input (defined_report report)
@@ -57,24 +63,24 @@ Prepares command input (Ok (prepared.Trace trace)) = (command ≡ asked.Trace tr
 Prepares command input (Err unreported) = Reported (AcceptedReport command input) WantsMemory (error_answer unreported)
 
 -- The program was run, and its report was written, or a front of it.
-pub record TracesWhole (o : Outputs) (trace : Trace) (status : Status) : Type 0 where
+pub record TracesWhole (shows : ShowsChanges) (o : Outputs) (trace : Trace) (status : Status) : Type 0 where
   pub left : SessionState
   pub memory : IsMemory left.machine.cpu.memory
   pub count : ℕ
   pub runs : RunsSteps (seen trace.session) trace.limit count trace.session.machine left.machine
   pub ended : left.ended ≡ (run trace.limit (seen trace.session)).stop
   pub ends : let s = seen trace.session in
-      let lines = step_lines s (run trace.limit s).done ++ program_lines left.ended (seen left) left.machine in
+      let lines = step_lines shows s (run trace.limit s).done ++ program_lines left.ended (seen left) left.machine in
       EndsWith o (Whole (program_status left.ended) lines) status
 
 -- The line of a step could not be written.
-pub record BreaksOff (o : Outputs) (trace : Trace) (status : Status) : Type 0 where
+pub record BreaksOff (shows : ShowsChanges) (o : Outputs) (trace : Trace) (status : Status) : Type 0 where
   pub is : status ≡ WriteFault
-  pub missed : let s = seen trace.session in Missed o.out o.out' (step_lines s (run trace.limit s).done)
+  pub missed : let s = seen trace.session in Missed o.out o.out' (step_lines shows s (run trace.limit s).done)
   pub silent : o.err' ≡ o.err
 
-abbrev pub EndsTrace : Outputs → Trace → Status → Type 0
-EndsTrace o trace status = TracesWhole o trace status ⊎ BreaksOff o trace status
+abbrev pub EndsTrace : ShowsChanges → Outputs → Trace → Status → Type 0
+EndsTrace shows o trace status = TracesWhole shows o trace status ⊎ BreaksOff shows o trace status
 
 abbrev pub CanFinish : Prepared → Type 0
 CanFinish (prepared.Report report) = Unit {0}
@@ -83,4 +89,4 @@ CanFinish (prepared.Trace trace) = CanTrace trace
 -- how what was made ends
 abbrev pub Finishes : Outputs → Prepared → Status → Type 0
 Finishes o (prepared.Report report) status = EndsWith o (defined_report report) status
-Finishes o (prepared.Trace trace) status = EndsTrace o trace status
+Finishes o (prepared.Trace trace) status = EndsTrace changes_text o trace status

@@ -10,7 +10,7 @@ mod interp;
 mod link;
 pub(crate) mod program;
 mod run;
-mod trace;
+pub(crate) mod trace;
 
 ghost use Rattle.std.specs.Prelude.{◌≤◌, vec_len};
 ghost use Rattle.report_defs.specs.Commands.{KeepsLimit};

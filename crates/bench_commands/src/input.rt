@@ -4,7 +4,7 @@ ghost use Rattle.std.specs.Prelude.{◌≡◌, IsTrue, IfOk, IfErr, OnErr};
 ghost use Rattle.report_defs.specs.Commands as spec;
 ghost use Rattle.report_defs.specs.Report.{largest_input};
 ghost use Rattle.bench_io.specs.ReadAll.{GaveUp};
-ghost use Rattle.bench_commands.specs.Bench.{TakesWhole};
+ghost use Rattle.bench_commands.specs.InputRun.{TakesWhole};
 
 use bench_io::{ReadError, Source, read_all};
 use report_defs::{Command, LARGEST_INPUT};

@@ -10,5 +10,7 @@ mod steady;
 mod trace;
 
 pub use crate::commands::program::{LoadedProgram, load_program};
+pub use crate::commands::trace::start_trace;
 pub use crate::running::{bench, run_command};
 pub use crate::steady::bench_steady;
+pub use crate::trace::Trace;

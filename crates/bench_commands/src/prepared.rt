@@ -6,6 +6,7 @@ use crate::trace::Trace;
 use bench_io::Sink;
 use report_defs::Status;
 use reports::{Report, finish};
+use trace_dump::FirstChanges;
 
 /// What a command has made. Nothing takes memory from here on.
 #[derive(Drop)]
@@ -29,7 +30,7 @@ impl Prepared {
     {
         match self {
             Prepared::Report(report) => finish(&Ok(report), out, err),
-            Prepared::Trace(trace) => trace.finish(out, err),
+            Prepared::Trace(trace) => trace.finish(&mut FirstChanges::new(), out, err),
         }
     }
 }

@@ -1,4 +1,4 @@
-//! A trace, which is written while its program runs.
+//! A GPL program whose steps are shown, which is written while it runs.
 
 ghost use Rattle.std.specs.Prelude.{◌≡◌, ◌<◌, ◌≤◌, ℕ, None};
 ghost use Rattle.gpl_run.specs.Sessions as sessions;
@@ -14,11 +14,11 @@ use reports::{Report, finish};
 use std::marker::Brand;
 use std::sync::ledger::{Blank, Ledger};
 use tms_step::Steps;
-use trace_dump::{Seen, play};
+use trace_dump::{Seen, StepLine, play};
 
 /// A GPL program that stands before its first step, what is seen of it, and how many steps are to be made at most.
 #[derive(Drop)]
-pub(crate) struct Trace {
+pub struct Trace {
     pub(crate) session: Session,
     pub(crate) seen: Seen,
     pub(crate) limit: u32,
@@ -27,9 +27,14 @@ pub(crate) struct Trace {
 impl Trace {
     /// Runs the program and writes the line of each step once it is made; then the program's end, its last state and
     /// the dump. The status is that of the program's end, or a write fault.
-    pub(crate) fn finish<O: Sink, E: Sink>(self, out: &mut O, err: &mut E) -> Status
+    pub fn finish<T: StepLine, O: Sink, E: Sink>(
+        self,
+        line: &mut T,
+        out: &mut O,
+        err: &mut E,
+    ) -> Status
         requires { CanTrace self }
-        ensures { EndsTrace (record {
+        ensures { EndsTrace T.shows (record {
           out = O.state out.old;
           out' = O.state out.new;
           err = E.state err.old;
@@ -41,7 +46,8 @@ impl Trace {
             mut seen,
             limit,
         } = self;
-        if play_session::<O, Brand>(&mut session, &mut seen, limit, out, Blank::new(1)).is_err() {
+        let blank = Blank::new(1);
+        if play_session::<T, O, Brand>(&mut session, &mut seen, line, limit, out, blank).is_err() {
             return Status::WriteFault;
         }
         session.machine().holds_bounds();
@@ -50,9 +56,10 @@ impl Trace {
 }
 
 /// Runs a program that is running, and writes the lines of its steps.
-fn play_session<O: Sink, L: Ledger>(
+fn play_session<T: StepLine, O: Sink, L: Ledger>(
     session: &mut Session,
     seen: &mut Seen,
+    line: &mut T,
     limit: u32,
     out: &mut O,
     blank: Blank,
@@ -64,8 +71,8 @@ fn play_session<O: Sink, L: Ledger>(
     requires kept { seen.old ≡ seen_state (sessions.seen session.old) }
     requires limit { limit ≤ most_steps }
     ensures { (before : ℕ) × (after : ℕ)
-        × Plays limit session.old session.new before after (O.state out.old) (O.state out.new) result }
+        × Plays T.shows limit session.old session.new before after (O.state out.old) (O.state out.new) result }
 {
     let mut steps = Steps::<L>::new(blank);
-    play(session, seen, limit, out, &mut steps)
+    play(session, seen, line, limit, out, &mut steps)
 }

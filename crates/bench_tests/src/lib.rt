@@ -1,4 +1,4 @@
-//! Runs of the program's commands over sources, shelves and sinks in memory. The crate holds tests alone, so that the
+//! Runs of the programs' commands over sources, shelves and sinks in memory. The crate holds tests alone, so that the
 //! crates below it are proved once.
 #![tactic(auto)]
 
@@ -22,6 +22,8 @@ mod gdis;
 mod gpl_programs;
 #[cfg(test)]
 mod gpl_rows;
+#[cfg(test)]
+mod gsteps;
 #[cfg(test)]
 mod interp;
 #[cfg(test)]

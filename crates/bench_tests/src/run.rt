@@ -3,6 +3,7 @@
 use bench_io::{MemSink, MemSource};
 use bench_shelf::MemShelf;
 use command_words::Words;
+use debug_commands::debug;
 use report_defs::Status;
 use std::alloc::{AllocError, Global};
 use workbench::bench_with;
@@ -43,7 +44,7 @@ pub(crate) fn run(
     run_with(alloc, words, input, &mut shelf, take_fails, put_fails)
 }
 
-/// The same over a shelf.
+/// The same over a shelf. The word `gsteps` is one of `ti_debug`.
 pub(crate) fn run_with(
     alloc: Global,
     words: &[&[u8]],
@@ -56,7 +57,14 @@ pub(crate) fn run_with(
     let mut input = MemSource::new(input, Vec::from_slice(alloc, take_fails)?);
     let mut out = MemSink::new(alloc, 16384, Vec::from_slice(alloc, put_fails)?)?;
     let mut err = MemSink::new(alloc, 16384, Vec::from_slice(alloc, put_fails)?)?;
-    let status = bench_with(alloc, &list, &mut input, shelf, &mut out, &mut err);
+    let status = if words
+        .first()
+        .is_some_and(|name| *name == b"gsteps".as_slice())
+    {
+        debug(alloc, &list, &mut input, &mut out, &mut err)
+    } else {
+        bench_with(alloc, &list, &mut input, shelf, &mut out, &mut err)
+    };
     Ok(Ended {
         status,
         out,

@@ -1,7 +1,9 @@
 //! The tables of rows of all commands.
 
 use super::rows::failed_rows;
-use super::{asm, dis, exec, files, gasm, gdis, gpl_programs, gpl_rows, link, trace, watch};
+use super::{
+    asm, dis, exec, files, gasm, gdis, gpl_programs, gpl_rows, gsteps, link, trace, watch,
+};
 use std::test::Fail;
 
 /// The tables, by the commands that they run.
@@ -14,6 +16,7 @@ const TABLES: &[&str] = &[
     gdis::ROWS,
     gpl_programs::ROWS,
     gpl_rows::ROWS,
+    gsteps::ROWS,
     link::ROWS,
     trace::ROWS,
     watch::ROWS,

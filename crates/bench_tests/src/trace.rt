@@ -12,7 +12,7 @@ use std::marker::Brand;
 use std::sync::ledger::{Blank, Ledger};
 use std::test::Fail;
 use tms_step::{Machine, Steps};
-use trace_dump::{Seen, play};
+use trace_dump::{FirstChanges, Seen, play};
 
 /// A cartridge that sets up the video processor and then calls a subroutine three times, which branches by a table.
 pub(crate) const CARTRIDGE: &[u8] =
@@ -362,7 +362,14 @@ fn played_behind<L: Ledger>(
     }
     let mut seen = Seen::new(alloc, session.machine())?;
     let mut out = MemSink::new(alloc, 200, Vec::new(alloc))?;
-    match play(&mut session, &mut seen, 1, &mut out, &mut steps) {
+    match play(
+        &mut session,
+        &mut seen,
+        &mut FirstChanges::new(),
+        1,
+        &mut out,
+        &mut steps,
+    ) {
         Ok(1) => Ok(Some(out)),
         _ => Ok(None),
     }

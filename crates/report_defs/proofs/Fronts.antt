@@ -13,17 +13,17 @@ use Rattle.report_defs.specs.declared.command.Command.TheVariants.{Asm, Gasm, Di
 use Rattle.report_defs.specs.declared.fault.Fault.TheVariants.{TooLarge}
 use Rattle.report_defs.specs.declared.status.Status.TheVariants.{Done}
 use Rattle.report_defs.specs.Program.{program_status}
-use Rattle.report_defs.specs.Trace.{step_lines}
-use Rattle.report_defs.specs.Report.{Report, Whole, Faulty, largest_input, AcceptedReport, ReportOn}
-use Rattle.report_defs.specs.Report.{ReportsProgram, ShowsSteps, EnteredReport, ProgramReport, run_lines, trace_lines}
+use Rattle.report_defs.specs.Trace.{ShowsChanges, step_lines, changes_text}
+use Rattle.report_defs.specs.Report.{Report, Whole, Faulty, largest_input, AcceptedReport, OnInput}
+use Rattle.report_defs.specs.Report.{ReportsProgram, ShowsSteps, EnteredReport, ProgramReport, run_lines, shown_lines}
 use Rattle.report_defs.specs.Laws.{Begins, FrontsBeginReports}
 use Rattle.report_defs.proofs.OneReport.{one_bytes}
 
--- the lines of the steps begin those of the trace
-begins_trace : (limit : ℕ) (image : Image) (entry : ℕ) (front report : Report) → ShowsSteps limit image entry front
-    → ReportsProgram trace_lines limit image entry report → Begins front report
-begins_trace limit image entry front report p q =
-    let shown : List ℕ → Report = λ (b : List ℕ). Whole Done (step_lines (start b entry) (run limit (start b entry)).done) in
+-- the lines of the steps begin the report of the run
+begins_shown : (shows : ShowsChanges) (limit : ℕ) (image : Image) (entry : ℕ) (front report : Report)
+    → ShowsSteps shows limit image entry front → ReportsProgram (shown_lines shows) limit image entry report → Begins front report
+begins_shown shows limit image entry front report p q =
+    let shown : List ℕ → Report = λ (b : List ℕ). Whole Done (step_lines shows (start b entry) (run limit (start b entry)).done) in
     let bytes : p.bytes ≡ q.bytes = one_bytes image p.bytes q.bytes p.of_image q.of_image in
     let same : front ≡ shown q.bytes = p.is ∙ ap shown bytes in
     let s = start q.bytes entry in
@@ -31,32 +31,33 @@ begins_trace limit image entry front report p q =
     let whole : Begins (shown q.bytes) report = (program_status r.stop, run_lines (record { image = image; begun = s; made = r; left = q.left }), q.is) in
     subst (λ f. Begins f report) (sym same) whole
 
-begins_entered : (limit : ℕ) (image : Image) (entry : Option ℕ) (front report : Report)
-    → EnteredReport (ShowsSteps limit) image entry front → EnteredReport (ReportsProgram trace_lines limit) image entry report
+begins_entered : (shows : ShowsChanges) (limit : ℕ) (image : Image) (entry : Option ℕ) (front report : Report)
+    → EnteredReport (ShowsSteps shows limit) image entry front
+    → EnteredReport (ReportsProgram (shown_lines shows) limit) image entry report
     → Begins front report
-begins_entered limit image (Some entry) front report p q = begins_trace limit image entry front report p q
-begins_entered limit image None front report p q = subst (λ f. Begins f report) (sym p) q
+begins_entered shows limit image (Some entry) front report p q = begins_shown shows limit image entry front report p q
+begins_entered shows limit image None front report p q = subst (λ f. Begins f report) (sym p) q
 
-begins_program : (limit : ℕ) (source : Result Program (Refusal GplCause)) (front report : Report)
-    → ProgramReport (ShowsSteps limit) source front → ProgramReport (ReportsProgram trace_lines limit) source report
+pub begins_program : (shows : ShowsChanges) (limit : ℕ) (source : Result Program (Refusal GplCause)) (front report : Report)
+    → ProgramReport (ShowsSteps shows limit) source front → ProgramReport (ReportsProgram (shown_lines shows) limit) source report
     → Begins front report
-begins_program limit (Ok program) front report p q = begins_entered limit program.image program.entry front report p q
-begins_program limit (Err refused) front report p q = subst (λ f. Begins f report) (sym p) q
+begins_program shows limit (Ok program) front report p q = begins_entered shows limit program.image program.entry front report p q
+begins_program shows limit (Err refused) front report p q = subst (λ f. Begins f report) (sym p) q
 
 -- the report on an input that is not too large
-accepted : (command : Command) (input : List ℕ) (report : Report) → length input ≤ largest_input
-    → ReportOn command input report → AcceptedReport command input report
-accepted command input report within on = by (nat_lt largest_input (length input)) refl on
+pub accepted : (Accepted : List ℕ → Report → Type 0) (input : List ℕ) (report : Report) → length input ≤ largest_input
+    → OnInput Accepted input report → Accepted input report
+accepted Accepted input report within on = by (nat_lt largest_input (length input)) refl on
   where
     by : (large : Bool) → nat_lt largest_input (length input) ≡ large
-        → MatchBool large (report ≡ Faulty TooLarge) (AcceptedReport command input report)
-        → AcceptedReport command input report
+        → MatchBool large (report ≡ Faulty TooLarge) (Accepted input report)
+        → Accepted input report
     by true is on = absurd (grind (arith, nat_tests))
     by false is on = on
 
 pub fronts_begin_reports : FrontsBeginReports
 fronts_begin_reports (Trace limit) input front report p q =
-    begins_program limit (program_of_source input) front report p.1 (accepted (Trace limit) input report p.0 q)
+    begins_program changes_text limit (program_of_source input) front report p.1 (accepted (AcceptedReport (Trace limit)) input report p.0 q)
 fronts_begin_reports Asm input front report p q = absurd p
 fronts_begin_reports Gasm input front report p q = absurd p
 fronts_begin_reports (Dis at) input front report p q = absurd p

@@ -113,7 +113,7 @@ one_bytes image xs ys p q =
     same_list xs ys size (λ at below. p.each at below ∙ sym (q.each at (omega arith)))
 
 -- one report of a program
-one_program : (lines : ProgramRun → List (List ℕ)) (limit : ℕ) (image : Image) (entry : ℕ) (first second : Report) →
+pub one_program : (lines : ProgramRun → List (List ℕ)) (limit : ℕ) (image : Image) (entry : ℕ) (first second : Report) →
     ReportsProgram lines limit image entry first → ReportsProgram lines limit image entry second → first ≡ second
 one_program lines limit image entry first second p q =
     let bytes : p.bytes ≡ q.bytes = one_bytes image p.bytes q.bytes p.of_image q.of_image in

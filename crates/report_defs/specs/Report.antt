@@ -36,7 +36,7 @@ use Rattle.report_defs.specs.MemoryListing.{linked_lines}
 use Rattle.report_defs.specs.ObjectInput.{linked_input}
 use Rattle.report_defs.specs.Exec.{Executes, exec_lines, end_status}
 use Rattle.report_defs.specs.Program.{program_lines, program_status}
-use Rattle.report_defs.specs.Trace.{step_lines}
+use Rattle.report_defs.specs.Trace.{ShowsChanges, step_lines, changes_text}
 use Rattle.report_defs.specs.DemoText.{demo_text}
 use Rattle.report_defs.specs.Summary.{summary_of, summary_lines}
 use Rattle.report_defs.specs.Commands.{most_steps}
@@ -119,9 +119,13 @@ pub record ProgramRun : Type 0 where
 abbrev pub run_lines : ProgramRun → List (List ℕ)
 run_lines p = program_lines p.made.stop p.made.last p.left
 
--- `trace` shows each step by its line, and then what `run` writes
+-- each step by its line, and then what `run` writes
+abbrev pub shown_lines : ShowsChanges → ProgramRun → List (List ℕ)
+shown_lines shows p = step_lines shows p.begun p.made.done ++ run_lines p
+
+-- `trace` shows the first changes of each step
 abbrev pub trace_lines : ProgramRun → List (List ℕ)
-trace_lines p = step_lines p.begun p.made.done ++ run_lines p
+trace_lines = shown_lines changes_text
 
 -- `demo` writes the summary of the run
 abbrev pub demo_lines : ℕ → ProgramRun → List (List ℕ)
@@ -140,11 +144,11 @@ pub record ReportsProgram (lines : ProgramRun → List (List ℕ)) (limit : ℕ)
       report ≡ Whole (program_status r.stop) (lines (record { image = image; begun = s; made = r; left = left }))
 
 -- The lines of a program's steps, without what follows them.
-pub record ShowsSteps (limit : ℕ) (image : Image) (entry : ℕ) (front : Report) : Type 0 where
+pub record ShowsSteps (shows : ShowsChanges) (limit : ℕ) (image : Image) (entry : ℕ) (front : Report) : Type 0 where
   pub bytes : List ℕ
   pub of_image : AreBytesOf image bytes
   pub is : let s = start bytes entry in
-      front ≡ Whole Done (step_lines s (run limit s).done)
+      front ≡ Whole Done (step_lines shows s (run limit s).done)
 
 -- What is reported of a program with an image and an entry. Profile: one without an entry is refused.
 abbrev pub EnteredReport : (Image → ℕ → Report → Type 0) → Image → Option ℕ → Report → Type 0
@@ -183,5 +187,5 @@ ReportOn command = OnInput (AcceptedReport command)
 -- each step once it is made. Such lines are a front of the report.
 abbrev pub FrontOn : Command → List ℕ → Report → Type 0
 FrontOn (Trace limit) input front =
-    (length input ≤ largest_input) × ProgramReport (ShowsSteps limit) (program_of_source input) front
+    (length input ≤ largest_input) × ProgramReport (ShowsSteps changes_text limit) (program_of_source input) front
 FrontOn command input front = ⊥

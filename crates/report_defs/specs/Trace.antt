@@ -1,4 +1,5 @@
--- What `trace` shows of each step: its number, the state before it with the instruction there, and what it changed.
+-- The line of a step: its number, the state before it with the instruction there, and what it changed. `trace` shows of
+-- what changed how many bytes they are, and the first.
 use Rattle.std.specs.Prelude.{ℕ, ◌+◌, ◌-◌, List, [], ◌∷◌, ◌++◌, codes, length, map, replicate, slice_index}
 use Rattle.std.specs.Prelude.{Option, Some, None}
 use Rattle.std.specs.List.{range_with_len}
@@ -53,11 +54,15 @@ changes_text before after =
     ++ (changed_text (codes " V") marked_word before.vdp after.vdp
     ++ changed_text (codes " W") register_place before.registers after.registers)
 
+-- how a line shows what a step changed, by what was seen before and after the step
+abbrev pub ShowsChanges : Type 0
+ShowsChanges = SeenState → SeenState → List ℕ
+
 -- the line of a step from one state to the next
-abbrev pub step_line : ℕ → GplState → GplState → List ℕ
-step_line number s next = step_front number s ++ (changes_text (seen_state s) (seen_state next) ++ codes "\n")
+abbrev pub step_line : ShowsChanges → ℕ → GplState → GplState → List ℕ
+step_line shows number s next = step_front number s ++ (shows (seen_state s) (seen_state next) ++ codes "\n")
 
 -- The lines of so many steps from a state on, numbered from 1.
-unfoldable pub step_lines : GplState → ℕ → List (List ℕ)
-step_lines s count =
-    map (λ made. step_line (made + 1) (run made s).last (run (made + 1) s).last) (range_with_len 0 count)
+unfoldable pub step_lines : ShowsChanges → GplState → ℕ → List (List ℕ)
+step_lines shows s count =
+    map (λ made. step_line shows (made + 1) (run made s).last (run (made + 1) s).last) (range_with_len 0 count)

@@ -3,12 +3,9 @@
 
 use bench_io::{StdSink, StdSource};
 use bench_shelf::DirShelf;
-use command_words::Words;
+use command_words::{Words, program_words};
 use report_defs::Status;
-use std::alloc::AllocError;
-use std::env;
-use std::env::Env;
-use std::io::{BufWriter, ErrorKind, Write};
+use std::io::{BufWriter, Write};
 use std::process::ExitCode;
 use workbench::bench_with;
 
@@ -16,7 +13,7 @@ use workbench::bench_with;
 /// folder. Standard output is buffered, where there is memory for that, and else it is not: so `bench_with` is called
 /// in either case.
 fn main(rt: HostRuntime) -> ExitCode {
-    let Ok(words) = command_words(&rt) else {
+    let Ok(words) = program_words(&rt) else {
         return ExitCode::from(Status::Memory as u8);
     };
     let Ok(mut output) = BufWriter::new(rt.alloc(), rt.stdout()) else {
@@ -39,20 +36,4 @@ fn run<W: Write + Drop>(rt: &HostRuntime, words: &Words, output: W) -> Status {
         &mut StdSink::new(output),
         &mut StdSink::new(rt.stderr()),
     )
-}
-
-/// The words behind the program's name; or the one word `?`, which is no command, where they cannot be had, as where
-/// one of them is no UTF-8.
-fn command_words<R: Env + AllocGlobal>(rt: &R) -> Result<Words, AllocError> {
-    let mut words = Words::new(rt.alloc());
-    match env::args(rt) {
-        Ok(args) => {
-            for arg in args.skip(1) {
-                words.push(arg.as_bytes())?;
-            }
-        }
-        Err(error) if error.kind() == ErrorKind::OutOfMemory => return Err(AllocError),
-        Err(_) => words.push(b"?")?,
-    }
-    Ok(words)
 }

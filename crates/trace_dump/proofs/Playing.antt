@@ -18,7 +18,7 @@ use Rattle.interp_defs.specs.Turned.{TurnedBy, Turned}
 use Rattle.sim_steps.specs.Running.{RunsTurns}
 use Rattle.sim_steps.proofs.Running.{Stepping, none_yet, stepped, stopped, whole, last_is, done_at_least}
 use Rattle.gpl_run.specs.Sessions.{SessionState, IsSession, seen, address_in, ended_by}
-use Rattle.report_defs.specs.Trace.{SeenState, seen_state, step_front, changes_text, step_line, step_lines}
+use Rattle.report_defs.specs.Trace.{SeenState, ShowsChanges, seen_state, step_front, step_line, step_lines}
 use Rattle.trace_dump.specs.Plays.{PlaysWhole, BreaksOff}
 use Rattle.trace_dump.proofs.Ranges.{mapped_split}
 
@@ -29,30 +29,30 @@ pub matches_of : (t : SessionState) → t.ended ≡ None → IsSession t.machine
 matches_of t e h = subst (IsSession t.machine) e h
 
 -- the lines of steps, and the one behind them
-abbrev line_at : GplState → ℕ → List ℕ
-line_at s made = step_line (made + 1) (run made s).last (run (made + 1) s).last
+abbrev line_at : ShowsChanges → GplState → ℕ → List ℕ
+line_at shows s made = step_line shows (made + 1) (run made s).last (run (made + 1) s).last
 
-pub one_more_line : (s : GplState) (made : ℕ) → step_lines s (made + 1) ≡ step_lines s made ++ line_at s made ∷ []
+pub one_more_line : (shows : ShowsChanges) (s : GplState) (made : ℕ) → step_lines shows s (made + 1) ≡ step_lines shows s made ++ line_at shows s made ∷ []
 unfolding step_lines
-one_more_line s made = mapped_split (line_at s) made 1
+one_more_line shows s made = mapped_split (line_at shows s) made 1
 
 -- the lines of fewer steps are a front of those of more
-pub lines_behind : (s : GplState) (made done : ℕ) → made ≤ done → (rest : List (List ℕ)) × (step_lines s done ≡ step_lines s made ++ rest)
+pub lines_behind : (shows : ShowsChanges) (s : GplState) (made done : ℕ) → made ≤ done → (rest : List (List ℕ)) × (step_lines shows s done ≡ step_lines shows s made ++ rest)
 unfolding step_lines
-lines_behind s made done le =
+lines_behind shows s made done le =
     let sum : made + (done - made) ≡ done = omega arith in
-    (map (line_at s) (range_with_len made (done - made)), ap (λ (n : ℕ). step_lines s n) (sym sum) ∙ mapped_split (line_at s) made (done - made))
+    (map (line_at shows s) (range_with_len made (done - made)), ap (λ (n : ℕ). step_lines shows s n) (sym sum) ∙ mapped_split (line_at shows s) made (done - made))
 
 -- So many steps were made and shown.
-pub record Playing (x y : SessionState) (t u made : ℕ) (o o' : SinkState) (kept : SeenState) : Type 0 where
+pub record Playing (shows : ShowsChanges) (x y : SessionState) (t u made : ℕ) (o o' : SinkState) (kept : SeenState) : Type 0 where
   pub stepping : Stepping made (seen x) x.machine y.machine t u
   pub running : y.ended ≡ None
   pub kept_is : kept ≡ seen_state (seen y)
-  pub wrote : Wrote o o' (step_lines (seen x) made)
+  pub wrote : Wrote o o' (step_lines shows (seen x) made)
 
-pub begun : (x : SessionState) (t : ℕ) (o : SinkState) (kept : SeenState) → x.ended ≡ None → IsSession x.machine x.ended → kept ≡ seen_state (seen x) → Playing x x t t 0 o o kept
+pub begun : (shows : ShowsChanges) (x : SessionState) (t : ℕ) (o : SinkState) (kept : SeenState) → x.ended ≡ None → IsSession x.machine x.ended → kept ≡ seen_state (seen x) → Playing shows x x t t 0 o o kept
 unfolding step_lines
-begun x t o kept e h is = record {
+begun shows x t o kept e h is = record {
   stepping = subst (λ (s : GplState). Stepping 0 s x.machine x.machine t t) (sym (seen_running x e)) (none_yet (matches_of x e h));
   running = e;
   kept_is = is;
@@ -70,7 +70,7 @@ halted_by : (z w : MachineState) (u v : ℕ) (reason : Reason) (r : Result GplSt
 halted_by z w u v reason (Ok next) t = absurd (let a = t.0 in cc)
 halted_by z w u v reason (Err other) t = same_seen (shown_by w.cpu.memory) (shown_by z.cpu.memory) t.2.cells t.2.vdp t.2.registers
 
-module _ (x y z : SessionState) (t u v made : ℕ) (o o' : SinkState) (kept : SeenState) (p : Playing x y t u made o o' kept) where
+module _ (shows : ShowsChanges) (x y z : SessionState) (t u v made : ℕ) (o o' : SinkState) (kept : SeenState) (p : Playing shows x y t u made o o' kept) where
   -- the state before the step
   before_is : seen y ≡ (run made (seen x)).last
   before_is = seen_running y p.running ∙ p.stepping.matches.shows ∙ sym (last_is made p.stepping z.machine v)
@@ -80,7 +80,7 @@ module _ (x y z : SessionState) (t u v made : ℕ) (o o' : SinkState) (kept : Se
     abbrev stops : Turned (shown_by y.machine.cpu.memory) 0 y.machine z.machine u v (Stopped reason)
     stops = subst (λ (a : Turn). Turned (shown_by y.machine.cpu.memory) 0 y.machine z.machine u v a) is turned
 
-    pub stops_whole : (limit : ℕ) → made < limit → PlaysWhole limit x z t v o o' made
+    pub stops_whole : (limit : ℕ) → made < limit → PlaysWhole shows limit x z t v o o' made
     stops_whole limit less = record {
       runs = subst (RunsTurns (seen x) limit x.machine z.machine t v made) (sym (ended ∙ ap ended_by is))
           (stopped made p.stepping z.machine v limit reason less stops);
@@ -103,27 +103,27 @@ module _ (x y z : SessionState) (t u v made : ℕ) (o o' : SinkState) (kept : Se
 
     -- the line that was made is that of the step
     module _ (front line : List ℕ) (number : ℕ) (first : front ≡ step_front number (seen y)) (numbered : number ≡ made + 1)
-        (ends : line ≡ front ++ (changes_text kept (seen_state (shown_by z.machine.cpu.memory)) ++ codes "\n")) where
-      pub line_is : line ≡ line_at (seen x) made
+        (ends : line ≡ front ++ (shows kept (seen_state (shown_by z.machine.cpu.memory)) ++ codes "\n")) where
+      pub line_is : line ≡ line_at shows (seen x) made
       line_is =
-          let after : List ℕ = changes_text kept (seen_state (seen z)) ++ codes "\n" in
+          let after : List ℕ = shows kept (seen_state (seen z)) ++ codes "\n" in
           ends
           ∙ ap (λ (f : List ℕ). f ++ after) first
           ∙ ap (λ (n : ℕ). step_front n (seen y) ++ after) numbered
-          ∙ ap (λ (k : SeenState). step_front (made + 1) (seen y) ++ (changes_text k (seen_state (seen z)) ++ codes "\n")) p.kept_is
-          ∙ ap (λ (s : GplState). step_line (made + 1) s (seen z)) before_is
-          ∙ ap (λ (s : GplState). step_line (made + 1) (run made (seen x)).last s) after_is
+          ∙ ap (λ (k : SeenState). step_front (made + 1) (seen y) ++ (shows k (seen_state (seen z)) ++ codes "\n")) p.kept_is
+          ∙ ap (λ (s : GplState). step_line shows (made + 1) s (seen z)) before_is
+          ∙ ap (λ (s : GplState). step_line shows (made + 1) (run made (seen x)).last s) after_is
 
-      pub shown : (o2 : SinkState) (kept2 : SeenState) → Wrote o' o2 (line ∷ []) → kept2 ≡ seen_state (shown_by z.machine.cpu.memory) → Playing x z t v (made + 1) o o2 kept2
+      pub shown : (o2 : SinkState) (kept2 : SeenState) → Wrote o' o2 (line ∷ []) → kept2 ≡ seen_state (shown_by z.machine.cpu.memory) → Playing shows x z t v (made + 1) o o2 kept2
       shown o2 kept2 wrote k = record {
         stepping = more;
         running = runs_on;
         kept_is = k;
-        wrote = subst (Wrote o o2) (ap (λ (l : List ℕ). step_lines (seen x) made ++ l ∷ []) line_is ∙ sym (one_more_line (seen x) made))
-            (wrote_more o o' o2 (step_lines (seen x) made) (line ∷ []) p.wrote wrote);
+        wrote = subst (Wrote o o2) (ap (λ (l : List ℕ). step_lines shows (seen x) made ++ l ∷ []) line_is ∙ sym (one_more_line shows (seen x) made))
+            (wrote_more o o' o2 (step_lines shows (seen x) made) (line ∷ []) p.wrote wrote);
       }
 
-      pub breaks_off : (limit : ℕ) (o2 : SinkState) → made < limit → Missed o' o2 (line ∷ []) → BreaksOff limit x z t v o o2
+      pub breaks_off : (limit : ℕ) (o2 : SinkState) → made < limit → Missed o' o2 (line ∷ []) → BreaksOff shows limit x z t v o o2
       breaks_off limit o2 less missed =
           let within : made + 1 ≤ (run limit (seen x)).done = done_at_least (made + 1) limit (seen x) more.now more.steps_are (omega arith) in
           record {
@@ -137,18 +137,18 @@ module _ (x y z : SessionState) (t u v made : ℕ) (o o' : SinkState) (kept : Se
           }
 
 -- what was written is a front of the lines of all steps up to the limit
-pub breaks_front : (limit : ℕ) (x y : SessionState) (t u : ℕ) (o o' : SinkState) → BreaksOff limit x y t u o o' → Missed o o' (step_lines (seen x) (run limit (seen x)).done)
-breaks_front limit x y t u o o' b =
+pub breaks_front : (shows : ShowsChanges) (limit : ℕ) (x y : SessionState) (t u : ℕ) (o o' : SinkState) → BreaksOff shows limit x y t u o o' → Missed o o' (step_lines shows (seen x) (run limit (seen x)).done)
+breaks_front shows limit x y t u o o' b =
     let s = seen x in
     let less = b.within in
-    let behind = lines_behind s (b.shown + 1) (run limit s).done (omega arith) in
-    let here : Missed o o' (step_lines s (b.shown + 1)) =
-    subst (Missed o o') (sym (one_more_line s b.shown)) (missed_more o b.between o' (step_lines s b.shown) (line_at s b.shown ∷ []) b.wrote b.missed) in
-    subst (Missed o o') (sym behind.1) (missed_early o o' (step_lines s (b.shown + 1)) behind.0 here)
+    let behind = lines_behind shows s (b.shown + 1) (run limit s).done (omega arith) in
+    let here : Missed o o' (step_lines shows s (b.shown + 1)) =
+    subst (Missed o o') (sym (one_more_line shows s b.shown)) (missed_more o b.between o' (step_lines shows s b.shown) (line_at shows s b.shown ∷ []) b.wrote b.missed) in
+    subst (Missed o o') (sym behind.1) (missed_early o o' (step_lines shows s (b.shown + 1)) behind.0 here)
 
-pub plays_whole : (limit made : ℕ) (x y : SessionState) (t u : ℕ) (o o' : SinkState) (kept : SeenState) → made ≡ limit → Playing x y t u made o o' kept → PlaysWhole limit x y t u o o' limit
-plays_whole limit made x y t u o o' kept all p =
-    let q : Playing x y t u limit o o' kept = subst (λ (m : ℕ). Playing x y t u m o o' kept) all p in
+pub plays_whole : (shows : ShowsChanges) (limit made : ℕ) (x y : SessionState) (t u : ℕ) (o o' : SinkState) (kept : SeenState) → made ≡ limit → Playing shows x y t u made o o' kept → PlaysWhole shows limit x y t u o o' limit
+plays_whole shows limit made x y t u o o' kept all p =
+    let q : Playing shows x y t u limit o o' kept = subst (λ (m : ℕ). Playing shows x y t u m o o' kept) all p in
     record {
       runs = subst (RunsTurns (seen x) limit x.machine y.machine t u limit) (sym q.running) (whole limit q.stepping);
       wrote = q.wrote;

@@ -6,30 +6,32 @@ use Rattle.gpl_step_defs.specs.State.{GplState}
 use Rattle.gpl_step_defs.specs.Run.{run}
 use Rattle.sim_steps.specs.Running.{RunsTurns}
 use Rattle.gpl_run.specs.Sessions.{SessionState, seen}
-use Rattle.report_defs.specs.Trace.{step_line, step_lines}
+use Rattle.report_defs.specs.Trace.{ShowsChanges, step_line, step_lines}
 
 -- The run of up to so many steps was made, and the lines of all its steps were written.
-pub record PlaysWhole (limit : ℕ) (x y : SessionState) (before after : ℕ) (out out' : SinkState) (done : ℕ)
-    : Type 0 where
+pub record PlaysWhole (shows : ShowsChanges) (limit : ℕ) (x y : SessionState) (before after : ℕ) (out out' : SinkState)
+    (done : ℕ) : Type 0 where
   pub runs : RunsTurns (seen x) limit x.machine y.machine before after done y.ended
-  pub wrote : Wrote out out' (step_lines (seen x) done)
+  pub wrote : Wrote out out' (step_lines shows (seen x) done)
 
 -- the line of the step behind so many
-abbrev pub line_behind : GplState → ℕ → List ℕ
-line_behind s made = step_line (made + 1) (run made s).last (run (made + 1) s).last
+abbrev pub line_behind : ShowsChanges → GplState → ℕ → List ℕ
+line_behind shows s made = step_line shows (made + 1) (run made s).last (run (made + 1) s).last
 
 -- A line could not be written: those of the steps before it were, each by one call, and of it a front. Its step is the
 -- last that was made, and the program is running.
-pub record BreaksOff (limit : ℕ) (x y : SessionState) (before after : ℕ) (out out' : SinkState) : Type 0 where
+pub record BreaksOff (shows : ShowsChanges) (limit : ℕ) (x y : SessionState) (before after : ℕ) (out out' : SinkState)
+    : Type 0 where
   pub shown : ℕ
   pub within : shown < (run limit (seen x)).done
   pub runs : RunsTurns (seen x) (shown + 1) x.machine y.machine before after (shown + 1) None
   pub running : y.ended ≡ None
   pub between : SinkState
-  pub wrote : Wrote out between (step_lines (seen x) shown)
-  pub missed : Missed between out' (line_behind (seen x) shown ∷ [])
+  pub wrote : Wrote out between (step_lines shows (seen x) shown)
+  pub missed : Missed between out' (line_behind shows (seen x) shown ∷ [])
 
 -- A program was run for up to so many steps, and a counter shows its instructions; by the answer.
-abbrev pub Plays : {E : Type 0} → ℕ → SessionState → SessionState → ℕ → ℕ → SinkState → SinkState → Result ℕ E → Type 0
-Plays limit x y before after out out' (Ok done) = PlaysWhole limit x y before after out out' done
-Plays limit x y before after out out' (Err error) = BreaksOff limit x y before after out out'
+abbrev pub Plays : {E : Type 0} → ShowsChanges → ℕ → SessionState → SessionState → ℕ → ℕ → SinkState → SinkState
+    → Result ℕ E → Type 0
+Plays shows limit x y before after out out' (Ok done) = PlaysWhole shows limit x y before after out out' done
+Plays shows limit x y before after out out' (Err error) = BreaksOff shows limit x y before after out out'

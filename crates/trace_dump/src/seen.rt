@@ -29,9 +29,9 @@ const VIDEO_SIZE: usize = 16384;
 /// processor.
 #[derive(Drop)]
 pub struct Seen {
-    cells: [u8; CELLS],
-    vdp: Vec<u8>,
-    registers: [u8; 8],
+    pub(crate) cells: [u8; CELLS],
+    pub(crate) vdp: Vec<u8>,
+    pub(crate) registers: [u8; 8],
 }
 
 impl Model for Seen {
@@ -87,7 +87,7 @@ pub fn changes(line: &mut ArrayString<120>, seen: &mut Seen, machine: &Machine)
 }
 
 /// The cells of a machine that a GPL program sees.
-fn visible_cells(machine: &Machine) -> &[u8]
+pub(crate) fn visible_cells(machine: &Machine) -> &[u8]
     ensures cells { result.now ≡ (shown_by machine.now.cpu.memory).cells }
     ensures size { length result.now ≡ CELLS }
 {

@@ -6,7 +6,8 @@ ghost use Rattle.report_defs.specs.Trace.{seen_state};
 ghost use Rattle.trace_dump.specs.Plays.{Plays};
 
 use crate::line::trace_line;
-use crate::seen::{Seen, changes};
+use crate::seen::Seen;
+use crate::step_line::StepLine;
 use bench_io::{Failed, Sink, put_piece};
 use gpl_run::Session;
 use interp_defs::Turn;
@@ -14,15 +15,16 @@ use std::sync::ledger::Ledger;
 use tms_step::Steps;
 
 /// Runs a program that is running up to its end, and no more than `limit` steps, which are up to 100,000, and writes
-/// the line of each step, by one call, once it is made. The answer is how many steps were made. What is kept in `seen`
+/// the line of each step, by one call, once it is made. The result is how many steps were made. What is kept in `seen`
 /// is what the machine shows, before and after. No memory is taken.
 ///
 /// # Errors
 /// `Failed` comes where a line could not be written: those of the steps before it were, and of it a front. The sink's
 /// count of faults rose; the program is running, and its last step is that of the line that failed.
-pub fn play<O: Sink, L: Ledger>(
+pub fn play<T: StepLine, O: Sink, L: Ledger>(
     session: &mut Session,
     seen: &mut Seen,
+    line: &mut T,
     limit: u32,
     out: &mut O,
     steps: &mut Steps<L>,
@@ -30,16 +32,17 @@ pub fn play<O: Sink, L: Ledger>(
     requires running { session.old.ended ≡ None }
     requires kept { seen.old ≡ seen_state (sessions.seen session.old) }
     requires limit { limit ≤ 100000 }
-    ensures plays { Plays limit session.old session.new steps.old steps.new (O.state out.old) (O.state out.new) result }
+    ensures plays { Plays T.shows limit session.old session.new steps.old steps.new
+        (O.state out.old) (O.state out.new) result }
     ensures kept { seen.new ≡ seen_state (sessions.seen session.new) }
 {
     session.holds_match();
     for made in 0..limit {
-        let mut line = trace_line(session, made + 1);
+        line.begin(&trace_line(session, made + 1));
         if let Turn::Stopped(_) = session.next(steps) {
             return Ok(made);
         }
-        changes(&mut line, seen, session.machine());
+        line.end(seen, session.machine());
         put_piece(out, line.as_bytes())?;
     }
     Ok(limit)

@@ -34,7 +34,8 @@ use Rattle.reports.specs.Answers.{Ends, WantsMemory, Reported}
 use Rattle.reports.specs.Run.{Run, EndsSaid}
 use Rattle.reports.proofs.Runs.{by_report}
 use Rattle.reports.proofs.NoUsage.{IsNoUsage, same_no_usage, program_no_usage, large_no_usage, source_no_usage}
-use Rattle.bench_commands.specs.Bench.{TookWithin, bench_program}
+use Rattle.bench_commands.specs.InputRun.{TookWithin}
+use Rattle.bench_commands.specs.Bench.{bench_program}
 use Rattle.bench_commands.proofs.Ends.{reads_whole}
 use Rattle.workbench.specs.FileProgram.{Reading, Reports, file_program}
 use Rattle.workbench.specs.Answered.{FailsWith, AnswersWith}

@@ -18,6 +18,7 @@ use Rattle.file_report_defs.proofs.ListedFiles.{listed_words_come_back_with}
 use Rattle.bench_shelf.specs.States.{ShelfState}
 use Rattle.bench_shelf.proofs.FilesLaws.{module_of_shown}
 use Rattle.file_commands.specs.Reported.{CopyReported}
+use Rattle.bench_commands.specs.Bench.{bench_input}
 use Rattle.bench_commands.proofs.Laws as bench
 use Rattle.bench_commands.proofs.Laws.{on_all}
 use Rattle.reports.proofs.Runs.{IsProgram, laws_of}
@@ -51,7 +52,7 @@ shown (OverFiles (LinkFiles names)) before after read report shows (same, linked
 shown (OverFiles (Watch limit items)) before after read report shows (source, reading, same, on) =
     on_all (WatchReport limit items) before.input after.input source read.bytes report shows reading on
 shown (Plain command) before after read report shows (on, same) =
-    bench.shown command before.input after.input read.bytes report shows on
+    bench.shown bench_input command before.input after.input read.bytes report shows on
 
 fails : (command : ProgramCommand) (before after : Reading) → ReadFails command before after → Fails before after
 fails (OverFiles AsmFiles) before after (inl failed) = inl failed.0

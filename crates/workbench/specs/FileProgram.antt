@@ -16,8 +16,9 @@ use Rattle.bench_shelf.specs.Causes.{TookNoMore}
 use Rattle.bench_shelf.specs.Dialogue.{CopyDialogue}
 use Rattle.file_commands.specs.Reading.{LinkDialogue}
 use Rattle.file_commands.specs.Reported.{Failed, CopyReported, LinkReported}
-use Rattle.bench_commands.specs.Bench as plain
-use Rattle.bench_commands.specs.Bench.{ReadsInput, TookWithin}
+use Rattle.bench_commands.specs.Bench.{bench_input}
+use Rattle.bench_commands.specs.InputRun as plain
+use Rattle.bench_commands.specs.InputRun.{ReadsInput, TookWithin}
 use Rattle.reports.specs.Run.{Program}
 
 -- what the commands read: the input, and a shelf of files
@@ -47,13 +48,13 @@ Reports (OverFiles (Watch limit items)) before after report =
     (source : List ℕ) × ReadsInput before.input after.input source × (after.shelf ≡ before.shelf)
     × OnInput (WatchReport limit items) source report
 Reports (Plain command) before after report =
-    plain.Reports command before.input after.input report × (after.shelf ≡ before.shelf)
+    plain.Reports bench_input command before.input after.input report × (after.shelf ≡ before.shelf)
 
 -- a front of it, which is written before its end is known
 abbrev pub Begins : ProgramCommand → Reading → Reading → Report → Type 0
 Begins (OverFiles command) before after front = ⊥
 Begins (Plain command) before after front =
-    plain.Begins command before.input after.input front × (after.shelf ≡ before.shelf)
+    plain.Begins bench_input command before.input after.input front × (after.shelf ≡ before.shelf)
 
 -- The shelf is as it was, unless the input was taken whole before. Then it was asked for the files that the source
 -- copies, each as the next after the answers before.
@@ -73,7 +74,7 @@ Leaves (OverFiles (LinkFiles names)) before after =
     × (questions : List Question) × LinkDialogue before.shelf after.shelf names questions
 Leaves (OverFiles (Watch limit items)) before after =
     TookWithin before.input after.input × (after.shelf ≡ before.shelf)
-Leaves (Plain command) before after = plain.Leaves command before.input after.input × (after.shelf ≡ before.shelf)
+Leaves (Plain command) before after = plain.Leaves bench_input command before.input after.input × (after.shelf ≡ before.shelf)
 
 -- A call failed of what the command reads: of the input, and then no file was opened; or of the shelf, which `asm` asks
 -- for files after the input was taken whole, at the file that was asked for last.
@@ -87,7 +88,7 @@ ReadFails (OverFiles (LinkFiles names)) before after =
     (questions : List Question) × LinkDialogue before.shelf after.shelf names questions
     × Failed largest_input before.shelf after.shelf questions
 ReadFails (OverFiles (Watch limit items)) before after = plain.Fails before.input after.input
-ReadFails (Plain command) before after = plain.ReadFails command before.input after.input
+ReadFails (Plain command) before after = plain.ReadFails bench_input command before.input after.input
 
 -- a count of faults rose: of the input, or of the shelf
 abbrev pub Fails : Reading → Reading → Type 0
@@ -100,7 +101,7 @@ Shows (OverFiles AsmFiles) reading shown =
     (reading.input.left ≡ Some shown.bytes) × (reading.shelf.files ≡ Some shown.files)
 Shows (OverFiles (LinkFiles names)) reading shown = reading.shelf.files ≡ Some shown.files
 Shows (OverFiles (Watch limit items)) reading shown = reading.input.left ≡ Some shown.bytes
-Shows (Plain command) reading shown = plain.Shows command reading.input shown.bytes
+Shows (Plain command) reading shown = plain.Shows bench_input command reading.input shown.bytes
 
 abbrev pub file_program : Program ProgramCommand Reading Shown
 file_program =

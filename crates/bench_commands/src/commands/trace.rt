@@ -4,7 +4,7 @@ ghost use Rattle.std.specs.Prelude.{◌≡◌, ◌<◌, ◌≤◌, length};
 ghost use Rattle.gpl_run.specs.Sessions.{IsNew};
 ghost use Rattle.report_defs.specs.Report.{largest_input};
 ghost use Rattle.report_defs.specs.Commands.{most_steps};
-ghost use Rattle.bench_commands.specs.Traced.{Prepares, Started};
+ghost use Rattle.bench_commands.specs.Traced.{Prepares, Started, StartsTrace};
 
 use crate::commands::program::load_program;
 use crate::prepared::Prepared;
@@ -25,14 +25,27 @@ pub(crate) fn trace(alloc: Global, limit: u32, input: &[u8]) -> Result<Prepared,
     requires limit { limit ≤ most_steps }
     ensures { Prepares (Command.Trace limit) input.now result }
 {
+    Ok(Prepared::Trace(start_trace(alloc, limit, input)?))
+}
+
+/// A GPL source before the first step of its program, of which up to `limit` are to be shown; or why it is not run. No
+/// memory is taken later, but for the lines.
+///
+/// # Errors
+/// As [`load_program`].
+pub fn start_trace(alloc: Global, limit: u32, input: &[u8]) -> Result<Trace, Unreported>
+    requires size { length input.now ≤ largest_input }
+    requires limit { limit ≤ most_steps }
+    ensures { StartsTrace limit input.now result }
+{
     let program = load_program(alloc, input)?;
     let session = start_session::<Brand>(program.machine, Blank::new(1));
     let seen = Seen::new(alloc, session.machine())?;
-    Ok(Prepared::Trace(Trace {
+    Ok(Trace {
         session,
         seen,
         limit,
-    }))
+    })
 }
 
 /// The program that a machine holds on which the interpreter begins, before its first step.

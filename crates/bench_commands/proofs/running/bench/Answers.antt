@@ -2,8 +2,8 @@ use Rattle.std.proofs.Common.{Option, None, subst}
 use Rattle.bench_io.specs.Stream.{SourceState}
 use Rattle.report_defs.specs.declared.command.Command.{Command}
 use Rattle.reports.specs.Run.{EndsSaid, Run}
-use Rattle.bench_commands.specs.Bench.{bench_program}
-use Rattle.bench_commands.proofs.Ends.{by_usage}
+use Rattle.bench_commands.specs.Bench.{bench_input, bench_program}
+use Rattle.bench_commands.proofs.Ends.{by_usage, line_of_usage}
 use Rattle.bench_commands.proofs.running.bench.Goals as goal
 
 pub returns-in-Some-clause-ends : goal.returns-in-Some-clause-ends
@@ -31,4 +31,5 @@ returns-in-None-clause-ends g c =
       outputs = record { out = out c.args.out.now; out' = out c.finish.new.out; err = err c.args.err.now; err' = err c.finish.new.err };
     } in
     subst (λ said. EndsSaid bench_program said (run said) c.finish.result) c.in-None.ensures.command
-    (by_usage source (run None).outputs c.finish.result c.finish.ensures)
+    (let line = line_of_usage (run None).outputs c.finish.result c.finish.ensures in
+    by_usage bench_input source (run None).outputs c.finish.result line.0 line.1)

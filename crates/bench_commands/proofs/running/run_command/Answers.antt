@@ -1,8 +1,10 @@
 use Rattle.std.proofs.Common.{subst}
 use Rattle.reports.specs.Answers.{Ends, error_answer}
 use Rattle.reports.specs.Outputs.{Outputs}
-use Rattle.bench_commands.proofs.Ends.{by_unread}
-use Rattle.bench_commands.proofs.Tracing.{by_answer, by_prepared}
+use Rattle.bench_commands.specs.Bench.{bench_input}
+use Rattle.bench_commands.proofs.NoUsage.{no_usage}
+use Rattle.bench_commands.proofs.Ends.{by_unread, by_answer}
+use Rattle.bench_commands.proofs.Tracing.{by_prepared}
 use Rattle.bench_commands.proofs.running.run_command.Goals as goal
 
 pub returns-in-Err : goal.returns-in-Err
@@ -12,7 +14,7 @@ returns-in-Err g c =
     let err = g.E.Sink.state in
     let new = c.finish.new in
     let o : Outputs = record { out = out c.args.out.now; out' = out new.out; err = err c.args.err.now; err' = err new.err } in
-    by_unread c.args.command (source c.args.input.now) (source c.take_input.new.input) o c.in-Err.error c.finish.result
+    by_unread bench_input no_usage c.args.command (source c.args.input.now) (source c.take_input.new.input) o c.in-Err.error c.finish.result
     c.in-Err.ensures.reading c.in-Err.ensures.err
     (subst (λ answer. Ends o answer c.finish.result) c.into.ensures c.finish.ensures)
 
@@ -33,5 +35,5 @@ returns-in-Err-prepare g c =
     let err = g.E.Sink.state in
     let finish = c.finish-in-Err-prepare in
     let o : Outputs = record { out = out c.args.out.now; out' = out finish.new.out; err = err c.args.err.now; err' = err finish.new.err } in
-    by_answer c.args.command (source c.args.input.now) (source c.take_input.new.input) o c.in-Ok.bytes.items c.in-Ok.ensures.ok
+    by_answer bench_input no_usage c.args.command (source c.args.input.now) (source c.take_input.new.input) o c.in-Ok.bytes.items c.in-Ok.ensures.ok
     (error_answer c.in-Err-prepare.unreported) finish.result c.in-Err-prepare.ensures finish.ensures

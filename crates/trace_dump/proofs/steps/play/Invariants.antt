@@ -5,4 +5,4 @@ use Rattle.trace_dump.proofs.steps.play.Given as goal
 abbrev pub invariant-loop-made : goal.invariant-loop-made
 invariant-loop-made g l =
     let state = g.O.Sink.state in
-    Playing l.fn.session l.session l.fn.steps l.steps l.made (state l.fn.out) (state l.out) l.seen
+    Playing g.T.StepLine.shows l.fn.session l.session l.fn.steps l.steps l.made (state l.fn.out) (state l.out) l.seen

@@ -12,7 +12,7 @@ returns g c =
     let o : Outputs = record { out = out c.args.out.now; out' = out c.finish.new.out; err = err c.args.err.now; err' = err c.finish.new.err } in
     let p = c.play_session.ensures in
     let memory = subst (λ (y : MachineState). IsMemory y.cpu.memory) c.machine.ensures c.holds_bounds.ensures.memory in
-    traces_whole o c.args.self c.play_session.new.session (out c.play_session.new.out) p.0 p.1 c.play_session.result c.finish.result p.2
+    traces_whole g.T.StepLine.shows o c.args.self c.play_session.new.session (out c.play_session.new.out) p.0 p.1 c.play_session.result c.finish.result p.2
     (sym c.is_err.ensures.value ∙ c.if-is_err.false) memory c.finish.ensures
 
 pub returns-then-is_err : goal.returns-then-is_err
@@ -21,4 +21,4 @@ returns-then-is_err g c =
     let err = g.E.Sink.state in
     let o : Outputs = record { out = out c.args.out.now; out' = out c.play_session.new.out; err = err c.args.err.now; err' = err c.args.err.now } in
     let p = c.play_session.ensures in
-    breaks_off o c.args.self c.play_session.new.session p.0 p.1 c.play_session.result p.2 (sym c.is_err.ensures.value ∙ c.if-is_err.true) refl
+    breaks_off g.T.StepLine.shows o c.args.self c.play_session.new.session p.0 p.1 c.play_session.result p.2 (sym c.is_err.ensures.value ∙ c.if-is_err.true) refl

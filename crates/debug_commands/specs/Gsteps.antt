@@ -1,0 +1,25 @@
+-- How the steps of an input are shown.
+use Rattle.std.specs.Prelude.{◌≡◌, ◌⊎◌, ℕ, List, Result}
+use Rattle.gpl_source_defs.specs.Programs.{program_of_source}
+use Rattle.report_defs.specs.declared.status.Status.{Status}
+use Rattle.report_defs.specs.Report.{Report, ProgramReport}
+use Rattle.change_defs.specs.Text.{all_changes_text}
+use Rattle.reports.specs.Outputs.{Outputs}
+use Rattle.reports.specs.Answers.{WantsMemory, Reported, Ends}
+use Rattle.bench_commands.specs.declared.trace.Trace.{Trace}
+use Rattle.bench_commands.specs.Loaded.{RunsNone}
+use Rattle.bench_commands.specs.Traced.{TracesSource, EndsTrace}
+
+-- the program of the input was run, and its steps were written with all that they changed
+abbrev pub ShowsAll : ℕ → List ℕ → Outputs → Status → Type 0
+ShowsAll limit input o end =
+    (trace : Trace) × (trace.limit ≡ limit) × TracesSource input trace × EndsTrace all_changes_text o trace end
+
+-- the source is not run
+abbrev pub RunsNoStep : List ℕ → Outputs → Status → Type 0
+RunsNoStep input o end =
+    (answer : Result Report Status) × Reported (ProgramReport RunsNone (program_of_source input)) WantsMemory answer
+    × Ends o answer end
+
+abbrev pub EndsSteps : ℕ → List ℕ → Outputs → Status → Type 0
+EndsSteps limit input o end = ShowsAll limit input o end ⊎ RunsNoStep input o end

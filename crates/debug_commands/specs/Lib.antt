@@ -1,0 +1,3 @@
+pub mod Gsteps
+pub mod Debug
+pub mod Laws

@@ -1,0 +1,8 @@
+//! `ti_debug`: its commands, over any input and outputs.
+#![tactic(auto)]
+
+mod gsteps;
+mod running;
+mod words;
+
+pub use crate::running::debug;

@@ -1,0 +1,89 @@
+//! The program, over any input and outputs.
+
+ghost use Rattle.std.specs.Prelude.{◌≡◌, Some};
+ghost use Rattle.debug_report_defs.specs.Words.{debug_command, KeepsLimit};
+ghost use Rattle.reports.specs.Run.{EndsBy};
+ghost use Rattle.debug_commands.specs.Debug.{debug_program};
+ghost use Rattle.debug_commands.specs.Laws.{LawsOfDebugRuns};
+
+use crate::gsteps::gsteps;
+use crate::words::{read_debug_command, usage};
+use bench_io::{Sink, Source, read_all};
+use command_words::Words;
+use debug_report_defs::DebugCommand;
+use report_defs::{LARGEST_INPUT, Status};
+use reports::{finish, tell};
+use std::alloc::Global;
+
+/// Runs the command that the words say. It reads all of `input` before it writes, writes the report to `out`, or a
+/// fault line or the usage line to `err`, and takes all its memory before the first byte is written. The line of a step
+/// is written once the step is made.
+///
+/// The contract says of each status its cause, and what the input and the outputs are then; that if the bytes of the
+/// input are shown and nothing fails, there is one report on them, which was written whole, and the status is its own,
+/// or out of memory; that the words which the machine holds are the linked memory of the interpreter's source, and that
+/// for each i up to the last step of a program that is run the machine after the first i turns matches its state after i
+/// steps; and that the changes which are read from the lines of the first i steps, made in the first state, give the
+/// state after i steps.
+#[tactic(auto, using(crate::proofs::Laws::laws))]
+pub fn debug<S: Source, O: Sink, E: Sink>(
+    alloc: Global,
+    words: &Words,
+    input: &mut S,
+    out: &mut O,
+    err: &mut E,
+) -> Status
+    ensures laws { LawsOfDebugRuns }
+    ensures ends { EndsBy debug_program (record {
+      said = debug_command words.now;
+      before = S.state input.old;
+      after = S.state input.new;
+      outputs = record {
+        out = O.state out.old;
+        out' = O.state out.new;
+        err = E.state err.old;
+        err' = E.state err.new;
+      };
+    }) result }
+{
+    match read_debug_command(words) {
+        Some(command) => run_debug_command(alloc, command, input, out, err),
+        None => tell(usage(), Status::Usage, err),
+    }
+}
+
+/// Runs a command. The run ends as [`debug`] does under words that say it.
+fn run_debug_command<S: Source, O: Sink, E: Sink>(
+    alloc: Global,
+    command: DebugCommand,
+    input: &mut S,
+    out: &mut O,
+    err: &mut E,
+) -> Status
+    requires { KeepsLimit command }
+    ensures { EndsBy debug_program (record {
+      said = Some command;
+      before = S.state input.old;
+      after = S.state input.new;
+      outputs = record {
+        out = O.state out.old;
+        out' = O.state out.new;
+        err = E.state err.old;
+        err' = E.state err.new;
+      };
+    }) result }
+{
+    let bytes = match read_all(alloc, input, LARGEST_INPUT) {
+        Ok(bytes) => bytes,
+        Err(error) => return finish(&Err(error.into()), out, err),
+    };
+    gsteps(alloc, steps_of(command), bytes.as_slice(), out, err)
+}
+
+/// The most steps of `gsteps`, which is the only command.
+fn steps_of(command: DebugCommand) -> u32
+    ensures { command ≡ DebugCommand.Gsteps result }
+{
+    let DebugCommand::Gsteps { limit } = command;
+    limit
+}

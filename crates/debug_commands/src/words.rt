@@ -1,0 +1,47 @@
+//! Which command the words say, and how the program is called.
+
+ghost use Rattle.std.specs.Prelude.{◌≡◌, ◌∷◌, [], IfSome};
+ghost use Rattle.report_defs.specs.Commands.{same_word};
+ghost use Rattle.debug_report_defs.specs.Words as spec;
+ghost use Rattle.debug_report_defs.specs.Words.{KeepsLimit};
+
+use command_words::{MOST_STEPS, Words, number_word};
+use debug_report_defs::DebugCommand;
+
+/// The command that the words say, or `None` if they are in no shape of one.
+pub(crate) fn read_debug_command(words: &Words) -> Option<DebugCommand>
+    ensures command { result ≡ spec.debug_command words.now }
+    ensures limit { IfSome result KeepsLimit }
+{
+    match words.as_slice() {
+        [name, word] => command_with(name.as_slice(), word.as_slice()),
+        _ => None,
+    }
+}
+
+/// The command of two words.
+fn command_with(name: &[u8], word: &[u8]) -> Option<DebugCommand>
+    ensures command { result ≡ spec.debug_command (name.now ∷ word.now ∷ []) }
+    ensures limit { IfSome result KeepsLimit }
+{
+    if !is_same(name, b"gsteps") {
+        return None;
+    }
+    let limit = number_word(word, MOST_STEPS)?;
+    Some(DebugCommand::Gsteps { limit })
+}
+
+/// Whether a word is a name.
+fn is_same(word: &[u8], name: &[u8]) -> bool
+    ensures { result ≡ same_word word.now name.now }
+{
+    word == name
+}
+
+/// How the program is called.
+#[tactic(auto, unfolding(debug_report_defs::specs::Words::debug_usage))]
+pub(crate) fn usage() -> &'static [u8]
+    ensures { result.now ≡ spec.debug_usage }
+{
+    b"usage: ti_debug gsteps N\n"
+}

@@ -1,0 +1,8 @@
+//! What `ti_debug` reports: its commands, and their reports. The definitions are in `specs/`.
+#![tactic(auto)]
+
+mod command;
+mod laws;
+
+pub use command::DebugCommand;
+pub use laws::{debug_fronts_begin_reports, lines_give_states, one_debug_report};

@@ -1,0 +1,8 @@
+//! All changes between two lists of bytes, appended to a line. Nothing takes memory but [`LongLine::new`].
+#![tactic(auto)]
+
+mod line;
+mod scan;
+mod text;
+
+pub use line::{LONGEST, LongLine, append_part};

@@ -1,0 +1,45 @@
+//! The line of a step that shows how many bytes changed, and the first of them.
+
+ghost use Rattle.std.specs.Prelude.{◌≡◌, []};
+ghost use Rattle.report_defs.specs.Trace as spec;
+
+use crate::seen::{Seen, changes};
+use crate::step_line::StepLine;
+use arrayvec::ArrayString;
+use tms_step::Machine;
+
+/// A line that shows of the cells, the video memory and its registers the first change of its step.
+#[derive(Drop)]
+pub struct FirstChanges {
+    line: ArrayString<120>,
+}
+
+impl FirstChanges {
+    /// An empty line.
+    pub fn new() -> Self
+        ensures { result.line.bytes ≡ [] }
+    {
+        FirstChanges {
+            line: ArrayString::new(),
+        }
+    }
+}
+
+impl StepLine for FirstChanges {
+    ghost shows = { spec.changes_text };
+
+    ghost bytes = { λ s. s.line.bytes };
+
+    fn begin(&mut self, front: &ArrayString<120>) {
+        self.line.clear();
+        self.line.push_str(front.as_str());
+    }
+
+    fn end(&mut self, seen: &mut Seen, machine: &Machine) {
+        changes(&mut self.line, seen, machine);
+    }
+
+    fn as_bytes(&self) -> &[u8] {
+        self.line.as_bytes()
+    }
+}
