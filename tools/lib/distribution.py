@@ -10,8 +10,10 @@ import typing
 
 from lib.command import UNREADABLE, Stopped
 from lib.repository import TOP, read_text
+from lib.program import other
 from lib.version import version
 
+PROGRAMS = ['ti_bench', 'ti_debug']
 # the scripts of tools/ that users call as ti_bench-NAME, each with the folders of tools/ that it needs beside lib
 TOOLS = {
     'archive': ['labelling'],
@@ -67,7 +69,8 @@ def files(program, top=TOP):
     named = [*(f'tools/{name}' for name in [*SCRIPTS, *TOOLS, *folders]), *OTHERS, MANUALS]
     paths = {path for name in named for path in below(top, pathlib.Path(name))}
     found = {path: File((top / path).read_bytes(), os.access(top / path, os.X_OK)) for path in paths}
-    found['ti_bench'] = File(pathlib.Path(program).read_bytes(), True)
+    for name in PROGRAMS:
+        found[name] = File(pathlib.Path(other(program, name)).read_bytes(), True)
     found['VERSION'] = File(f'{version(top)}\n'.encode('utf-8'))
     found['KIT'] = File(f'{kit(top)}\n'.encode('utf-8'))
     return found
@@ -76,12 +79,13 @@ def files(program, top=TOP):
 def installed(found, name='ti_bench'):
     """Where an installation has the files that are handed out, with the links to its commands. Its folder of documents
     has a name."""
-    commands = {'ti_bench': 'launcher', **{f'ti_bench-{tool}': tool for tool in TOOLS}}
-    placed = {f'bin/{command}': Link(f'lib/ti_bench/tools/{script}') for command, script in commands.items()}
+    commands = {'ti_bench': 'tools/launcher', **{f'ti_bench-{tool}': f'tools/{tool}' for tool in TOOLS},
+                'ti_debug': 'ti_debug'}
+    placed = {f'bin/{command}': Link(f'lib/ti_bench/{script}') for command, script in commands.items()}
     for path, file in found.items():
         if path.startswith(f'{MANUALS}/'):
             placed[f'share/man/man1/{pathlib.PurePath(path).name}'] = file
-        elif path in ('ti_bench', 'VERSION') or path.startswith(('tools/', 'editors/')):
+        elif path in (*PROGRAMS, 'VERSION') or path.startswith(('tools/', 'editors/')):
             placed[f'lib/ti_bench/{path}'] = file
         else:
             placed[f'share/doc/{name}/{path}'] = file

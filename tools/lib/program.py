@@ -36,11 +36,19 @@ class Program:
         return Run(ended.returncode, ended.stdout, ended.stderr)
 
 
-def other(program, name):
-    """Another program of the repository: the one that a variable names, as TI_DEBUG, or the one that is built in the
-    folder of its crate as the given program is in its own."""
-    path = os.environ.get(name.upper())
-    return Program(path or str(pathlib.Path(program.path).parents[2] / name / 'out' / name))
+def other(path, name):
+    """The path of a program by the path of ti_bench: its own; or the one that a variable names, as TI_DEBUG; or the one
+    beside it, as in an archive and an installation; or the one that is built in the folder of its crate."""
+    own = pathlib.Path(path)
+    if name == 'ti_bench':
+        return path
+    places = [own.with_name(name), own.parent.parent.parent / name / 'out' / name]
+    found = os.environ.get(name.upper()) or next((str(place) for place in places if place.is_file()), None)
+    if not found and own == TOP / 'crates/ti_bench/out/ti_bench':
+        return of_repository(name)
+    if not found:
+        raise Stopped(f'no program {name} beside {path}', UNREADABLE)
+    return found
 
 
 def option(parser, use='run'):
@@ -60,7 +68,12 @@ def program(path=None):
         return Program(str(pathlib.Path(found).absolute()))
     if not (TOP / 'crates.txt').is_file():
         return Program(str(TOP / 'ti_bench'))
-    built = subprocess.run([TOP / 'tools/built'], stdout=subprocess.PIPE)
+    return Program(of_repository('ti_bench'))
+
+
+def of_repository(name):
+    """The path of a program of the repository, which is built first if it is missing or old."""
+    built = subprocess.run([TOP / 'tools/built', name], stdout=subprocess.PIPE)
     if built.returncode:
-        raise Stopped('the program could not be built', UNREADABLE)
-    return Program(os.fsdecode(built.stdout).rstrip('\n'))
+        raise Stopped(f'the program {name} could not be built', UNREADABLE)
+    return os.fsdecode(built.stdout).rstrip('\n')
