@@ -22,12 +22,12 @@ use Rattle.report_defs.specs.declared.fault.Fault.TheVariants.{PastEnd}
 use Rattle.report_defs.specs.declared.status.Status.TheVariants.{Usage, Done}
 use Rattle.report_defs.specs.Commands.{most_steps}
 use Rattle.report_defs.specs.DemoText.{demo_text}
-use Rattle.report_defs.specs.Exec.{end_status, exec_lines}
+use Rattle.report_defs.specs.Exec.{end_status}
 use Rattle.report_defs.specs.GromListing.{image_listing}
 use Rattle.report_defs.specs.MemoryListing.{linked_lines}
 use Rattle.report_defs.specs.ObjectInput.{linked_input}
 use Rattle.report_defs.specs.Report.{Report, Whole, Faulty, Rejected, ProgramRun, ReportsProgram, ProgramReport, ExecReport}
-use Rattle.report_defs.specs.Report.{asm_report, gasm_report, dis_report, gdis_report, link_report, run_lines, trace_lines}
+use Rattle.report_defs.specs.Report.{asm_report, gasm_report, link_report, run_lines, trace_lines}
 use Rattle.report_defs.specs.Report.{demo_lines, largest_input, AcceptedReport, ReportOn}
 use Rattle.reports.proofs.NoUsage.{IsNoUsage, same_no_usage, program_no_usage, large_no_usage, source_no_usage}
 

@@ -1,12 +1,12 @@
 -- How a run of a program ends, and what follows.
-use Rattle.std.proofs.Common.{◌≡◌, ◌≢◌, Option, Some, None, Result, Ok, Err, refl, sym, ap, ◌∙◌, subst, inl, inr}
+use Rattle.std.proofs.Common.{◌≡◌, ◌≢◌, Option, Some, None, refl, sym, ap, ◌∙◌, subst, inl, inr}
 use Rattle.report_defs.specs.declared.status.Status.{Status}
 use Rattle.report_defs.specs.declared.status.Status.TheVariants as status
 use Rattle.report_defs.specs.Report.{Report, Whole, Faulty, Rejected, status_of}
 use Rattle.count_defs.specs.Counts.{Rose}
 use Rattle.reports.specs.Outputs.{Outputs, EndsWith, WroteReport, MissedReport}
 use Rattle.reports.specs.Answers.{EndsByLine}
-use Rattle.reports.specs.Run.{Program, Run, EndsByUsage, EndsSaid, EndsBy, WroteNothing}
+use Rattle.reports.specs.Run.{Program, Run, EndsByUsage, EndsSaid}
 use Rattle.reports.specs.RunLaws.{OneReport, HasNoFault, WroteTheReport, Completeness, BeginAlike, OneAnswer, LawsOfProgram}
 
 -- What a program's definitions have to be for its laws: reports on what was read are reports on what was shown, of which

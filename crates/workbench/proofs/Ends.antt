@@ -1,5 +1,5 @@
 -- How a run with files ends.
-use Rattle.std.proofs.Common.{◌≡◌, ℕ, List, length, Option, Some, None, Bool, true, false, refl, sym, ap, subst, inl, inr, arith}
+use Rattle.std.proofs.Common.{◌≡◌, ℕ, List, length, Some, Bool, true, false, refl, sym, subst, inl, inr, arith}
 use Rattle.std.specs.Prelude.{nat_lt, MatchBool, Result, Ok, Err}
 use Rattle.std.proofs.lemmas.Bool.Decides.{nat_tests}
 use Rattle.bench_io.specs.Stream.{SourceState}
@@ -28,8 +28,8 @@ use Rattle.file_report_defs.specs.Whole.{WatchReport}
 use Rattle.file_report_defs.specs.Words.{FileCommand, AsmFiles, LinkFiles, Watch, ProgramCommand, OverFiles, Plain}
 use Rattle.report_defs.specs.Report.{Report, Faulty, ProgramReport, largest_input}
 use Rattle.bench_shelf.specs.States.{ShelfState}
-use Rattle.file_commands.specs.Reported.{CopyReported}
-use Rattle.reports.specs.Outputs.{Outputs, EndsWith}
+use Rattle.file_commands.specs.Reported.{CopyReported, CopyFails}
+use Rattle.reports.specs.Outputs.{Outputs}
 use Rattle.reports.specs.Answers.{Ends, WantsMemory, Reported}
 use Rattle.reports.specs.Run.{Run, EndsSaid}
 use Rattle.reports.proofs.Runs.{by_report}
@@ -37,8 +37,7 @@ use Rattle.reports.proofs.NoUsage.{IsNoUsage, same_no_usage, program_no_usage, l
 use Rattle.bench_commands.specs.InputRun.{TookWithin}
 use Rattle.bench_commands.specs.Bench.{bench_program}
 use Rattle.bench_commands.proofs.Ends.{reads_whole}
-use Rattle.bench_commands.proofs.NoUsage as bench
-use Rattle.workbench.specs.FileProgram.{Reading, AsmOn, Reports, file_program}
+use Rattle.workbench.specs.FileProgram.{Reading, Reports, file_program}
 use Rattle.workbench.specs.Answered.{FailsWith, AnswersWith}
 
 -- ---- no report has the status of words that say no command
@@ -126,17 +125,33 @@ module _ (before after : SourceState) (bytes : List ℕ) (whole : ReadWhole larg
   whole_within : TookWithin before after
   whole_within = record { bytes = bytes; within = whole.within; empty = 1; one = omega arith; took = whole.took }
 
--- what is answered to a GPL source that was taken whole
-module _ (before after : SourceState) (shelf : ShelfState) (source : List ℕ)
-    (whole : ReadWhole largest_input before after source) where
-  abbrev at : SourceState → Reading
-  at input = record { input = input; shelf = shelf }
+-- what is answered to a source that was taken whole
+module _ (before after : SourceState) (source : List ℕ) (whole : ReadWhole largest_input before after source) where
+  abbrev at : SourceState → ShelfState → Reading
+  at input shelf = record { input = input; shelf = shelf }
 
-  pub watch_answered : (limit : ℕ) (items : List Item) (answer : Result Report Status)
+  pub asm_answered : (shelf shelf' : ShelfState) (answer : Result Report Status)
+      → Reported (CopyReported shelf shelf' source) (CopyFails shelf shelf' source) answer
+      → AnswersWith AsmFiles (at before shelf) (at after shelf') answer
+  asm_answered shelf shelf' (Ok report) reported =
+      (source, reads_whole true before after source whole, rw (is_small before after source whole) reported)
+  asm_answered shelf shelf' (Err status.Done) fails = absurd fails
+  asm_answered shelf shelf' (Err status.Refused) fails = absurd fails
+  asm_answered shelf shelf' (Err status.Usage) fails = absurd fails
+  asm_answered shelf shelf' (Err status.ReadFault) (questions, dialogue, failed) = (
+    (whole_within before after source whole, failed.within, inr (source, whole, questions, dialogue)),
+    inr (source, whole, questions, dialogue, failed),
+  )
+  asm_answered shelf shelf' (Err status.WriteFault) fails = absurd fails
+  asm_answered shelf shelf' (Err status.Memory) (questions, dialogue, within) =
+      (whole_within before after source whole, within, inr (source, whole, questions, dialogue))
+  asm_answered shelf shelf' (Err status.Stopped) fails = absurd fails
+
+  pub watch_answered : (shelf : ShelfState) (limit : ℕ) (items : List Item) (answer : Result Report Status)
       → Reported (WatchReport limit items source) WantsMemory answer
-      → AnswersWith (Watch limit items) (at before) (at after) answer
-  watch_answered limit items (Ok report) reported =
+      → AnswersWith (Watch limit items) (at before shelf) (at after shelf) answer
+  watch_answered shelf limit items (Ok report) reported =
       (source, reads_whole true before after source whole, refl, rw (is_small before after source whole) reported)
-  watch_answered limit items (Err end) memory =
-      subst (FailsWith (Watch limit items) (at before) (at after)) (sym memory)
+  watch_answered shelf limit items (Err end) memory =
+      subst (FailsWith (Watch limit items) (at before shelf) (at after shelf)) (sym memory)
       (whole_within before after source whole, refl)

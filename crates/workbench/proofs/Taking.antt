@@ -1,5 +1,5 @@
 -- What is taken of a shelf at most, by how a run ends.
-use Rattle.std.proofs.Common.{◌≡◌, ℕ, List, length, Option, Some, None, Bool, true, false, ap, inl, inr, arith}
+use Rattle.std.proofs.Common.{◌≡◌, length, Option, Some, None, Bool, true, false, ap, inl, inr, arith}
 use Rattle.std.specs.Prelude.{MatchBool, nat_lt}
 use Rattle.shelf_defs.specs.Copied.{most_bytes, most_copies}
 use Rattle.bench_shelf.specs.States.{ShelfState}

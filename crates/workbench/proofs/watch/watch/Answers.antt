@@ -10,4 +10,4 @@ returns g c shelf =
     let before = g.S.Source.state c.args.input.now in
     let after = g.S.Source.state c.read_all.new.source in
     let whole = subst (λ (b : List ℕ). ReadWhole largest_input before after b) (sym c.as_slice.ensures.value) c.in_ok-source.ensures.ok in
-    watch_answered before after shelf c.as_slice.result.now whole c.args.limit c.args.items.now (answer c.watch_source.result) c.watch_source.ensures
+    watch_answered before after c.as_slice.result.now whole shelf c.args.limit c.args.items.now (answer c.watch_source.result) c.watch_source.ensures
