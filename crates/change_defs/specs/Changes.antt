@@ -1,6 +1,5 @@
 -- What differs between two lists of bytes of one length, and what a list becomes by it.
-use Rattle.std.specs.Prelude.{◌≡◌, ℕ, ◌+◌, ◌==◌, ◌&&◌, if◌then◌else◌, List, [], ◌∷◌, ◌++◌}
-use Rattle.std.specs.Prelude.{length, take, drop, replicate}
+use Rattle.std.specs.Prelude.{◌≡◌, ℕ, ◌+◌, ◌==◌, ◌&&◌, if◌then◌else◌, List, [], ◌∷◌, ◌++◌, length, take, drop, replicate}
 
 -- Neighbours that changed, and that are the same byte now: the place of the first, the byte, and how many they are.
 pub record Change : Type 0 where

@@ -26,8 +26,8 @@ place_text Registers at = codes "W" ++ register_place at
 unfoldable pub repeated_text : ℕ → ℕ → List ℕ
 repeated_text byte count = byte_digits byte ++ (if count == 1 then [] else codes "*" ++ decimal count)
 
--- Profile: a change is a blank, its place, an equals sign and the new bytes; if the change before it ended at its
--- place, a comma and the new bytes. No change ends at 0.
+-- Profile: a change is a blank, its place, an equals sign and the new bytes; if the change before it ended at its place,
+-- a comma and the new bytes. No change ends at 0.
 unfoldable pub change_text : Part → ℕ → Change → List ℕ
 change_text part end c =
     (if (c.at == end) && not (end == 0) then codes "," else codes " " ++ (place_text part c.at ++ codes "="))

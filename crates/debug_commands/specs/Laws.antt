@@ -7,8 +7,8 @@ use Rattle.debug_commands.specs.Debug.{debug_program}
 
 -- There is at most one report, it was written whole if nothing fails, and two runs alike end alike. What is written
 -- before the end of a report is known begins the report. The changes that are read from the lines give the states. The
--- words that the machine holds are the linked memory of the interpreter's source, and the machine after the first i
--- turns of a program that is run matches its state after i steps, for each i up to the last.
+-- words that the machine holds are the linked memory of the interpreter's source, and the machine after the first i turns
+-- of a program that is run matches its state after i steps, for each i up to the last.
 pub record LawsOfDebugRuns : Type 0 where
   pub runs : LawsOfProgram debug_program
   pub fronts : DebugFrontsBeginReports

@@ -34,8 +34,8 @@ abbrev pub state_by_texts : GplState → ℕ → SeenState
 state_by_texts s zero = seen_state s
 state_by_texts s (suc earlier) = state_applied (changes_of_text (text_after s earlier)) (state_by_texts s earlier)
 
--- The law, which is proved: the line of each step is its front and a text of changes; and the changes that are read
--- from the texts of the first steps of a program, made in its first state one step after the other, give the state after
+-- The law, which is proved: the line of each step is its front and a text of changes; and the changes that are read from
+-- the texts of the first steps of a program, made in its first state one step after the other, give the state after
 -- these steps, but for the address of the next instruction, which the front of the next line has.
 pub record LinesGiveStates : Type 0 where
   pub lines : (s : GplState) (count : ℕ) → step_lines all_changes_text s count

@@ -3,8 +3,8 @@
 /// A command, as the words of the command line say it.
 #[derive(Clone, Copy, Debug, PartialEq, Eq)]
 pub enum DebugCommand {
-    /// `gsteps N`: assembles a GPL source, and the interpreter runs up to `limit` of its steps from the entry; each
-    /// step is shown by a line with all that it changed.
+    /// `gsteps N`: assembles a GPL source, and the interpreter runs up to so many of its steps from the entry; each step
+    /// is shown by a line with all that it changed.
     Gsteps {
         /// The most steps, up to 100,000.
         limit: u32,

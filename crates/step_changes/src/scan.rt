@@ -23,8 +23,7 @@ pub(crate) fn next_difference(before: &[u8], now: &[u8], at: usize) -> Option<us
 pub(crate) fn stretch(before: &[u8], now: &[u8], from: usize) -> usize
     requires size { length before.now ≡ length now.now }
     requires from { from < length now.now }
-    ensures value { result
-        ≡ 1 + prefix_len (spec.is_made (slice_index now.now from)) (drop (from + 1) (zip before.now now.now)) }
+    ensures value { result ≡ 1 + prefix_len (spec.is_made (slice_index now.now from)) (drop (from + 1) (zip before.now now.now)) }
     ensures within { from + result ≤ length now.now }
 {
     let byte = now[from];
