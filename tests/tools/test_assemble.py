@@ -192,5 +192,45 @@ class Unreadable(Calling):
         self.assertEqual((self.folder / 'a.gpl').read_bytes(), ACCEPTED)
 
 
+class AllRefusals(Calling):
+    SOURCE = (b'COUNT EQU UNDEF\nSUM EQU >8302\nSTART ST @COUNT, 3\nLOOP DEC @COUNT\n FOO @SUM\n BR LOOP\n BYTE 300\n'
+              b' EXIT\nSTART RTN\n END START\n')
+
+    def test_each_refused_line_is_reported_once(self):
+        self.file('a.gpl', self.SOURCE)
+        one, every = self.call('assemble', 'a.gpl'), self.call('assemble', '--all', 'a.gpl', '-o', 'out')
+        self.assertEqual((every.returncode, every.stdout, (self.folder / 'out').exists()), (1, b'', False))
+        self.assertTrue(every.stderr.startswith(one.stderr))
+        rows = [row for row in every.stderr.splitlines() if row.startswith(b'a.gpl:') and b'note' not in row]
+        self.assertEqual(rows, [b'a.gpl:1: unknown name', b'a.gpl:3: bad operand', b'a.gpl:4: unknown name',
+                                b'a.gpl:5: unknown operation', b'a.gpl:9: duplicate label', b'a.gpl:7: bad operand'])
+
+    def test_what_may_come_of_a_line_that_is_left_out_is_marked(self):
+        self.file('a.gpl', self.SOURCE)
+        notes_of = [row for row in self.call('assemble', '--all', 'a.gpl').stderr.splitlines() if b'may come' in row]
+        self.assertEqual(notes_of, [b'a.gpl:4: note: this may come of line 1, which is left out'])
+
+    def test_a_label_is_kept_where_its_line_is_left_out(self):
+        self.file('a.a', b'LOOP FOO\n JMP LOOP\n END\n')
+        rows = self.call('assemble', '--all', 'a.a').stderr.splitlines()
+        self.assertEqual(rows, [b'a.a:1: unknown operation', b'    LOOP FOO'])
+
+    def test_at_most_twenty_are_reported(self):
+        self.file('a.gpl', b' FOO\n' * 50)
+        rows = self.call('assemble', '--all', 'a.gpl').stderr.splitlines()
+        self.assertEqual(sum(b'unknown operation' in row for row in rows), 20)
+
+    def test_a_refusal_in_a_copied_file_is_the_last(self):
+        self.file('a.a', b' FOO\n COPY "B.A"\n BAR\n')
+        self.file('B.A', b' BAZ\n')
+        rows = self.call('assemble', '--all', 'a.a').stderr.splitlines()
+        self.assertEqual(rows[::2], [b'a.a:1: unknown operation', b'B.A:1: unknown operation'])
+
+    def test_one_without_a_line_is_reported_as_ever(self):
+        self.file('a.a', b'* x\n' * 300_000)
+        ended = self.call('assemble', '--all', 'a.a')
+        self.assertEqual((ended.returncode, ended.stderr), (1, b'a.a: too large\n'))
+
+
 if __name__ == '__main__':
     unittest.main()

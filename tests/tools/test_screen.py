@@ -85,6 +85,46 @@ class Screen(Calling):
             self.assertEqual((ended.returncode, ended.stdout), (1, b''))
             self.assertIn(f'{text} is not drawn', ended.stderr.decode())
 
+    def run_report(self, *changes):
+        """A report of `gsteps` of steps with these changes, and the dump that they lead to."""
+        steps = [f'{number:6} >6000 S00 D9F R7E ST @>8300,>01{change}\n' for number, change in enumerate(changes, 1)]
+        return ''.join(steps).encode() + report(self.video, self.registers)
+
+    def frames_of(self, data):
+        """The milliseconds of each frame of an animated PNG file."""
+        at, found = 8, []
+        while at < len(data):
+            length, = struct.unpack('>I', data[at:at + 4])
+            if data[at + 4:at + 8] == b'fcTL':
+                found.append(struct.unpack('>HH', data[at + 28:at + 32]))
+            at += 12 + length
+        return found
+
+    def test_a_film_has_a_frame_for_each_new_screen(self):
+        self.registers = [0, 0xE0, 0, 0, 0, 0, 0, 0x04]
+        self.video[0:3] = b'\xF1\x00\xFF'
+        given = self.run_report(' W1=E0 W7=07', '', ' V>0000=F1', ' >8300=01', ' V>0002=FF W7=04')
+        ended = self.call('screen', '--film', 'film.png', '--frames', 'frames', given=given)
+        self.assertEqual((ended.returncode, ended.stderr), (0, b''))
+        names = sorted(path.name for path in (self.folder / 'frames').iterdir())
+        self.assertEqual(names, ['step-000001.png', 'step-000003.png', 'step-000005.png'])
+        self.assertEqual(self.frames_of((self.folder / 'film.png').read_bytes()), [(200, 1000), (200, 1000), (100, 1000)])
+        self.call('screen', '-o', 'last.png', given=given)
+        self.assertEqual((self.folder / 'frames/step-000005.png').read_bytes(), (self.folder / 'last.png').read_bytes())
+
+    def test_a_film_looks_at_every_so_many_steps_and_the_last(self):
+        self.registers = [0, 0xE0, 0, 0, 0, 0, 0, 0x09]
+        given = self.run_report(' W1=E0', *(f' W7=0{number}' for number in range(2, 10)))
+        self.call('screen', '--frames', 'frames', '--every', '4', given=given)
+        names = sorted(path.name for path in (self.folder / 'frames').iterdir())
+        self.assertEqual(names, ['step-000004.png', 'step-000008.png', 'step-000009.png'])
+
+    def test_changes_that_do_not_lead_to_the_dump_are_no_film(self):
+        self.registers = [0, 0xE0, 0, 0, 0, 0, 0, 0x09]
+        ended = self.call('screen', '--film', 'film.png', given=self.run_report(' W1=E0', ' W7=08'))
+        self.assertEqual((ended.returncode, (self.folder / 'film.png').exists()), (1, False))
+        self.assertIn(b'the changes do not lead to the last screen', ended.stderr)
+
     def test_without_a_dump_the_status_is_1(self):
         ended = self.call('screen', given=b'line 1: unknown operation\n')
         self.assertEqual((ended.returncode, ended.stderr), (1, b'tools/screen: no dump\n'))

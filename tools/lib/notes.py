@@ -11,6 +11,7 @@ UNDERSCORE = re.compile(r'\b(?=[A-Za-z_])\w*_\w*', re.A)
 ZERO_X = re.compile(r'(?<![0-9A-Za-z>])0[xX]([0-9A-Fa-f]+)')
 OPERAND = re.compile(r"[-0-9@*>'$].*|[VGRvgr]@.*|[Vv]\*.*|[Rr](?:1[0-5]|[0-9]),.*", re.S)
 NAME = re.compile(r'[A-Za-z][0-9A-Za-z]{0,5}')
+WORD = re.compile(r'(?<![0-9A-Za-z>])[A-Za-z][0-9A-Za-z]*')
 LINE_MAXIMUM = 256
 
 ALPHANUMERIC = 'a name has letters and digits alone, and no _'
@@ -19,6 +20,12 @@ ALPHANUMERIC = 'a name has letters and digits alone, and no _'
 def fields(line):
     """The fields of a line, as the assemblers find them."""
     return Fields(*FIELDS.match(line).groups())
+
+
+def names_in(line):
+    """The names that the operands of a line have, in upper case, as the assemblers compare them."""
+    bare = QUOTED.sub(' ', fields(line).operands)
+    return [word.upper() for word in WORD.findall(bare)]
 
 
 def too_long(name):

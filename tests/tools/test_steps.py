@@ -1,0 +1,147 @@
+"""Tests of tools/steps: the data of a page, replayed here, against what the program writes."""
+import json
+import random
+import re
+import unittest
+
+from calling import TOP, Calling
+from lib import program
+from lib.dump import dump
+
+DATA = re.compile(r'<script type="application/json" id="data">(.*?)</script>', re.S)
+CELLS, VIDEO, REGISTERS, END = 0x8300, 0x10000, 0x14000, 0x14008
+FIRST_GROM = 0x6000
+# An instruction, and how many bytes it has.
+SIZES = [('INC @>8300', 2), ('ST @>8301,>20', 3), ('RAND 9', 2), ('DST @>8302,>1234', 4), ('ALL >20', 2),
+         ('ADD @>8300,@>8301', 3), ('BACK >17', 2), ('ST V@>0000,@>8300', 5)]
+
+
+def data_of(page):
+    return json.loads(DATA.search(page.decode())[1])
+
+
+def apply(memory, changes):
+    for at, digits, *times in changes:
+        data = bytes.fromhex(digits) * (times[0] if times else 1)
+        memory[at:at + len(data)] = data
+
+
+def states(data):
+    """The memory before the first step, and after each."""
+    memory = bytearray(END)
+    apply(memory, data['first'])
+    yield bytes(memory)
+    for _, _, *changes in data['steps']:
+        apply(memory, changes)
+        yield bytes(memory)
+
+
+class Steps(Calling):
+    def setUp(self):
+        super().setUp()
+        self.program = program.program()
+
+    def page(self, source, *words, name='a b.gpl'):
+        self.file(name, source)
+        ended = self.call('steps', name, *words)
+        self.assertEqual((ended.returncode, ended.stderr), (0, b''))
+        return ended.stdout
+
+    def shown(self, source, number):
+        return dump(self.program.run('run', str(number), given=source).out.decode('latin-1'))
+
+    def test_each_state_of_a_page_is_the_one_that_run_writes(self):
+        for example in ('calls', 'show'):
+            source = (TOP / 'examples' / example / 'input').read_bytes()
+            for number, memory in enumerate(states(data_of(self.page(source)))):
+                state = self.shown(source, number)
+                self.assertEqual(memory[CELLS:CELLS + 0xC2], state.pad[:0xC2])
+                self.assertEqual(memory[VIDEO:REGISTERS], state.vdp)
+                self.assertEqual(memory[REGISTERS:], state.registers)
+
+    def test_lines_have_the_places_that_follow_from_their_sizes(self):
+        for seed in range(20):
+            chance = random.Random(seed)
+            at, rows, names, wanted = FIRST_GROM, [], {}, []
+            for number in range(1, chance.randrange(5, 60)):
+                label = f'L{number}' if chance.random() < 0.3 else ''
+                if chance.random() < 0.2:
+                    data = bytes(chance.randrange(256) for _ in range(chance.randrange(1, 20)))
+                    text, size = 'BYTE ' + ','.join(f'>{byte:02X}' for byte in data), len(data)
+                elif chance.random() < 0.1:
+                    text, size = '', 0
+                else:
+                    text, size = chance.choice(SIZES)
+                rows.append(f'{label} {text}'.rstrip() if text or label else '* a comment')
+                if label:
+                    names[label] = at
+                wanted.append((at, size))
+                at += size
+            data = data_of(self.page('\n'.join([*rows, ' END >6000', '']).encode(), '0'))
+            placed = [(address, len(digits) // 2) for _, address, digits in data['lines']]
+            self.assertEqual(placed[:len(wanted)], wanted)
+            self.assertEqual({name: value for name, value, _ in data['names']}, names)
+            self.assertEqual([text for text, _, _ in data['lines']][:len(rows)], rows)
+
+    def test_how_a_run_ended_is_said(self):
+        for source, words, end, stopped in (
+                (b' EXIT\n END >6000\n', [], 'Ended by EXIT at >6000 after 0 steps.', False),
+                (b'S INC @>8300\n B S\n END S\n', ['3'], 'Cut off after 3 steps, the limit.', False),
+                (b'S INC @>8300\n ST @>83C2,@>8300\n END S\n', [], 'Stopped at >6002 after 1 step: ', True)):
+            data = data_of(self.page(source, *words))
+            self.assertEqual((data['end'][:len(end)], data['stopped']), (end, stopped))
+
+    def test_a_text_of_the_source_stays_a_text(self):
+        comments = [b'* </script><script>alert(1)</script>', b'* <!-- {{script}} {{data}}', b'* \0\x01\x7f',
+                    b'* \xff\xfe no UTF-8', '* ümläut'.encode(), b'* \\u003c "quoted" \\', b'* \xe2\x80\xa8 a line']
+        page = self.page(b'\n'.join([*comments, b' EXIT', b' END >6000', b'']))
+        self.assertEqual(page.count(b'</script>'), 2)
+        texts = [text for text, _, _ in data_of(page)['lines']]
+        self.assertEqual(texts[:3], [comment.decode() for comment in comments[:3]])
+        self.assertEqual(texts[3:5], ['* ÿþ no UTF-8', '* ümläut'])
+
+    def test_a_long_source_has_a_page(self):
+        source = b'* a line of a comment\n' * 47_000 + b'S EXIT\n END S\n'
+        data = data_of(self.page(source))
+        self.assertEqual((len(data['lines']), data['names']), (47_002, [['S', FIRST_GROM, 47_001]]))
+
+    def test_heavy_runs_are_cut_and_that_is_said(self):
+        source = b'S ALL >20\n ALL >21\n B S\n END S\n'
+        self.file('a.gpl', source)
+        ended = self.call('steps', '--seconds', '0', 'a.gpl', '100000')
+        self.assertEqual(ended.returncode, 0)
+        data = data_of(ended.stdout)
+        self.assertRegex(data['end'], 'Only the first [0-9,]+ steps are shown: more would take longer than 0 seconds')
+        self.assertIn(data['end'], ended.stderr.decode())
+        *_, last = states(data)
+        self.assertEqual(last[VIDEO:REGISTERS], self.shown(source, len(data['steps'])).vdp)
+
+    def test_a_refused_source_is_reported_as_compilers_do(self):
+        self.file('bad.gpl', b' EXIT\n ST @>8300, 5\n')
+        ended = self.call('steps', 'bad.gpl')
+        self.assertEqual((ended.returncode, ended.stdout), (1, b''))
+        self.assertEqual(ended.stderr.splitlines()[:2], [b'bad.gpl:2: bad operand', b'     ST @>8300, 5'])
+        self.file('none.gpl', b' EXIT\n')
+        ended = self.call('steps', 'none.gpl')
+        self.assertEqual((ended.returncode, ended.stderr), (1, b'none.gpl: no entry\n'))
+
+    def test_wrong_words(self):
+        self.file('a.gpl', b' EXIT\n END >6000\n')
+        for words in ([], ['a.gpl', '100001'], ['a.gpl', '-1'], ['a.gpl', 'x'], ['a.gpl', '1', '2']):
+            self.assertEqual(self.call('steps', *words).returncode, 2)
+        self.assertEqual(self.call('steps', 'missing.gpl').returncode, 3)
+
+    def test_an_output_file(self):
+        self.file('a.gpl', b' EXIT\n END >6000\n')
+        ended = self.call('steps', '-o', 'page.html', 'a.gpl')
+        self.assertEqual((ended.returncode, ended.stdout), (0, b''))
+        self.assertTrue((self.folder / 'page.html').read_bytes().startswith(b'<!DOCTYPE html>'))
+
+    def test_another_program_makes_no_page(self):
+        self.file('a.gpl', b' EXIT\n END >6000\n')
+        ended = self.call('steps', 'a.gpl', TI_DEBUG='/bin/true')
+        self.assertEqual((ended.returncode, ended.stdout), (1, b''))
+
+
+if __name__ == '__main__':
+    unittest.main()

@@ -1,0 +1,44 @@
+"""The page of a run: one HTML file that holds its style, its script and its data."""
+import html
+import json
+import pathlib
+import re
+
+from lib.repository import read_text
+
+HERE = pathlib.Path(__file__).resolve().parent / 'page'
+SCRIPTS = ['model', 'names', 'view', 'source', 'steps', 'state', 'bytes', 'screen', 'controls']
+
+
+def shown(data):
+    """The bytes of a line as text: UTF-8 where they are, else a character for each byte."""
+    try:
+        return data.decode('utf-8')
+    except UnicodeDecodeError:
+        return data.decode('latin-1')
+
+
+def data_of(name, run, listing):
+    """All that the script of the page is given."""
+    texts = {}
+    steps = [[step.address, texts.setdefault(step.text, len(texts)), *map(packed, step.changes)] for step in run.steps]
+    return {'name': name, 'end': run.end, 'stopped': run.stopped, 'last': run.last,
+            'first': [packed(change) for change in run.first],
+            'lines': [[shown(line.text), line.address, line.data.hex()] for line in listing.lines],
+            'names': [[name.name, name.value, name.line] for name in listing.names],
+            'texts': list(texts), 'steps': steps}
+
+
+def packed(change):
+    """A change as the script reads it: its place, its bytes, and how often they stand there, if more than once."""
+    at, digits, times = change
+    return [at, digits] if times == 1 else [at, digits, times]
+
+
+def page(data):
+    """The page. No text of the source or of a name can end the element that it is in, and none is taken for a part of
+    the page's own text."""
+    parts = {'title': html.escape(data['name']), 'style': read_text(HERE / 'page.css'),
+             'script': '\n'.join(read_text(HERE / f'{part}.js') for part in SCRIPTS),
+             'data': json.dumps(data, separators=(',', ':'), ensure_ascii=False).replace('<', '\\u003c')}
+    return re.sub(r'\{\{(\w+)\}\}', lambda it: parts[it[1]], read_text(HERE / 'page.html'))

@@ -1,0 +1,108 @@
+// Buttons, keys and the search, and the beginning of all.
+
+let playing = 0
+
+function play(isOn) {
+  clearTimeout(playing)
+  playing = 0
+  find('play').ariaPressed = String(isOn)
+  find('play').textContent = isOn ? 'Pause' : 'Play'
+  find('made').ariaLive = isOn ? 'off' : 'polite'
+  if (!isOn) return
+  if (now === last) go(0)
+  const turn = () => {
+    const delay = +find('speed').value
+    go(now + (delay ? 1 : 10))
+    if (now < last) playing = setTimeout(turn, delay || 16)
+    else play(false)
+  }
+  playing = setTimeout(turn, +find('speed').value)
+}
+
+const textsOfSteps = []
+
+function search(forward) {
+  const wanted = find('search').value.trim().toLowerCase()
+  if (!wanted) { find('hits').textContent = ''; return }
+  if (!textsOfSteps.length)
+    for (const step of steps)
+      textsOfSteps.push(`${hex(step.at)} ${step.text} ${lines[lineOf[step.at]]?.text ?? ''}`.toLowerCase())
+  const found = textsOfSteps.flatMap((text, i) => text.includes(wanted) ? [i + 1] : [])
+  const to = forward ? found.find(number => number > now) ?? found[0]
+    : found.findLast(number => number < now) ?? found.at(-1)
+  if (to !== undefined) go(to)
+  find('hits').textContent = found.length ? `${found.indexOf(to) + 1} of ${found.length}` : 'none'
+}
+
+function setWord(isWord) {
+  const width = isWord && choice.at + 1 !== CELLS_END && choice.at < REGISTERS ? 2 : 1
+  setChoice(choice.at, width)
+  go(now)
+}
+
+const KEYS = {
+  ArrowLeft: event => go(now - (event.shiftKey ? 10 : 1)), ArrowRight: event => go(now + (event.shiftKey ? 10 : 1)),
+  Home: () => go(0), End: () => go(last), ' ': () => play(!playing),
+  n: () => goToChange(true), p: () => goToChange(false), w: () => setWord(choice.width === 1),
+  '/': () => find('search').focus(),
+}
+
+function onKey(event) {
+  const tag = event.target.tagName
+  const isTyped = tag === 'INPUT' && !['range', 'checkbox'].includes(event.target.type)
+  if (event.ctrlKey || event.metaKey || event.altKey || isTyped || tag === 'SELECT') return
+  if (event.key === ' ' && ['BUTTON', 'SUMMARY', 'INPUT'].includes(tag)) return
+  const act = KEYS[event.key]
+  if (!act) return
+  event.preventDefault()
+  act(event)
+}
+
+function showVideo(offset) {
+  videoFrom = offset & 0x3FF0
+  go(now)
+}
+
+function changeTheme() {
+  const root = document.documentElement, isDark = matchMedia('(prefers-color-scheme: dark)').matches
+  const shown = root.dataset.theme ?? (isDark ? 'dark' : 'light')
+  root.dataset.theme = shown === 'dark' ? 'light' : 'dark'
+}
+
+function listen() {
+  find('home').onclick = () => go(0)
+  find('back').onclick = () => go(now - 1)
+  find('forward').onclick = () => go(now + 1)
+  find('last').onclick = () => go(last)
+  find('play').onclick = () => play(!playing)
+  find('slider').oninput = event => go(+event.target.value)
+  find('number').onchange = event => go(Math.trunc(+event.target.value))
+  find('search').onkeydown = event => {
+    if (event.key === 'Enter') search(!event.shiftKey)
+    if (event.key === 'Escape') event.target.blur()
+  }
+  find('theme').onclick = changeTheme
+  find('word').onchange = event => setWord(event.target.checked)
+  find('previous').onclick = () => goToChange(false)
+  find('next').onclick = () => goToChange(true)
+  find('from').onchange = event => {
+    const at = parseInt(event.target.value, 16)
+    if (at >= 0 && at < VIDEO_SIZE) showVideo(at)
+  }
+  for (const button of document.querySelectorAll('[data-register]'))
+    button.onclick = () => {
+      find('follow').checked = false
+      showVideo(tableAt(+button.dataset.register) % VIDEO_SIZE)
+    }
+  document.addEventListener('keydown', onKey)
+  addEventListener('hashchange', readFragment)
+}
+
+find('name').textContent = data.name
+find('end').textContent = data.end
+find('end').classList.toggle('stopped', data.stopped)
+find('slider').max = find('number').max = last
+find('of').textContent = `of ${last.toLocaleString('en')}`
+buildSource()
+listen()
+readFragment()

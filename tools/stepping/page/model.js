@@ -1,0 +1,59 @@
+'use strict'
+// The run that the page was given: its steps, lines and names, and the memory after each step.
+
+const data = JSON.parse(document.getElementById('data').textContent)
+const VIDEO = 0x10000, VIDEO_SIZE = 0x4000, REGISTERS = 0x14000, PLACES = 0x14008
+const CELLS = 0x8300, CELLS_END = 0x83C2
+const DATA_STACK = 0x8372, RETURN_STACK = 0x8373, STATUS = 0x837C
+const FIRST_DATA = 0x9F, FIRST_RETURN = 0x7E
+
+const steps = data.steps.map(([at, text, ...changes]) => ({at, text: data.texts[text], changes}))
+const last = steps.length
+const nextAddress = number => number < last ? steps[number].at : data.last
+
+const lines = data.lines.map(([text, at, bytes]) => ({text, at, bytes, size: bytes.length / 2}))
+
+// the line whose bytes are at an address, or -1
+const lineOf = new Int32Array(0x10000).fill(-1)
+lines.forEach((line, index) => { if (line.size) lineOf.fill(index, line.at, line.at + line.size) })
+
+const stepsOfLines = new Map()
+steps.forEach((step, index) => {
+  const line = lineOf[step.at]
+  if (!stepsOfLines.has(line)) stepsOfLines.set(line, [])
+  stepsOfLines.get(line).push(index + 1)
+})
+const stepsOfLine = line => stepsOfLines.get(line) ?? []
+
+// A change is a place, its bytes in hexadecimal, and how often these are there one after the other.
+const lengthOf = change => change[1].length / 2 * (change[2] ?? 1)
+const covers = (change, at) => at >= change[0] && at < change[0] + lengthOf(change)
+
+function apply(memory, changes) {
+  for (const [at, digits, times] of changes) {
+    if (times) memory.fill(parseInt(digits, 16), at, at + times)
+    else for (let i = 0; i < digits.length; i += 2) memory[at + i / 2] = parseInt(digits.slice(i, i + 2), 16)
+  }
+}
+
+// Every 128th memory is kept after it was made; the others are made from the kept one before them.
+const EVERY = 128
+const kept = new Map([[0, new Uint8Array(PLACES)]])
+apply(kept.get(0), data.first)
+
+function memoryAt(number) {
+  let from = number - number % EVERY
+  while (!kept.has(from)) from -= EVERY
+  const memory = kept.get(from).slice()
+  for (let i = from + 1; i <= number; i++) {
+    apply(memory, steps[i - 1].changes)
+    if (i % EVERY === 0) kept.set(i, memory.slice())
+  }
+  return memory
+}
+
+// the steps that change one of some bytes
+function stepsThatChange(at, width) {
+  const is = change => covers(change, at) || (width > 1 && covers(change, at + 1))
+  return steps.flatMap((step, index) => step.changes.some(is) ? [index + 1] : [])
+}

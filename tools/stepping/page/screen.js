@@ -1,0 +1,69 @@
+// The screen, and the registers of the video processor (TMS9918A data manual, "Display modes", "Write-only registers").
+
+const COLOURS = [[0, 0, 0], [0, 0, 0], [33, 200, 66], [94, 220, 120], [84, 85, 237], [125, 118, 252], [212, 82, 77],
+  [66, 235, 245], [252, 85, 84], [255, 121, 120], [212, 193, 84], [230, 206, 128], [33, 176, 59], [201, 91, 186],
+  [204, 204, 204], [255, 255, 255]]
+const POINTS = COLOURS.map(colour => new Uint32Array(new Uint8Array([...colour, 255]).buffer)[0])
+
+const register = number => memory[REGISTERS + number]
+const video = at => memory[VIDEO + at % VIDEO_SIZE]
+const TABLES = {2: [16, 1024], 3: [256, 64], 4: [8, 2048], 5: [128, 128], 6: [8, 2048]}
+// the address of the table that a register places
+const tableAt = number => register(number) % TABLES[number][0] * TABLES[number][1]
+
+function modeName() {
+  const bits = (register(1) & 0x18) | (register(0) & 2)
+  return {0: 'graphics mode I', 0x10: 'text mode', 8: 'multicolor mode', 2: 'graphics mode II'}[bits] ??
+    'no mode of the manual'
+}
+
+views.push(() => {
+  const names = tableAt(2), colours = tableAt(3), patterns = tableAt(4), backdrop = register(7) % 16
+  const isOn = register(1) & 0x40 && modeName() === 'graphics mode I'
+  const picture = new ImageData(256, 192), points = new Uint32Array(picture.data.buffer)
+  for (let y = 0, point = 0; y < 192; y++)
+    for (let x = 0; x < 256; x += 8) {
+      const code = video(names + 32 * (y >> 3) + (x >> 3))
+      const pair = video(colours + (code >> 3)), line = video(patterns + 8 * code + y % 8)
+      for (let bit = 7; bit >= 0; bit--)
+        points[point++] = POINTS[(!isOn ? 0 : line >> bit & 1 ? pair >> 4 : pair & 15) || backdrop]
+    }
+  find('picture').getContext('2d').putImageData(picture, 0, 0)
+  find('mode').textContent = register(1) & 0x40 ? modeName() + (isOn ? '' : ': no picture is drawn')
+    : 'The picture is off (register 1).'
+})
+
+function textRow(from, columns) {
+  const parts = []
+  let plain = ''
+  for (let column = 0; column < columns; column++) {
+    const at = VIDEO + (from + column) % VIDEO_SIZE, text = character(memory[at])
+    if (changed.has(at)) {
+      parts.push(plain, make('mark', text))
+      plain = ''
+    } else plain += text
+  }
+  return [...parts, plain + '\n'].filter(part => part !== '')
+}
+
+views.push(() => {
+  const columns = modeName() === 'text mode' ? 40 : 32, names = tableAt(2)
+  find('text').replaceChildren(...Array.from({length: 24}, (_, row) => textRow(names + columns * row, columns)).flat())
+})
+
+function registerTexts() {
+  const one = register(1), seven = register(7)
+  const flags = [one & 0x40 ? 'picture on' : 'picture off', one & 0x20 ? 'interrupt' : '',
+    one & 2 ? 'large sprites' : '', one & 1 ? 'magnified' : '']
+  return [modeName(), flags.filter(Boolean).join(', '),
+    `screen at ${hex(tableAt(2))}`, `colours at ${hex(tableAt(3))}`, `patterns at ${hex(tableAt(4))}`,
+    `sprites at ${hex(tableAt(5))}`, `sprite patterns at ${hex(tableAt(6))}`,
+    `text colour ${seven >> 4}, backdrop ${seven & 15}`]
+}
+
+views.push(() => find('registers').replaceChildren(...registerTexts().map((text, number) => {
+  const row = make('tr', undefined, {onclick: () => choose(REGISTERS + number)})
+  row.append(make('th', `VR${number}`), make('td', hex(register(number), 2),
+    {className: changed.has(REGISTERS + number) ? 'changed' : ''}), make('td', text))
+  return row
+})))

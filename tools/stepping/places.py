@@ -1,0 +1,33 @@
+"""One space of addresses for all that a state has, so that a place is a number.
+
+The memory of the processor is from 0 on, where the visible cells of GPL are >8300 to >83C1; the video memory is from
+VIDEO on, and the registers of the video processor from REGISTERS on.
+"""
+VIDEO, REGISTERS = 0x10000, 0x14000
+CELLS, CELLS_END = 0x8300, 0x83C2
+END = REGISTERS + 8
+BASES = {'V': VIDEO, 'W': REGISTERS, '>': 0}
+
+
+def changes_of(part):
+    """The changes that one part of a line shows, as `>8300=7F,FE*3`: of each its place, its bytes in hexadecimal, and
+    how often they stand there one after the other."""
+    place, _, values = part.partition('=')
+    at = BASES[place[0]] + int(place.lstrip('VW>'), 16)
+    found = []
+    for value in values.split(','):
+        byte, _, count = value.partition('*')
+        times = int(count or 1)
+        if times == 1 and found and found[-1][2] == 1:
+            found[-1] = (found[-1][0], found[-1][1] + byte, 1)
+        else:
+            found.append((at, byte, times))
+        at += times
+    return found
+
+
+def make(memory, changes):
+    """Makes changes in a memory."""
+    for at, digits, times in changes:
+        data = bytes.fromhex(digits) * times
+        memory[at:at + len(data)] = data

@@ -1,0 +1,145 @@
+"""The steps of a run, and what each of them changed, as `gsteps` of ti_debug writes them.
+
+The report is read while it is written. Where a run has more changes than a page can hold, or takes longer than a page
+should, its last steps are left out, and `cut` says so. What the steps change must lead to the state that the program
+shows after the last of them: else there is no page.
+"""
+import re
+import subprocess
+import time
+import typing
+
+from lib import command
+from lib.dump import dump
+from stepping.places import CELLS, CELLS_END, END, REGISTERS, VIDEO, changes_of, make
+
+STEP = re.compile(r' *[0-9]+ >([0-9A-F]{4}) S.. D.. R.. ([^=\n]*?)((?: \S+=\S+)*)')
+STATE = re.compile(r'^gpl >([0-9A-F]{4}) ', re.M)
+END_LINE = re.compile(r'^(exit|stop) ?([0-9]?) ?at >([0-9A-F]{4})$', re.M)
+MOST_BYTES = 32_000_000
+REASONS = {
+    1: 'the code byte there is no instruction’s',
+    2: 'a pointer, an index or the bytes of an operand are not visible: they are outside >8300 to >83C1, or a pointer '
+       'begins at >837C',
+    3: 'the bytes at the top of a stack are not visible',
+    4: 'a MOVE of more than 16,384 bytes',
+    5: 'a MOVE past the last register of the video processor',
+}
+
+
+class Step(typing.NamedTuple):
+    """A step: the address of its instruction, the instruction, and the changes."""
+    address: int
+    text: str
+    changes: list
+
+
+class Run(typing.NamedTuple):
+    """A run: its steps, the address after the last, the state before the first as changes of a memory of 0, how it
+    ended as a sentence, whether the program stopped with an error, and why steps are left out, if any are."""
+    steps: list
+    last: int
+    first: list
+    end: str
+    stopped: bool
+    cut: str
+
+
+def first_state():
+    """The state that each GPL program begins with: the pointers of both stacks."""
+    return [(0x8372, '9F7E', 1)]
+
+
+def step_of(line):
+    found = STEP.fullmatch(line)
+    if not found:
+        return None
+    changes = [change for part in found[3].split() for change in changes_of(part)]
+    return Step(int(found[1], 16), found[2], changes)
+
+
+def size_of(changes):
+    """About how many bytes changes take in a page."""
+    return sum(len(digits) + 12 for _, digits, _ in changes) + 8
+
+
+def steps_of(output, seconds):
+    """The steps that a report begins with, what follows them, and why steps are left out, if any are."""
+    steps, size, deadline = [], 0, time.monotonic() + seconds
+    for line in output:
+        step = step_of(line.decode('latin-1').rstrip('\n'))
+        if step is None:
+            return steps, line + output.read(), ''
+        steps.append(step)
+        size += size_of(step.changes)
+        if size > MOST_BYTES:
+            return steps, b'', f'the changes are more than {MOST_BYTES // 1_000_000} MB'
+        if len(steps) % 64 == 0 and time.monotonic() > deadline:
+            return steps, b'', f'more would take longer than {seconds:g} seconds'
+    return steps, b'', ''
+
+
+def reported(debugger, source, limit, seconds):
+    """What `gsteps` reports of a source: steps, the rest of the report, and why steps are left out."""
+    try:
+        with subprocess.Popen([debugger, 'gsteps', str(limit)], stdin=subprocess.PIPE, stdout=subprocess.PIPE,
+                              stderr=subprocess.DEVNULL) as running:
+            # the whole input is read before the first byte is written
+            running.stdin.write(source)
+            running.stdin.close()
+            steps, rest, cut = steps_of(running.stdout, seconds)
+            if cut:
+                running.kill()
+    except OSError as error:
+        raise command.Stopped(f'{debugger}: {error.strerror}', command.UNREADABLE) from None
+    return steps, rest.decode('latin-1'), cut
+
+
+def state_shown(rest):
+    """The address of the next instruction, and the memory, that the end of a report shows."""
+    shown, state = dump(rest), STATE.search(rest)
+    if shown is None or state is None:
+        raise command.Stopped('the program wrote no state')
+    memory = bytearray(END)
+    memory[CELLS:CELLS_END] = shown.pad[:CELLS_END - CELLS]
+    memory[VIDEO:VIDEO + len(shown.vdp)] = shown.vdp
+    memory[REGISTERS:END] = shown.registers
+    return int(state[1], 16), memory
+
+
+def state_made(run_first, steps):
+    """The memory that the changes of all steps lead to."""
+    memory = bytearray(END)
+    make(memory, run_first)
+    for step in steps:
+        make(memory, step.changes)
+    return memory
+
+
+def counted(steps):
+    return f'{steps:,} step' + 's' * (steps != 1)
+
+
+def ending(rest, steps, cut):
+    """How a run ended, as a sentence; and whether with an error."""
+    if cut:
+        return f'Only the first {counted(steps)} are shown: {cut}.', False
+    found = END_LINE.match(rest)
+    if not found:
+        return f'Cut off after {counted(steps)}, the limit.', False
+    if found[1] == 'exit':
+        return f'Ended by EXIT at >{found[3]} after {counted(steps)}.', False
+    return f'Stopped at >{found[3]} after {counted(steps)}: {REASONS[int(found[2])]}.', True
+
+
+def run_of(bench, debugger, source, limit, seconds):
+    """The run of a GPL source that the program accepts, up to a number of steps."""
+    steps, rest, cut = reported(debugger, source, limit, seconds)
+    if cut:
+        rest = bench.run('run', str(len(steps)), given=source).out.decode('latin-1')
+    last, shown = state_shown(rest)
+    first = first_state()
+    if state_made(first, steps) != shown:
+        raise command.Stopped('the changes of the steps do not lead to the last state, so there is no page')
+    end, stopped = ending(rest, len(steps), cut)
+    return Run(steps, last, first, end, stopped, cut)
