@@ -124,13 +124,16 @@ class Browser:
 
     def click(self, selector, shift=False):
         """Clicks the middle of an element."""
-        place = self.value(f'''(() => {{
+        self.click_at(*self.value(f'''(() => {{
             const element = document.querySelector({json.dumps(selector)})
-            element.scrollIntoView({{block: 'nearest'}})
+            element.scrollIntoView({{block: 'nearest', inline: 'nearest'}})
             const {{left, top, width, height}} = element.getBoundingClientRect()
             return [left + width / 2, top + height / 2]
-        }})()''')
-        given = {'x': place[0], 'y': place[1], 'button': 'left', 'clickCount': 1, 'modifiers': 8 if shift else 0}
+        }})()'''), shift=shift)
+
+    def click_at(self, x, y, shift=False):
+        """Clicks a point of the page."""
+        given = {'x': x, 'y': y, 'button': 'left', 'clickCount': 1, 'modifiers': 8 if shift else 0}
         self.ask('Input.dispatchMouseEvent', type='mousePressed', **given)
         self.ask('Input.dispatchMouseEvent', type='mouseReleased', **given)
 

@@ -47,7 +47,7 @@ class Watch(Calling):
         self.assertIn(b'pad:face >8310=01', ended.stdout)
 
     def test_what_is_no_item_is_named(self):
-        for word, text in (('pad:NONE', b'pad:NONE: the source has no name NONE'),
+        for word, text in (('pad:NOSUCH', b'pad:NOSUCH: the source has no name NOSUCH'),
                            ('cell:SUM', b'cell:SUM: no item; it is pad:AT+LEN, vdp:AT+LEN or pc:AT'),
                            ('pc:SHOW+1', b'pc:SHOW+1: pc: has no length'),
                            ('pad:83C1+2', b'an item is out of range')):

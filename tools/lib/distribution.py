@@ -17,10 +17,12 @@ PROGRAMS = ['ti_bench', 'ti_debug']
 # the scripts of tools/ that users call as ti_bench-NAME, each with the folders of tools/ that it needs beside lib
 TOOLS = {
     'archive': ['labelling'],
-    'assemble': [],
+    'assemble': ['editing'],
     'label': ['labelling'],
     'raw': [],
-    'screen': [],
+    'screen': ['stepping'],
+    'steps': ['stepping'],
+    'watch': ['stepping'],
 }
 # the scripts that an installation has beside them
 SCRIPTS = ['install', 'launcher']
