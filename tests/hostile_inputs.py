@@ -7,13 +7,16 @@ import shlex
 
 LARGEST = 1_048_576
 MOST = {'exec': 10_000_000, 'run': 100_000, 'trace': 100_000, 'watch': 100_000, 'demo': 500}
+# the command of ti_debug that reads what a command of ti_bench reads
+DEBUGGED = {b'asm': b'list', b'gasm': b'glist', b'exec': b'steps', b'run': b'gsteps', b'trace': b'gsteps'}
 READERS = ['asm', 'dis', 'exec', 'gasm', 'gdis', 'link', 'run', 'trace', 'watch']
 
 
 @dataclasses.dataclass
 class Run:
     """The words, the input and the streams of a run. `spare` is its address space in KiB beyond the least in which the
-    program answers, or None for the bound. `files` says that it reads files by name."""
+    program answers, or None for the bound. `files` says that it reads files by name, and `program` is the one that is
+    run."""
     words: list
     data: bytes = b''
     stdin: str = 'file'     # or: pipe, closed, folder
@@ -21,20 +24,23 @@ class Run:
     stderr: str = 'file'    # or: closed, full
     spare: int = None
     files: bool = False
+    program: str = 'ti_bench'
 
     def told(self):
         words = ' '.join(shlex.quote(os.fsdecode(word)[:60]) for word in self.words[:6]) or 'no words'
+        words = words if self.program == 'ti_bench' else f'{self.program} {words}'
         kinds = [f'{name} {kind}' for name in ('stdin', 'stdout', 'stderr') if (kind := getattr(self, name)) != 'file']
         spare = [] if self.spare is None else [f'{self.spare} KiB of memory to spare']
         return ', '.join([words, f'{len(self.data)} bytes', *kinds, *spare])
 
 
 def load_examples():
-    """The words and the input of each example that has an input."""
+    """The words and the input of each example of ti_bench that has an input."""
     folder = pathlib.Path(__file__).resolve().parent.parent / 'examples'
     found = [(words.read_bytes().split(), words.with_name('input'))
              for words in sorted(folder.glob('*/words'))]
-    return [(words, data) for words, path in found if path.exists() and (data := path.read_bytes())]
+    return [(words, data) for words, path in found if words[0] not in DEBUGGED.values() and path.exists()
+            and (data := path.read_bytes())]
 
 
 def load_files():
@@ -380,7 +386,7 @@ WORDS = [b'asm', b'link', b'dis', b'gdis', b'exec', b'gasm', b'interp', b'run', 
          b'vdp:0000+16385', b'vdp:0+1', b'pc:6000', b'pc:60', b'pc:>6000', b'pc:6000+1', b'ONE', b'.ONE', b'ONE/',
          b'5', b'007', b'-1', b'A000', b'a001', b'A00', b'A0000', b'>A000', b'100000', b'100001', b'10000000',
          b'10000001', b'500', b'501', b'--help', b'--version', b'-h', b'--', b'ASM', b'\xff\xfe', b'\xc3\xa9',
-         b'9' * 20, b'+1', b' 1', b'1 ', b'0x10', b'?', b'asm\n', b'1e3']
+         b'9' * 20, b'+1', b'glist', b'list', b'gsteps', b'steps', b' 1', b'1 ', b'0x10', b'?', b'asm\n', b'1e3']
 
 
 def words(rng, turn):
@@ -420,7 +426,17 @@ WEIGHTS = {noise: 8, prefixes: 1, mutations: 4, sources: 2, codes: 2, objects: 1
 KINDS = [(kind, part, weight) for kind, weight in WEIGHTS.items() for part in range(weight)]
 
 
+def debugged(run, is_any):
+    """The run with the command of ti_debug that reads the same; with any words, if it is for them."""
+    name = run.words[0] if run.words else b''
+    if name in DEBUGGED:
+        return dataclasses.replace(run, words=[DEBUGGED[name], *run.words[1:]], program='ti_debug')
+    return dataclasses.replace(run, program='ti_debug') if is_any else run
+
+
 def run_of(seed, number):
-    """The kind of a run and the run, by the seed and its number."""
+    """The kind of a run and the run, by the seed and its number. Of four rounds of all kinds one is for ti_debug."""
     kind, part, weight = KINDS[number % len(KINDS)]
-    return kind.__name__, kind(random.Random(f'{seed} {number}'), number // len(KINDS) * weight + part)
+    turn = number // len(KINDS)
+    run = kind(random.Random(f'{seed} {number}'), turn * weight + part)
+    return kind.__name__, debugged(run, kind is words) if turn % 4 == 3 else run
