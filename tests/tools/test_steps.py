@@ -9,7 +9,7 @@ from lib import program
 from lib.dump import dump
 
 DATA = re.compile(r'<script type="application/json" id="data">(.*?)</script>', re.S)
-CELLS, VIDEO, REGISTERS, END = 0x8300, 0x10000, 0x14000, 0x14008
+CELLS, VIDEO, REGISTERS, END = 0x8300, 0x10000, 0x14000, 0x14011
 FIRST_GROM = 0x6000
 # An instruction, and how many bytes it has.
 SIZES = [('INC @>8300', 2), ('ST @>8301,>20', 3), ('RAND 9', 2), ('DST @>8302,>1234', 4), ('ALL >20', 2),
@@ -57,7 +57,7 @@ class Steps(Calling):
                 state = self.shown(source, number)
                 self.assertEqual(memory[CELLS:CELLS + 0xC2], state.pad[:0xC2])
                 self.assertEqual(memory[VIDEO:REGISTERS], state.vdp)
-                self.assertEqual(memory[REGISTERS:], state.registers)
+                self.assertEqual(memory[REGISTERS:REGISTERS + 8], state.registers)
 
     def test_lines_have_the_places_that_follow_from_their_sizes(self):
         for seed in range(20):

@@ -4,8 +4,8 @@ import re
 
 ROW = re.compile(r'>([0-9A-F]{4})((?: [0-9A-F]{2}){16})')
 WORDS = re.compile(r'>([0-9A-F]{4})((?: [0-9A-F]{4}){1,8})')
-SIZES = {'pad': 256, 'vdp': 16384}
-ORIGINS = {'pad': 0x8300, 'vdp': 0}
+SIZES = {'pad': 256, 'vdp': 16384, 'low': 8192, 'high': 24576}
+ORIGINS = {'pad': 0x8300, 'vdp': 0, 'low': 0x2000, 'high': 0xA000}
 
 
 class Dump:
@@ -40,6 +40,13 @@ def dump(text):
     begin = max(number for number in range(middle) if lines[number] == 'pad')
     return Dump(memory(lines[begin + 1:middle], 'pad'), memory(lines[middle + 1:end], 'vdp'),
                 bytes.fromhex(lines[end].partition(' ')[2]))
+
+
+def expansion(text):
+    """The low and the high expansion memory that a report of `steps` shows at its end."""
+    lines = text.splitlines()
+    low, high = (len(lines) - 1 - lines[::-1].index(part) for part in ('low', 'high'))
+    return memory(lines[low + 1:high], 'low'), memory(lines[high + 1:], 'high')
 
 
 def words(text):

@@ -18,15 +18,34 @@ def shown(data):
         return data.decode('latin-1')
 
 
+def numbered(texts, text):
+    """The number of a text among those that were met."""
+    return texts.setdefault(text, len(texts))
+
+
 def data_of(name, run, listing):
-    """All that the script of the page is given."""
+    """All that the script of the page is given of a GPL program."""
     texts = {}
-    steps = [[step.address, texts.setdefault(step.text, len(texts)), *map(packed, step.changes)] for step in run.steps]
-    return {'name': name, 'end': run.end, 'stopped': run.stopped, 'last': run.last,
-            'first': [packed(change) for change in run.first],
-            'lines': [[shown(line.text), line.address, line.data.hex()] for line in listing.lines],
-            'names': [[name.name, name.value, name.line] for name in listing.names],
-            'texts': list(texts), 'steps': steps}
+    steps = [[step.address, numbered(texts, step.text), *map(packed, step.changes)] for step in run.steps]
+    return {'kind': 'gpl', **common(name, run), 'last': {'at': run.last}, 'lines': lines_of(listing.lines),
+            'names': [list(name) for name in listing.names], 'texts': list(texts), 'steps': steps}
+
+
+def data_of_processor(name, run, lines, names):
+    """The same of a run of the processor, with the lines of a source, if there is one."""
+    texts = {}
+    steps = [[step.before.pc, numbered(texts, step.text), step.before.wp, step.before.st, *map(packed, step.changes)]
+             for step in run.steps]
+    return {'kind': 'exec', **common(name, run), 'last': {'at': run.last.pc, 'wp': run.last.wp, 'st': run.last.st},
+            'lines': lines_of(lines), 'names': [[*name, 0][:3] for name in names], 'texts': list(texts), 'steps': steps}
+
+
+def common(name, run):
+    return {'name': name, 'end': run.end, 'stopped': run.stopped, 'first': [packed(change) for change in run.first]}
+
+
+def lines_of(lines):
+    return [[shown(line.text), line.address, line.data.hex()] for line in lines]
 
 
 def packed(change):

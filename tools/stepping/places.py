@@ -1,11 +1,14 @@
 """One space of addresses for all that a state has, so that a place is a number.
 
 The memory of the processor is from 0 on, where the visible cells of GPL are >8300 to >83C1; the video memory is from
-VIDEO on, and the registers of the video processor from REGISTERS on.
+VIDEO on, the registers of the video processor are from REGISTERS on, and what the ports hold beside them is at LATCHES.
 """
 VIDEO, REGISTERS = 0x10000, 0x14000
 CELLS, CELLS_END = 0x8300, 0x83C2
-END = REGISTERS + 8
+# what a port holds: its place, and how many bytes; of VH the first says whether a byte is held
+LATCHES = {'VA': (REGISTERS + 8, 2), 'VF': (REGISTERS + 10, 1), 'VH': (REGISTERS + 11, 2), 'GA': (REGISTERS + 13, 2),
+           'GF': (REGISTERS + 15, 1), 'GH': (REGISTERS + 16, 1)}
+END = REGISTERS + 17
 BASES = {'V': VIDEO, 'W': REGISTERS, '>': 0}
 
 

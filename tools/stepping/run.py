@@ -1,22 +1,18 @@
-"""The steps of a run, and what each of them changed, as `gsteps` of ti_debug writes them.
+"""The steps of a run of a GPL program, and what each of them changed, as `gsteps` of ti_debug writes them.
 
-The report is read while it is written. Where a run has more changes than a page can hold, or takes longer than a page
-should, its last steps are left out, and `cut` says so. What the steps change must lead to the state that the program
-shows after the last of them: else there is no page.
+What the steps change must lead to the state that the program shows after the last of them: else there is no page.
 """
 import re
-import subprocess
-import time
 import typing
 
 from lib import command
 from lib.dump import dump
 from stepping.places import CELLS, CELLS_END, END, REGISTERS, VIDEO, changes_of, make
+from stepping.reports import counted, reported
 
 STEP = re.compile(r' *[0-9]+ >([0-9A-F]{4}) S.. D.. R.. ([^=\n]*?)((?: \S+=\S+)*)')
 STATE = re.compile(r'^gpl >([0-9A-F]{4}) ', re.M)
 END_LINE = re.compile(r'^(exit|stop) ?([0-9]?) ?at >([0-9A-F]{4})$', re.M)
-MOST_BYTES = 32_000_000
 REASONS = {
     1: 'the code byte there is no instruction’s',
     2: 'a pointer, an index or the bytes of an operand are not visible: they are outside >8300 to >83C1, or a pointer '
@@ -51,48 +47,12 @@ def first_state():
 
 
 def step_of(line):
+    """The step that a line shows, or None."""
     found = STEP.fullmatch(line)
     if not found:
         return None
     changes = [change for part in found[3].split() for change in changes_of(part)]
     return Step(int(found[1], 16), found[2], changes)
-
-
-def size_of(changes):
-    """About how many bytes changes take in a page."""
-    return sum(len(digits) + 12 for _, digits, _ in changes) + 8
-
-
-def steps_of(output, seconds):
-    """The steps that a report begins with, what follows them, and why steps are left out, if any are."""
-    steps, size, deadline = [], 0, time.monotonic() + seconds
-    for line in output:
-        step = step_of(line.decode('latin-1').rstrip('\n'))
-        if step is None:
-            return steps, line + output.read(), ''
-        steps.append(step)
-        size += size_of(step.changes)
-        if size > MOST_BYTES:
-            return steps, b'', f'the changes are more than {MOST_BYTES // 1_000_000} MB'
-        if len(steps) % 64 == 0 and time.monotonic() > deadline:
-            return steps, b'', f'more would take longer than {seconds:g} seconds'
-    return steps, b'', ''
-
-
-def reported(debugger, source, limit, seconds):
-    """What `gsteps` reports of a source: steps, the rest of the report, and why steps are left out."""
-    try:
-        with subprocess.Popen([debugger, 'gsteps', str(limit)], stdin=subprocess.PIPE, stdout=subprocess.PIPE,
-                              stderr=subprocess.DEVNULL) as running:
-            # the whole input is read before the first byte is written
-            running.stdin.write(source)
-            running.stdin.close()
-            steps, rest, cut = steps_of(running.stdout, seconds)
-            if cut:
-                running.kill()
-    except OSError as error:
-        raise command.Stopped(f'{debugger}: {error.strerror}', command.UNREADABLE) from None
-    return steps, rest.decode('latin-1'), cut
 
 
 def state_shown(rest):
@@ -103,7 +63,7 @@ def state_shown(rest):
     memory = bytearray(END)
     memory[CELLS:CELLS_END] = shown.pad[:CELLS_END - CELLS]
     memory[VIDEO:VIDEO + len(shown.vdp)] = shown.vdp
-    memory[REGISTERS:END] = shown.registers
+    memory[REGISTERS:REGISTERS + 8] = shown.registers
     return int(state[1], 16), memory
 
 
@@ -114,10 +74,6 @@ def state_made(run_first, steps):
     for step in steps:
         make(memory, step.changes)
     return memory
-
-
-def counted(steps):
-    return f'{steps:,} step' + 's' * (steps != 1)
 
 
 def ending(rest, steps, cut):
@@ -134,7 +90,7 @@ def ending(rest, steps, cut):
 
 def run_of(bench, debugger, source, limit, seconds):
     """The run of a GPL source that the program accepts, up to a number of steps."""
-    steps, rest, cut = reported(debugger, source, limit, seconds)
+    steps, rest, cut = reported(debugger, ['gsteps', str(limit)], source, step_of, seconds)
     if cut:
         rest = bench.run('run', str(len(steps)), given=source).out.decode('latin-1')
     last, shown = state_shown(rest)

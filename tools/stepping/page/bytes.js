@@ -1,4 +1,4 @@
-// Tables of bytes: the cells, and a part of the video memory; and the chosen place with its history.
+// Tables of bytes: the cells, parts of the memories, and the chosen place with its history.
 
 function buildBytes(table, count) {
   const head = make('tr'), buttons = []
@@ -42,28 +42,44 @@ for (let row = 1; row < find('cells').rows.length; row++)
 views.push(() => cellButtons.forEach((button, i) => drawByte(button, CELLS + i)))
 
 const ROWS = 12
-const videoButtons = buildBytes(find('video'), 16 * ROWS)
-let videoFrom = 0
 
-function followVideo() {
-  const at = [...changed].find(place => place >= VIDEO && place < REGISTERS)
-  if (!find('follow').checked || at === undefined) return
-  const offset = at - VIDEO
-  if (offset < videoFrom || offset >= videoFrom + 16 * ROWS) videoFrom = offset & 0x3FF0
+// A table of a part of a memory, from an address that is chosen, or that follows the changes.
+function partTable(id, first, size) {
+  const table = find(id), from = find(`${id}-from`), follow = find(`${id}-follow`)
+  const buttons = buildBytes(table, 16 * ROWS)
+  const part = {from: 0, size, follow, show(offset) { part.from = offset & (size - 16); go(now) }}
+  const placeAt = offset => first + offset % size
+
+  function followChanges() {
+    const at = [...changed].find(place => place >= first && place < first + size)
+    if (!follow.checked || at === undefined) return
+    const offset = at - first
+    if (offset < part.from || offset >= part.from + 16 * ROWS) part.from = offset & (size - 16)
+  }
+
+  from.onchange = () => {
+    const at = parseInt(from.value, 16)
+    if (at >= 0 && at < size) part.show(at)
+  }
+  views.push(() => {
+    followChanges()
+    if (document.activeElement !== from) from.value = hex(part.from).slice(1)
+    buttons.forEach((button, i) => drawByte(button, placeAt(part.from + i)))
+    for (let row = 0; row < ROWS; row++) {
+      const {cells} = table.rows[row + 1], start = part.from + 16 * row
+      cells[0].textContent = hex(start % size)
+      cells[17].textContent = Array.from({length: 16}, (_, i) => character(memory[placeAt(start + i)])).join('')
+    }
+  })
+  return part
 }
 
-const videoPlace = offset => VIDEO + offset % VIDEO_SIZE
-
-views.push(() => {
-  followVideo()
-  if (document.activeElement !== find('from')) find('from').value = hex(videoFrom).slice(1)
-  videoButtons.forEach((button, i) => drawByte(button, videoPlace(videoFrom + i)))
-  for (let row = 0; row < ROWS; row++) {
-    const {cells} = find('video').rows[row + 1], from = videoFrom + 16 * row
-    cells[0].textContent = hex(from % VIDEO_SIZE)
-    cells[17].textContent = Array.from({length: 16}, (_, i) => character(memory[videoPlace(from + i)])).join('')
-  }
-})
+find('memories').hidden = !ofProcessor
+if (ofProcessor) {
+  const part = partTable('memory', 0, VIDEO)
+  part.from = data.first.length ? data.first[0][0] & 0xFFF0 : 0xA000
+}
+const videoPart = partTable('video', VIDEO, VIDEO_SIZE)
 
 function chosenText() {
   const {at, width} = choice, value = width > 1 ? memory[at] << 8 | memory[at + 1] : memory[at]

@@ -58,11 +58,6 @@ function onKey(event) {
   act(event)
 }
 
-function showVideo(offset) {
-  videoFrom = offset & 0x3FF0
-  go(now)
-}
-
 function changeTheme() {
   const root = document.documentElement, isDark = matchMedia('(prefers-color-scheme: dark)').matches
   const shown = root.dataset.theme ?? (isDark ? 'dark' : 'light')
@@ -85,19 +80,20 @@ function listen() {
   find('word').onchange = event => setWord(event.target.checked)
   find('previous').onclick = () => goToChange(false)
   find('next').onclick = () => goToChange(true)
-  find('from').onchange = event => {
-    const at = parseInt(event.target.value, 16)
-    if (at >= 0 && at < VIDEO_SIZE) showVideo(at)
-  }
   for (const button of document.querySelectorAll('[data-register]'))
     button.onclick = () => {
-      find('follow').checked = false
-      showVideo(tableAt(+button.dataset.register) % VIDEO_SIZE)
+      videoPart.follow.checked = false
+      videoPart.show(tableAt(+button.dataset.register) % VIDEO_SIZE)
     }
   document.addEventListener('keydown', onKey)
   addEventListener('hashchange', readFragment)
 }
 
+if (ofProcessor) {
+  find('h-source').textContent = hasSource ? 'Source' : 'Instructions'
+  find('h-state').textContent = 'Status and registers'
+  find('h-cells').textContent = 'Scratchpad'
+}
 find('name').textContent = data.name
 find('end').textContent = data.end
 find('end').classList.toggle('stopped', data.stopped)

@@ -2,16 +2,27 @@
 // The run that the page was given: its steps, lines and names, and the memory after each step.
 
 const data = JSON.parse(document.getElementById('data').textContent)
-const VIDEO = 0x10000, VIDEO_SIZE = 0x4000, REGISTERS = 0x14000, PLACES = 0x14008
-const CELLS = 0x8300, CELLS_END = 0x83C2
+const ofProcessor = data.kind === 'exec'
+const VIDEO = 0x10000, VIDEO_SIZE = 0x4000, REGISTERS = 0x14000, LATCHES = 0x14008, PLACES = 0x14011
+const CELLS = 0x8300, CELLS_END = ofProcessor ? 0x8400 : 0x83C2
 const DATA_STACK = 0x8372, RETURN_STACK = 0x8373, STATUS = 0x837C
 const FIRST_DATA = 0x9F, FIRST_RETURN = 0x7E
 
-const steps = data.steps.map(([at, text, ...changes]) => ({at, text: data.texts[text], changes}))
+// an instruction of the processor comes with the workspace pointer and the status before it
+const steps = ofProcessor
+  ? data.steps.map(([at, text, wp, st, ...changes]) => ({at, text: data.texts[text], wp, st, changes}))
+  : data.steps.map(([at, text, ...changes]) => ({at, text: data.texts[text], changes}))
 const last = steps.length
-const nextAddress = number => number < last ? steps[number].at : data.last
+// what comes after so many steps: the next address, and of the processor its workspace pointer and status
+const nextAt = number => number < last ? steps[number] : data.last
+const nextAddress = number => nextAt(number).at
 
-const lines = data.lines.map(([text, at, bytes]) => ({text, at, bytes, size: bytes.length / 2}))
+// without a source, the instructions that the run came to are in the place of its lines
+const lines = data.lines.length
+  ? data.lines.map(([text, at, bytes]) => ({text, at, bytes, size: bytes.length / 2}))
+  : [...new Map(steps.map(step => [step.at, step.text]))].sort((a, b) => a[0] - b[0])
+    .map(([at, text]) => ({text, at, bytes: '', size: 1}))
+const hasSource = data.lines.length > 0
 
 // the line whose bytes are at an address, or -1
 const lineOf = new Int32Array(0x10000).fill(-1)

@@ -8,7 +8,7 @@ function lineRow(index) {
   const line = lines[index], count = stepsOfLine(index).length
   const row = make('tr', undefined, {className: count ? 'runs' : 'never'})
   row.setAttribute('aria-rowindex', index + 1)
-  const number = make('td'), label = String(index + 1).padStart(4)
+  const number = make('td'), label = hasSource ? String(index + 1).padStart(4) : '·'
   if (count) {
     number.append(make('button', label, {ariaLabel: `Next step of line ${index + 1}`}))
     row.title = count === 1 ? 'made once' : `made ${count.toLocaleString('en')} times`

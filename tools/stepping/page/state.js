@@ -1,12 +1,17 @@
-// The status, both stacks, and the cells by their names.
+// The status; of GPL both stacks, and the cells by their names; of the processor its registers.
 
-const BITS = [[0x80, 'H'], [0x40, 'GT'], [0x20, 'COND'], [0x10, 'CARRY'], [0x08, 'OVF']]
+// GPL Programmer's Guide, "Status byte"; TMS9900 data manual, "Status register"
+const BITS = ofProcessor ? [[0x8000, 'L>'], [0x4000, 'A>'], [0x2000, 'EQ'], [0x1000, 'C'], [0x0800, 'OV'],
+  [0x0400, 'OP'], [0x0200, 'X']] : [[0x80, 'H'], [0x40, 'GT'], [0x20, 'COND'], [0x10, 'CARRY'], [0x08, 'OVF']]
+
+const statusAt = (number, held) => ofProcessor ? nextAt(number).st : held[STATUS]
 
 views.push(() => {
-  const status = memory[STATUS], old = before[STATUS]
+  const status = statusAt(now, memory), old = statusAt(Math.max(0, now - 1), before)
   find('status').replaceChildren(...BITS.map(([bit, name]) => make('span', name, {
     className: (status & bit ? 'on' : '') + ((status ^ old) & bit ? ' changed' : ''),
-    ariaLabel: `${name} is ${status & bit ? 'set' : 'clear'}`})), hex(status, 2))
+    ariaLabel: `${name} is ${status & bit ? 'set' : 'clear'}`})),
+    hex(status, ofProcessor ? 4 : 2))
 })
 
 // A stack grows upwards; its pointer is the low byte of the address of its top.
@@ -22,10 +27,31 @@ function stack(title, pointer, first, width, textAt) {
   return part
 }
 
-views.push(() => find('stacks').replaceChildren(
+const drawStacks = () => find('stacks').replaceChildren(
   stack('Data', DATA_STACK, FIRST_DATA, 1, at => `${hex(at)} ${byte(memory[at])}`),
   stack('Return addresses', RETURN_STACK, FIRST_RETURN, 2,
-    at => `${hex(at)} ${codeName(memory[at] << 8 | memory[at + 1])}`)))
+    at => `${hex(at)} ${codeName(memory[at] << 8 | memory[at + 1])}`))
+
+const wordAt = at => memory[at] << 8 | memory[(at + 1) % 0x10000]
+
+// The processor's own registers, those of the workspace, and what the ports hold.
+function drawProcessor() {
+  const {at: pc, wp} = nextAt(now), table = make('table'), isOther = now && steps[now - 1].wp !== wp
+  for (let first = 0; first < 4; first++) {
+    const row = make('tr')
+    for (let number = first; number < 16; number += 4) {
+      const at = (wp + 2 * number) % 0x10000, isChanged = isOther || changed.has(at) || changed.has(at + 1)
+      row.append(make('th', `R${number}`),
+        make('td', hex(wordAt(at)), {className: isChanged ? 'changed' : '', onclick: () => choose(at)}))
+    }
+    table.append(row)
+  }
+  const latch = offset => memory[LATCHES + offset] << 8 | memory[LATCHES + offset + 1]
+  const texts = [`PC ${hex(pc)}`, `WP ${hex(wp)}`, `video address ${hex(latch(0))}`, `GROM address ${hex(latch(5))}`]
+  find('stacks').replaceChildren(table, make('div', texts.join('\n'), {className: 'own'}))
+}
+
+views.push(ofProcessor ? drawProcessor : drawStacks)
 
 function namedRow(name, at, isNamed) {
   const row = make('tr', undefined, {onclick: () => choose(at)}), cell = make('td')
@@ -35,6 +61,8 @@ function namedRow(name, at, isNamed) {
     make('td', word))
   return row
 }
+
+find('names').hidden = ofProcessor
 
 const cellNames = data.names.filter(([, value]) => value >= CELLS && value < CELLS_END).sort((a, b) => a[1] - b[1])
 

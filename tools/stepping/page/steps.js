@@ -17,7 +17,7 @@ function changesText(changes) {
 }
 
 function nextText() {
-  const next = nextAddress(now), line = lineOf[next] < 0 ? '' : ` (line ${lineOf[next] + 1})`
+  const next = nextAddress(now), line = lineOf[next] < 0 || !hasSource ? '' : ` (line ${lineOf[next] + 1})`
   return now < last ? `  next: ${steps[now].text} at ${codeName(next)}` : `  ${data.end}${line}`
 }
 
@@ -38,7 +38,7 @@ views.push(() => {
     const number = from + i + 1, line = lineOf[step.at]
     const item = make('li', undefined, {className: number === now ? 'made' : '', onclick: () => go(number)})
     item.append(make('button', String(number).padStart(6), {ariaLabel: `Step ${number}`}),
-      `${hex(step.at)} ${step.text.padEnd(26)}`, make('i', line < 0 ? '' : `  ${lines[line].text.trim()}`))
+      `${hex(step.at)} ${step.text.padEnd(26)}`, make('i', line < 0 || !hasSource ? '' : `  ${lines[line].text.trim()}`))
     return item
   }))
 })

@@ -44,12 +44,12 @@ function goToChange(forward) {
 const placeWord = at => bare(at).replace('>', '')
 
 function placeOf(word) {
-  const found = /^(?:V([0-3][0-9A-F]{3})|VR([0-7])|(83[0-9A-F]{2}))$/i.exec(word)
+  const found = /^(?:V([0-3][0-9A-F]{3})|VR([0-7])|([0-9A-F]{4}))$/i.exec(word)
   if (!found) return -1
   if (found[1]) return VIDEO + parseInt(found[1], 16)
   if (found[2]) return REGISTERS + parseInt(found[2], 10)
   const at = parseInt(found[3], 16)
-  return at < CELLS_END ? at : -1
+  return ofProcessor || (at >= CELLS && at < CELLS_END) ? at : -1
 }
 
 function writeFragment() {
