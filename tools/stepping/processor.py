@@ -111,9 +111,14 @@ def ending(rest, steps, cut):
     return ' '.join(filter(None, [ENDS[how], address, f'after {made}.'])), how != 'self jump'
 
 
-def run_of(bench, debugger, objects, limit, seconds):
-    """The run of object text that the program accepts, up to a number of instructions."""
-    listed = bench.run('link', given=objects).out.decode('latin-1')
+def bytes_in(listed):
+    """The bytes of linked memory by their addresses."""
+    return {at + offset: byte for at, word in words(listed).items() for offset, byte in enumerate(word.to_bytes(2, 'big'))}
+
+
+def run_of(debugger, objects, listed, limit, seconds):
+    """The run of object text that the program accepts and whose linked memory is listed, up to a number of
+    instructions."""
     steps, rest, cut = reported(debugger.path, ['steps', str(limit)], objects, step_of, seconds)
     shown = rest
     if cut:

@@ -39,6 +39,6 @@ const placeName = at => [...(at < VIDEO ? namesOf.get(at) ?? [] : []), ...regist
 
 // an address of GROM with its labels and its line
 function codeName(at) {
-  const line = lineOf[at] < 0 || !hasSource ? '' : `line ${lineOf[at] + 1}`
+  const line = lineOf[at] < 0 || !hasSource ? '' : `line ${lines[lineOf[at]].name}`
   return [hex(at), ...(namesOf.get(at) ?? []), line].filter(Boolean).join(' ')
 }

@@ -8,9 +8,9 @@ function lineRow(index) {
   const line = lines[index], count = stepsOfLine(index).length
   const row = make('tr', undefined, {className: count ? 'runs' : 'never'})
   row.setAttribute('aria-rowindex', index + 1)
-  const number = make('td'), label = hasSource ? String(index + 1).padStart(4) : '·'
+  const number = make('td'), label = line.name.padStart(4)
   if (count) {
-    number.append(make('button', label, {ariaLabel: `Next step of line ${index + 1}`}))
+    number.append(make('button', label, {ariaLabel: `Next step of line ${line.name}`}))
     row.title = count === 1 ? 'made once' : `made ${count.toLocaleString('en')} times`
     row.onclick = event => goToLine(index, !event.shiftKey)
   } else number.textContent = label

@@ -17,7 +17,7 @@ function changesText(changes) {
 }
 
 function nextText() {
-  const next = nextAddress(now), line = lineOf[next] < 0 || !hasSource ? '' : ` (line ${lineOf[next] + 1})`
+  const next = nextAddress(now), line = lineOf[next] < 0 || !hasSource ? '' : ` (line ${lines[lineOf[next]].name})`
   return now < last ? `  next: ${steps[now].text} at ${codeName(next)}` : `  ${data.end}${line}`
 }
 
