@@ -29,10 +29,10 @@ use Rattle.word_listings.proofs.Going.{texts_from}
 use Rattle.word_listings.proofs.OwnLines.{OwnLine, AreOwn, own_end, own_front, front_texts}
 use Rattle.report_defs.specs.Report.{asm_report}
 use Rattle.report_defs.proofs.ListedWords.{listed as written_listing, stand_even, not_large}
-use Rattle.file_report_defs.specs.Reports.{copy_report}
-use Rattle.file_report_defs.specs.Words.{AsmFiles, OverFiles}
-use Rattle.file_report_defs.specs.Whole.{ReportWith}
-use Rattle.file_report_defs.specs.Laws.{ListedWordsComeBackWith}
+use Rattle.report_defs.specs.FileReports.{copy_report}
+use Rattle.report_defs.specs.ProgramCommands.{AsmFiles, OverFiles}
+use Rattle.report_defs.specs.FileReports.{ReportWith}
+use Rattle.report_defs.specs.Laws.{ListedWordsComeBackWith}
 
 -- ---- a line that stands for itself
 
