@@ -68,8 +68,7 @@ pub refuses_by : {A B : Type 0} (error : CopyError) (a : Result A CopyRefusal) (
     → ((refusal : CopyRefusal) → a ≡ Err refusal → b ≡ Err refusal) → CopyRefuses error a → CopyRefuses error b
 refuses_by (error.At file line cause) a b same refused = (refused.0, same _ refused.1)
 refuses_by error.TooLarge a b same refused = same _ refused
-refuses_by error.Fault a b same refused = tt
-refuses_by error.Memory a b same refused = tt
+refuses_by _ a b same refused = tt
 
 -- no lines
 pub leads_none : (old : Copying) → IsOpen old.builder → Leads old (nothing old.copies) None old
