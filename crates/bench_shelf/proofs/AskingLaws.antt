@@ -91,9 +91,7 @@ reads_then limit xs ys s t u first next =
     let all = length-append xs ys in
     record {
       files = next.files ∙ first.files;
-      asked = next.asked
-          ∙ (ap (λ others. asked_more others (names_of ys)) first.asked
-          ∙ (more_then s.asked (names_of xs) (names_of ys) ∙ ap (asked_more s.asked) (sym (map_append (λ question. question.name) xs ys))));
+      asked = rw (next.asked, first.asked, map_append (λ question. question.name) xs ys) (more_then s.asked (names_of xs) (names_of ys));
       opens = omega (arith, all, first.opens, next.opens);
       bytes = first.bytes + next.bytes;
       empty = first.empty + next.empty;

@@ -28,10 +28,8 @@ place_kept : (first more : List PlacedLine) (number : ℕ) → number - 1 < leng
 place_kept first more number lt =
     let none : Place = record { file = None; line = number } in
     let size : number - 1 < length (places first) = omega (arith, length-map first (λ line. line.place), lt) in
-    unwrap_or-slice_get (places (first ++ more)) (number - 1) none
-    ∙ (ap (λ (all : List Place). get_or all (number - 1) none) (map_append (λ line. line.place) first more)
-    ∙ (get_or_append_left (places first) (places more) none (number - 1) size
-    ∙ sym (unwrap_or-slice_get (places first) (number - 1) none)))
+    rw (unwrap_or-slice_get (places (first ++ more)) (number - 1) none, unwrap_or-slice_get (places first) (number - 1) none)
+    (rw (map_append (λ line. line.place) first more) (get_or_append_left (places first) (places more) none (number - 1) size))
 
 -- the first checks refuse a line, whatever lines come behind it
 laid_stays : (first more : List PlacedLine) (ending : Ending) (refusal : CopyRefusal)

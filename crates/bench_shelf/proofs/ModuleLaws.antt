@@ -41,10 +41,7 @@ going_by _ lines all builder ends = refl
 
 module_is : (found : Copied) (new : Copying) → GoesOn [] found new → contents (in_place found.lines (module_of_lines (texts found.lines))) (module_of_copied found)
 module_is found new goes =
-    let laid_is = goes.holds.taken.laid in
-    ap (λ answer. in_place found.lines (answer >>= module_behind)) laid_is
-    ∙ (going_by found.ending goes.holds.taken.lines found.lines new.builder goes.ending
-    ∙ sym (ap (λ answer. in_place found.lines answer >>= unless_refused found.ending >>= λ lines. in_place found.lines (module_behind lines)) laid_is))
+    rw goes.holds.taken.laid (going_by found.ending goes.holds.taken.lines found.lines new.builder goes.ending)
 
 -- a module is that of the copied lines as one text
 module_by_lines : (found : Copied) (answer : Result (List Line) (Refusal AsmCause)) (module_ : object.Module)

@@ -106,18 +106,13 @@ module _ (done : List PlacedLine) (place : Place) (text : List ℕ) where
     last_place =
         let at : 1 + length (texts done) - 1 ≡ length (places done) = omega (arith, size) in
         let none : Place = record { file = None; line = 1 + length (texts done) } in
-        unwrap_or-slice_get (places all) (1 + length (texts done) - 1) none
-        ∙ (ap (λ n. get_or (places all) n none) at
-        ∙ (ap (λ (found : List Place). get_or found (length (places done)) none) (map_append (λ line. line.place) done more)
-        ∙ get_or-append_seam (places done) place [] none))
+        rw (unwrap_or-slice_get (places all) (1 + length (texts done) - 1) none, at, map_append (λ line. line.place) done more)
+        (get_or-append_seam (places done) place [] none)
 
     laid_refused : (copies : ℕ) (refusal : Refusal AsmCause) → laid check (numbered 1 (texts done ++ text ∷ [])) ≡ Err refusal
         → laid_copied (prepend done (own_line place copies text)) ≡ Err (spec.At place (spec.Asm refusal.cause))
     laid_refused copies refusal e =
-        let ending : Ending = if ends_source text then Ended else Open in
-        ap (λ found. in_place all (laid check (numbered 1 found)) >>= λ lines. unless_refused ending lines) texts_are
-        ∙ (ap (λ answer. in_place all answer >>= λ lines. unless_refused ending lines) e
-        ∙ ap (λ place. Err (spec.At place (spec.Asm refusal.cause))) (ap (place_of (places all)) (refused_last refusal e) ∙ last_place))
+        rw (texts_are, e, refused_last refusal e, last_place) refl
 
 -- a line that stands for itself and is taken
 pub own_taken : (old new : Copying) (place : KeptPlace) (text : List ℕ) (done : List PlacedLine) → IsOpen old.builder → Holds done old
