@@ -1,5 +1,5 @@
 -- Lines of a file that are taken one after the other.
-use Rattle.std.proofs.Common.{◌≡◌, ℕ, ◌+◌, ◌*◌, ◌≤◌, List, [], ◌∷◌, ◌++◌, Some, None, length, refl, sym, ap, ◌∙◌, subst, arith}
+use Rattle.std.proofs.Common.{rules, ◌≡◌, ℕ, ◌+◌, ◌*◌, ◌≤◌, List, [], ◌∷◌, ◌++◌, Some, None, length, refl, sym, ap, ◌∙◌, subst, arith}
 use Rattle.std.specs.Prelude.{Option}
 use Rattle.shelf_defs.specs.CopyLines.{Asked, Itself, asked}
 use Rattle.shelf_defs.specs.Files.{Contents}
@@ -133,22 +133,24 @@ module _ {levels : ℕ} {file : Option (List ℕ)} {old now : Copying} {all left
             goes_on None error last contents one agrees (λ leads. leads_then now mid last (line contents) (next contents) error going leads more);
       }
 
-      pub follows_end : (IsOpen mid.builder → ⊥) → Copies now mid line None b c → Copies old mid (lines_by levels file old.copies all) None a c
-      follows_end closed one = record {
+      -- the next line is the last
+      ends : (error : Option CopyError) (one : Copies now mid line error b c) → EndsBy error (follows.questions ++ one.questions)
+          → ((contents : Contents) → Leads now (line contents) error mid → Leads now (lines_by levels file now.copies ((number, text) ∷ rest) contents) error mid)
+          → Copies old mid (lines_by levels file old.copies all) error a c
+      ends error one given more = record {
         questions = follows.questions ++ one.questions;
         asking = asking one.questions one.asking;
-        ends = all_given follows.questions one.questions follows.given one.ends;
-        leads = λ contents agrees. goes_on None None mid contents one agrees (leads_ended now mid (line contents) (next contents) closed);
+        ends = given;
+        leads = λ contents agrees. goes_on error error mid contents one agrees (more contents);
       }
 
+      pub follows_end : (IsOpen mid.builder → ⊥) → Copies now mid line None b c → Copies old mid (lines_by levels file old.copies all) None a c
+      follows_end closed one =
+          ends None one (all_given follows.questions one.questions follows.given one.ends) (λ contents. leads_ended now mid (line contents) (next contents) closed)
+
       pub follows_refused : (error : CopyError) → Copies now mid line (Some error) b c → Copies old mid (lines_by levels file old.copies all) (Some error) a c
-      follows_refused error one = record {
-        questions = follows.questions ++ one.questions;
-        asking = asking one.questions one.asking;
-        ends = ends_then error follows.questions one.questions one.ends;
-        leads = λ contents agrees.
-            goes_on (Some error) (Some error) mid contents one agrees (leads_refused now mid mid (line contents) (next contents) error);
-      }
+      follows_refused error one =
+          ends (Some error) one (ends_then error follows.questions one.questions one.ends) (λ contents. leads_refused now mid mid (line contents) (next contents) error)
 
 -- the text of the first of some lines, and those of the others
 pub first_text : (text : List ℕ) {left rest : List TextLine} {line : TextLine} {own : List ℕ} → left ≡ line ∷ rest → own ≡ part text line.span
@@ -157,16 +159,7 @@ first_text text steps is = rw (steps, is) refl
 
 -- what is later than a later shelf
 pub later_then : (a b c : ShelfState) → Later a b → Later b c → Later a c
-later_then a b c first then = record {
-  files = then.files ∙ first.files;
-  faults = omega (arith, first.faults, then.faults);
-  opens = omega (arith, first.opens, then.opens);
-  misses = omega (arith, first.misses, then.misses);
-  taken = omega (arith, first.taken, then.taken);
-  calls = omega (arith, first.calls, then.calls);
-  empty = omega (arith, first.empty, then.empty);
-  largest = omega (arith, first.largest, then.largest);
-}
+later_then a b c first then = grind (arith, first, then)
 
 -- the lines that were taken so far, and those that are left of a text
 pub record Counts (text : List ℕ) (old now : Copying) (left : List TextLine) : Type 0 where
@@ -191,13 +184,4 @@ pub counts_grow : (text : List ℕ) (old now : Copying) (left : List TextLine) �
 counts_grow text old now left counts = record { held = counts.held; copies = counts.copies; few = omega (arith, counts.few) }
 
 pub later_first : (a : ShelfState) → Later a a
-later_first a = record {
-  files = refl;
-  faults = omega arith;
-  opens = omega arith;
-  misses = omega arith;
-  taken = omega arith;
-  calls = omega arith;
-  empty = omega arith;
-  largest = omega arith;
-}
+later_first a = search rules
