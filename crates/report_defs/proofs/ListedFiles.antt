@@ -157,7 +157,7 @@ report_at at input files stands =
 
 pub listed_words_come_back_with : ListedWordsComeBackWith
 listed_words_come_back_with at input pieces files holds even below reports =
-    let is = written_listing at input pieces reports in
-    let stands = stand_even at input pieces holds even below is in
+    let is = written_listing at input (memory_listing at input) pieces reports in
+    let stands = stand_even at input holds even below is.within in
     subst (λ pieces. ReportWith (OverFiles AsmFiles) (concat pieces) files (asm_report (listed_module at input None))) (sym is.pieces_are)
     (rw (not_large at input stands) (report_at at input files stands))
