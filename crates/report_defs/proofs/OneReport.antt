@@ -66,24 +66,19 @@ one_start linked a b p q =
     ∙ ap (λ memory. new_machine memory 0x83E0 linked.entry) (one_memory linked p.image q.image a.cpu.memory b.cpu.memory image p.machine.memory q.machine.memory)
     ∙ sym q.machine.machine
 
-some_apart : (e : RunEnd) (end : Option RunEnd) → end ≡ Some e → end ≡ None → ⊥
-some_apart e end is none = absurd (cc)
-
-some_one : (e f : RunEnd) → Some e ≡ Some f → e ≡ f
-some_one e f is = cc
-
 -- a run ends at one number, and by one end
 one_number : (stop : Option ℕ) (limit m n : ℕ) (x y z : MachineState) (e f : RunEnd) → IsRun stop limit m x e y → IsRun stop limit n x f z → m ≡ n
 one_number stop limit m n x y z e f p q = by (nat_lt m n) refl (nat_lt n m) refl
   where
     by : (below : Bool) → nat_lt m n ≡ below → (above : Bool) → nat_lt n m ≡ above → m ≡ n
-    by true b above a = absurd (some_apart e _ p.ends (q.first m (grind (arith, nat_tests))))
-    by false b true a = absurd (some_apart f _ q.ends (p.first n (grind (arith, nat_tests))))
+    by true b above a = let none = q.first m (grind (arith, nat_tests)) in absurd (cc (p.ends, none))
+    by false b true a = let none = p.first n (grind (arith, nat_tests)) in absurd (cc (q.ends, none))
     by false b false a = grind (arith, nat_tests)
 
 same_run : (stop : Option ℕ) (limit m n : ℕ) (x y z : MachineState) (e f : RunEnd) → m ≡ n → IsRun stop limit m x e y → IsRun stop limit n x f z → (e ≡ f) × (y ≡ z)
 same_run stop limit m n x y z e f same p q =
-    (some_one e f (sym p.ends ∙ ap (λ made. end_at stop limit made x) same ∙ q.ends), p.left ∙ ap (λ made. after made x) same ∙ sym q.left)
+    let is : Some e ≡ Some f = sym p.ends ∙ ap (λ made. end_at stop limit made x) same ∙ q.ends in
+    (cc is, p.left ∙ ap (λ made. after made x) same ∙ sym q.left)
 
 -- one end and one machine come of a program
 one_execution : (limit : ℕ) (linked : LinkedMemory) (e f : RunEnd) (left right : MachineState) → Executes limit linked e left → Executes limit linked f right → (e ≡ f) × (left ≡ right)

@@ -1,4 +1,4 @@
-use Rattle.std.proofs.Common.{◌≡◌, ◌≤◌, ◌+◌, [], length, take, drop, ◌++◌, ap, ◌∙◌, refl, arith, rules, length-append, length-take}
+use Rattle.std.proofs.Common.{◌≡◌, ◌≤◌, [], length, take, drop, ◌++◌, ap, ◌∙◌, refl, arith, rules, length-append, length-take}
 use Rattle.std.proofs.lemmas.Result.{err_from_is_err_and}
 use Rattle.std.proofs.lemmas.List.{take-append-le}
 use Rattle.bench_io.proofs.Taking.{took_then, took_more, took_last, largest_last, rose_since, few_calls}
@@ -44,21 +44,20 @@ pub returns-then-limit-len-clause-err : goal.returns-then-limit-len-clause-err
 returns-then-limit-len-clause-err g c =
     let count = c.in_ok-count.count in
     let le : count ≤ length c.take_once.new.buffer = omega (arith, c.in_ok-count.ensures.within, c.take_once.auto.buffer) in
-    let len : length (take count c.take_once.new.buffer) ≡ count = simp length-take (omega arith) in
-    (
+    let len : length (take count c.take_once.new.buffer) ≡ count = simp length-take (omega arith) in (
       c.loop-bytes.bytes.items ++ take count c.take_once.new.buffer,
       omega (
-      arith,
-      length-append c.loop-bytes.bytes.items (take count c.take_once.new.buffer),
-      len,
-      c.in_ok-count.ensures.within,
-      length-take c.min-room.result c.loop-bytes.buffer,
-      c.if-limit-len.true,
-      c.len.ensures,
-      c.len-in-loop-bytes.ensures,
-      c.min-room.ensures,
-      c.loop-bytes.bytes.ok.0,
-    ),
+        arith,
+        length-append c.loop-bytes.bytes.items (take count c.take_once.new.buffer),
+        len,
+        c.in_ok-count.ensures.within,
+        length-take c.min-room.result c.loop-bytes.buffer,
+        c.if-limit-len.true,
+        c.len.ensures,
+        c.len-in-loop-bytes.ensures,
+        c.min-room.ensures,
+        c.loop-bytes.bytes.ok.0,
+      ),
       took_more _ _ _ _ _ _ (omega arith) c.loop-bytes.invariant.took c.in_ok-count.ensures.took,
       largest_last _ _ _ _ _ _ c.loop-bytes.invariant.took c.in_ok-count.ensures.given,
     )
