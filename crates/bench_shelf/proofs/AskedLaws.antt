@@ -1,6 +1,6 @@
 -- That there are contents to whatever was heard.
 use Rattle.std.proofs.Common.{◌≡◌, ℕ, zero, suc, ◌+◌, ◌<◌, List, [], ◌∷◌, Some, None, length, replicate, refl, sym, ap, ◌∙◌, subst, arith}
-use Rattle.std.specs.Prelude.{⊤, Option}
+use Rattle.std.specs.Prelude.{Option}
 use Rattle.std.proofs.lemmas.List.{length-replicate}
 use Rattle.shelf_defs.specs.Files.{Contents}
 use Rattle.shelf_defs.specs.Questions.{Answer, Bytes, NoFile, OverLimit, Unanswered, Question, Agrees, Fits}

@@ -1,5 +1,5 @@
 -- What the contents of a shelf tell, where its files are told, and where they are not.
-use Rattle.std.proofs.Common.{◌≡◌, ℕ, List, [], Some, None, Ok, Err, sym, ◌∙◌, subst}
+use Rattle.std.proofs.Common.{◌≡◌, ℕ, List, Some, None, Ok, Err, sym, ◌∙◌, subst}
 use Rattle.std.specs.Prelude.{Option, Result, IfSome}
 use Rattle.object_tags.specs.Seen.{defined_module}
 use Rattle.object_tags.specs.declared.parts.Module.{Module}

@@ -1,17 +1,16 @@
 -- A file that was read, or was not.
-use Rattle.std.proofs.Common.{◌≡◌, ℕ, ◌+◌, ◌<◌, List, [], ◌∷◌, ◌++◌, length, Some, None, refl, sym, ap, ◌∙◌, subst, arith}
-use Rattle.std.proofs.Common.{length-append, append-nil}
+use Rattle.std.proofs.Common.{◌≡◌, ℕ, List, length, Some, None, sym, ◌∙◌, arith}
 use Rattle.std.specs.Prelude.{Option, IfSome}
 use Rattle.std.specs.FinMap.{get}
-use Rattle.bench_io.specs.Stream.{SourceState, Gave, IsAtEnd}
-use Rattle.bench_io.specs.ReadAll.{Took, ReadWhole, GaveUp}
+use Rattle.bench_io.specs.Stream.{SourceState}
+use Rattle.bench_io.specs.ReadAll.{Took, GaveUp}
 use Rattle.bench_io.specs.declared.whole.ReadError.TheVariants as read
 use Rattle.shelf_defs.specs.Files.{Files}
-use Rattle.shelf_defs.specs.Questions.{Answer, Bytes, NoFile, OverLimit, Unanswered, Fits}
+use Rattle.shelf_defs.specs.Questions.{Unanswered, Fits}
 use Rattle.shelf_defs.specs.Amounts.{IsTaken}
 use Rattle.bench_shelf.specs.States.{ShelfState, SameFiles}
-use Rattle.bench_shelf.specs.Opening.{Opens, IsMissing, StartsAnew, SameCounts}
-use Rattle.bench_shelf.specs.Causes.{ReadsOnce, AsksOne}
+use Rattle.bench_shelf.specs.Opening.{StartsAnew, SameCounts}
+use Rattle.bench_shelf.specs.Causes.{AsksOne}
 
 unanswered : (shown : Option Files) (name : List ℕ) (limit : ℕ) → IfSome shown (λ files. Fits limit Unanswered (get files name))
 unanswered None name limit = tt

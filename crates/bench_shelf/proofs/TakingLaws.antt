@@ -1,5 +1,5 @@
 -- A line that is taken behind others.
-use Rattle.std.proofs.Common.{◌≡◌, ℕ, ◌+◌, ◌-◌, Bool, true, false, ◌||◌, List, [], ◌∷◌, ◌++◌, None, Ok, Err, length, get_or, refl, sym, ap, ◌∙◌, arith, subst}
+use Rattle.std.proofs.Common.{◌≡◌, ℕ, ◌+◌, ◌-◌, Bool, true, false, ◌||◌, List, [], ◌∷◌, ◌++◌, None, Ok, Err, length, refl, sym, ap, ◌∙◌, arith, subst}
 use Rattle.std.specs.Prelude.{⊤, Result, if◌then◌else◌}
 use Rattle.std.proofs.Math.Bool.{or-false}
 use Rattle.std.proofs.Math.Seq.{get_or-append_seam}
@@ -18,7 +18,7 @@ use Rattle.asm_defs.proofs.CheckLaws.{bound, checked_said}
 use Rattle.shelf_defs.specs.CopyLines.{says_end, ends_source}
 use Rattle.shelf_defs.specs.Copied as spec
 use Rattle.shelf_defs.specs.Copied.{Place, PlacedLine, Ending, Open, Ended, own_line, prepend}
-use Rattle.shelf_defs.specs.Assembly.{texts, places, place_of, in_place, unless_refused, laid_copied}
+use Rattle.shelf_defs.specs.Assembly.{texts, places, place_of, laid_copied}
 use Rattle.asm_checks.specs.Answers.{Causes}
 use Rattle.asm_core.specs.Building.{HasTaken, IsOpen}
 use Rattle.asm_core.specs.Finishing.{RefusesAt}

@@ -6,7 +6,7 @@ use Rattle.shelf_defs.specs.CopyLines.{File, Bad}
 use Rattle.shelf_defs.specs.Copied as spec
 use Rattle.shelf_defs.specs.Copied.{most_bytes}
 use Rattle.bench_shelf.specs.declared.copy_error.CopyCause.TheVariants as cause
-use Rattle.bench_shelf.specs.CopyAnswers.{defined_place, place_in}
+use Rattle.bench_shelf.specs.CopyAnswers.{defined_place}
 use Rattle.bench_shelf.proofs.FileLaws.{refuses_none, deep_copies, many_copies, copies_unread, copies_read}
 use Rattle.bench_shelf.proofs.SinceLaws.{causes_since, each_since}
 use Rattle.bench_shelf.proofs.Keeping.{within_then}
