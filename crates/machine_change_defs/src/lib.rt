@@ -1,0 +1,9 @@
+//! What an instruction changes of the console's machine, all of it, and how it is written. The definitions are in
+//! `specs/`.
+#![tactic(auto)]
+
+mod area;
+mod latches;
+
+pub use area::Area;
+pub use latches::Latches;
