@@ -1,2 +1,3 @@
 mod Keeping
 pub mod Kept
+pub mod MemoryLead

@@ -87,9 +87,8 @@ latches_applied made old =
 
 -- ---- all of it
 
--- What an instruction changed: registers of the workspace that it had, and then all that these leave.
-pub record MemoryChanges : Type 0 where
-  pub workspace : List RegisterChange
+-- The changes of bytes and of what the ports hold.
+pub record OtherChanges : Type 0 where
   pub scratchpad : List Change
   pub low_expansion : List Change
   pub high_expansion : List Change
@@ -97,11 +96,9 @@ pub record MemoryChanges : Type 0 where
   pub registers : List Change
   pub latches : LatchChanges
 
--- the changes of bytes and latches, from one memory to another
-abbrev pub changes_behind : List RegisterChange → SeenMemory → SeenMemory → MemoryChanges
-changes_behind workspace before after =
+abbrev pub other_changes : SeenMemory → SeenMemory → OtherChanges
+other_changes before after =
     record {
-      workspace = workspace;
       scratchpad = changes before.scratchpad after.scratchpad;
       low_expansion = changes before.low_expansion after.low_expansion;
       high_expansion = changes before.high_expansion after.high_expansion;
@@ -110,19 +107,26 @@ changes_behind workspace before after =
       latches = latch_changes before.latches after.latches;
     }
 
--- The changes of an instruction, by where the workspace stands that it had. The changes of bytes are those from the
--- memory that has the new words of the registers already.
+-- What an instruction changed: registers of the workspace that it had, and all else.
+pub record MemoryChanges : Type 0 where
+  pub workspace : List RegisterChange
+  pub others : OtherChanges
+
+-- The changes of an instruction, by where the workspace stands that it had. The other changes are those from the memory
+-- that has the new words of the registers already.
 abbrev pub changes_at : Option (Area × ℕ) → SeenMemory → SeenMemory → MemoryChanges
 changes_at place before after =
-    changes_behind (register_changes (workspace_at place before) (workspace_at place after))
-    (with_workspace place (workspace_at place after) before) after
+    record {
+      workspace = register_changes (workspace_at place before) (workspace_at place after);
+      others = other_changes (with_workspace place (workspace_at place after) before) after;
+    }
 
 abbrev pub memory_changes : ℕ → SeenMemory → SeenMemory → MemoryChanges
 memory_changes wp before after = changes_at (workspace_place wp) before after
 
--- a memory with changes of bytes and latches made
-abbrev pub bytes_applied : MemoryChanges → SeenMemory → SeenMemory
-bytes_applied made m =
+-- a memory with other changes made
+abbrev pub others_applied : OtherChanges → SeenMemory → SeenMemory
+others_applied made m =
     record {
       scratchpad = applied made.scratchpad m.scratchpad;
       low_expansion = applied made.low_expansion m.low_expansion;
@@ -135,7 +139,7 @@ bytes_applied made m =
 -- a memory with the changes of an instruction made, by where the workspace stands that it had
 abbrev pub changes_applied : Option (Area × ℕ) → MemoryChanges → SeenMemory → SeenMemory
 changes_applied place made m =
-    bytes_applied made (with_workspace place (registers_applied made.workspace (workspace_at place m)) m)
+    others_applied made.others (with_workspace place (registers_applied made.workspace (workspace_at place m)) m)
 
 abbrev pub memory_applied : ℕ → MemoryChanges → SeenMemory → SeenMemory
 memory_applied wp made m = changes_applied (workspace_place wp) made m

@@ -3,6 +3,7 @@ use Rattle.std.specs.Prelude.{ℕ, suc, ◌+◌, ◌*◌, List, [], ◌∷◌, �
 use Rattle.std.specs.List.{range_with_len}
 use Rattle.source_defs.specs.Digits.{word_digits, marked_word}
 use Rattle.tms_defs.specs.Accesses.{Answer, Gives, AtPort, NoInstruction}
+use Rattle.tms_defs.specs.Operand.{Cpu}
 use Rattle.tms_defs.specs.Status.{status_word}
 use Rattle.tms_defs.specs.Words.{plus}
 use Rattle.instruction_defs.specs.Printed.{printed}
@@ -27,13 +28,19 @@ code_words memory at =
     read_word (word_read memory at) ∷ read_word (word_read memory (plus at 2))
     ∷ read_word (word_read memory (plus at 4)) ∷ []
 
--- Profile: the line of an instruction begins with its number, its address, the workspace pointer and the status before
--- it, and its text.
+-- Profile: program counter, workspace pointer and status.
+unfoldable pub processor_text : Cpu Memory → List ℕ
+processor_text cpu =
+    marked_word cpu.pc ++ (codes " WP" ++ (word_digits cpu.wp ++ (codes " ST" ++ word_digits (status_word cpu.status))))
+
+-- the text of the instruction at the program counter
+unfoldable pub instruction_text : Cpu Memory → List ℕ
+instruction_text cpu = (printed (code_words cpu.memory cpu.pc) cpu.pc).text
+
+-- Profile: the line of an instruction begins with its number, the processor before it, and its text.
 unfoldable pub step_front : ℕ → MachineState → List ℕ
 step_front number x =
-    number_text number ++ (codes " " ++ (marked_word x.cpu.pc ++ (codes " WP" ++ (word_digits x.cpu.wp
-    ++ (codes " ST" ++ (word_digits (status_word x.cpu.status)
-    ++ (codes " " ++ (printed (code_words x.cpu.memory x.cpu.pc) x.cpu.pc).text)))))))
+    number_text number ++ (codes " " ++ (processor_text x.cpu ++ (codes " " ++ instruction_text x.cpu)))
 
 -- what an instruction changed, by the machines before and after it
 abbrev pub step_changes : MachineState → MachineState → MemoryChanges
@@ -51,8 +58,13 @@ line_after x made = step_line (made + 1) (after made x) (after (suc made) x)
 unfoldable pub step_lines : MachineState → ℕ → List (List ℕ)
 step_lines x count = map (line_after x) (range_with_len 0 count)
 
--- Profile: the expansion memory in rows, as in a dump: the low part, and the high part.
-unfoldable pub expansion_lines : Memory → List (List ℕ)
-expansion_lines memory =
-    codes "low\n" ∷ (rows_lines 0x2000 memory.low_expansion
-    ++ codes "high\n" ∷ rows_lines 0xA000 memory.high_expansion)
+-- Profile: the expansion memory is shown in rows, as in a dump: first the low part.
+unfoldable pub low_lines : List ℕ → List (List ℕ)
+low_lines bytes = codes "low\n" ∷ rows_lines 0x2000 bytes
+
+-- Profile: then the high part.
+unfoldable pub high_lines : List ℕ → List (List ℕ)
+high_lines bytes = codes "high\n" ∷ rows_lines 0xA000 bytes
+
+abbrev pub expansion_lines : Memory → List (List ℕ)
+expansion_lines memory = low_lines memory.low_expansion ++ high_lines memory.high_expansion

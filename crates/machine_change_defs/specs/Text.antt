@@ -9,7 +9,7 @@ use Rattle.change_defs.specs.Text.{placed_change}
 use Rattle.machine_change_defs.specs.declared.area.Area.{Area}
 use Rattle.machine_change_defs.specs.declared.area.Area.TheVariants.{Scratchpad, LowExpansion, HighExpansion}
 use Rattle.machine_change_defs.specs.declared.area.Area.TheVariants.{Video, Registers}
-use Rattle.machine_change_defs.specs.Changes.{RegisterChange, LatchChanges, MemoryChanges, memory_changes}
+use Rattle.machine_change_defs.specs.Changes.{RegisterChange, LatchChanges, OtherChanges, MemoryChanges}
 
 -- Profile: a register of the workspace is shown by its name and its new word.
 unfoldable pub register_text : RegisterChange → List ℕ
@@ -62,13 +62,16 @@ latches_text made =
     ++ (latch_text (codes "GF") byte_digits made.grom_fetched
     ++ latch_text (codes "GH") mark_text made.grom_half_written))))
 
--- Profile: first the registers of the workspace, then bytes in order of area and place, then what the ports hold.
-unfoldable pub changes_text : MemoryChanges → List ℕ
-changes_text made =
-    flat_map register_text made.workspace
-    ++ (area_text Scratchpad made.scratchpad
+-- Profile: bytes are shown in order of area and place, and then what the ports hold.
+unfoldable pub others_text : OtherChanges → List ℕ
+others_text made =
+    area_text Scratchpad made.scratchpad
     ++ (area_text LowExpansion made.low_expansion
     ++ (area_text HighExpansion made.high_expansion
     ++ (area_text Video made.video
     ++ (area_text Registers made.registers
-    ++ latches_text made.latches)))))
+    ++ latches_text made.latches))))
+
+-- Profile: the registers of the workspace are shown first.
+unfoldable pub changes_text : MemoryChanges → List ℕ
+changes_text made = flat_map register_text made.workspace ++ others_text made.others

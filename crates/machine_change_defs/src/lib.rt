@@ -4,6 +4,8 @@
 
 mod area;
 mod latches;
+mod laws;
 
 pub use area::Area;
 pub use latches::Latches;
+pub use laws::changes_give_memory;

@@ -1,11 +1,11 @@
 -- Runs of the machine that are shown, line by line.
 use Rattle.std.proofs.Common.{◌≡◌, ℕ, suc, ◌+◌, ◌<◌, ◌≤◌, Bool, true, false, List, [], ◌∷◌, ◌++◌, Option, Some, None, Result, Ok, Err, refl, sym, ap, ◌∙◌}
 use Rattle.std.proofs.Common.{subst, arith, eqb}
-use Rattle.std.specs.Prelude.{codes, nat_lt, if◌then◌else◌}
+use Rattle.std.specs.Prelude.{◌==◌, codes, nat_lt, if◌then◌else◌}
 use Rattle.std.proofs.lemmas.Bool.{eq-eqb, ne_eqb}
 use Rattle.std.proofs.lemmas.Bool.Decides.{nat_tests}
 use Rattle.console_defs.specs.Machine.{MachineState, machine_step}
-use Rattle.console_defs.specs.Runs.{IsRun, after, self_jumped, is_self_jump, end_of_step, end_at}
+use Rattle.console_defs.specs.Runs.{IsRun, after, self_jumped, is_self_jump, end_of_step, end_before, end_at}
 use Rattle.console_defs.specs.declared.run_end.RunEnd.{RunEnd}
 use Rattle.console_defs.specs.declared.run_end.RunEnd.TheVariants as run
 use Rattle.tms_defs.specs.declared.step_end.StepEnd.{StepEnd}
@@ -135,7 +135,7 @@ module _ (limit : ℕ) (x y : MachineState) (made : ℕ) (o o' : SinkState) (kep
         made = made + 1;
         run = record {
           ends = ap (λ (n : ℕ). end_at None limit n x) (sym next_number)
-              ∙ ap (λ (j : Bool). if j then Some run.SelfJump else _) (jumped_is ∙ eq-eqb word 0x10FF self);
+              ∙ ap (λ (j : Bool). if j then Some run.SelfJump else end_before None limit (suc made) (after (suc made) x)) (jumped_is ∙ eq-eqb word 0x10FF self);
           first = runs_on;
           left = next_is ∙ ap (λ (n : ℕ). after n x) next_number;
         };

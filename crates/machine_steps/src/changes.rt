@@ -25,6 +25,18 @@ pub(crate) fn append_changes(line: &mut LongLine, wp: u16, seen: &mut Seen, bus:
     ensures seen { seen.new ≡ spec.seen_memory bus.now }
 {
     append_workspace(line, wp, seen, bus);
+    append_others(line, seen, bus);
+    line.append(b"\n");
+}
+
+/// Appends what changed of bytes and of what the ports hold, and keeps it.
+#[tactic(auto, unfolding(machine_change_defs::specs::Text::others_text), using(std::proofs::Common::append_assoc))]
+fn append_others(line: &mut LongLine, seen: &mut Seen, bus: &Bus)
+    requires { length line.old ≤ 192 + 16 * 47 }
+    ensures text { line.new ≡ line.old ++ text.others_text (changes.other_changes seen.old (spec.seen_memory bus.now)) }
+    ensures size { length line.new + 1 ≤ LONGEST }
+    ensures seen { seen.new ≡ spec.seen_memory bus.now }
+{
     append_kept(line, Area::Scratchpad, &mut seen.scratchpad, bus.pad());
     append_kept(
         line,
@@ -46,7 +58,6 @@ pub(crate) fn append_changes(line: &mut LongLine, wp: u16, seen: &mut Seen, bus:
         &video_registers(bus.vdp()),
     );
     append_latches(line, seen, bus);
-    line.append(b"\n");
 }
 
 /// Appends the registers that changed of the workspace at an address, and keeps what it holds now.

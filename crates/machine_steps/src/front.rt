@@ -25,16 +25,35 @@ pub(crate) fn step_front(machine: &Machine, number: u32) -> Line
     let mut line = Line::new();
     append_number(&mut line, number);
     line.push(b' ');
-    append_word(&mut line, machine.pc());
-    append(&mut line, b" WP");
-    append(&mut line, &word_digits(machine.wp()));
-    append(&mut line, b" ST");
-    append(&mut line, &word_digits(machine.st()));
+    append_processor(&mut line, machine);
     line.push(b' ');
+    append_instruction(&mut line, machine);
+    line
+}
+
+/// Appends the program counter, the workspace pointer and the status.
+#[tactic(auto, using(std::proofs::Common::append_assoc), unfolding(machine_change_defs::specs::Lines::processor_text))]
+fn append_processor(line: &mut Line, machine: &Machine)
+    requires { array_vec_len line.old + 19 ≤ 192 }
+    ensures bytes { line.new.items ≡ line.old.items ++ spec.processor_text machine.now.cpu }
+    ensures len { array_vec_len line.new ≡ array_vec_len line.old + 19 }
+{
+    append_word(line, machine.pc());
+    append(line, b" WP");
+    append(line, &word_digits(machine.wp()));
+    append(line, b" ST");
+    append(line, &word_digits(machine.st()));
+}
+
+/// Appends the text of the instruction at the program counter.
+#[tactic(auto, unfolding(machine_change_defs::specs::Lines::instruction_text))]
+fn append_instruction(line: &mut Line, machine: &Machine)
+    requires { array_vec_len line.old + 64 ≤ 192 }
+    ensures { line.new.items ≡ line.old.items ++ spec.instruction_text machine.now.cpu }
+{
     let words = code_words(machine.bus(), machine.pc());
     let (text, _) = print_instr(&words, machine.pc());
-    append(&mut line, text.as_bytes());
-    line
+    append(line, text.as_bytes());
 }
 
 /// Appends a number to an empty line, right in six places.
