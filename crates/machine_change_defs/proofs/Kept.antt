@@ -3,7 +3,7 @@ use Rattle.std.proofs.Common.{◌≡◌, ℕ, zero, suc, ◌+◌, Bool, true, fa
 use Rattle.std.proofs.Math.ListN.{set}
 use Rattle.std.proofs.lemmas.List.{length-set}
 use Rattle.tms_defs.specs.Words.{even, high, low}
-use Rattle.tms_defs.specs.Accesses.{Answer, Gives, AtPort, NoInstruction}
+use Rattle.tms_defs.specs.Instructions.{instr_at}
 use Rattle.console_defs.specs.Vdp.{VdpState, PairKind, ReadSetup, WriteSetup, RegisterWrite, NoOperation, pair_kind, pair_done, address_byte_taken}
 use Rattle.console_defs.specs.Grom.{GromState, grom_half_taken}
 use Rattle.console_defs.specs.Memory.{Memory, console, Port, VdpDataRead, VdpStatusRead, VdpDataWrite, VdpAddressWrite, GromDataRead, GromAddressRead}
@@ -12,7 +12,7 @@ use Rattle.console_defs.specs.Memory.{word_written_in, byte_read_in, byte_writte
 use Rattle.console_defs.specs.Machine.{MachineState, machine_step}
 use Rattle.console_defs.specs.Runs.{after}
 use Rattle.machine_change_defs.specs.Laws.{Keeps}
-use Rattle.machine_change_defs.proofs.Keeping.{Holds, holds, step_keeps}
+use Rattle.machine_change_defs.proofs.Keeping.{Holds, holds, step_keeps, all_allowed}
 
 same : (first : Memory) → Keeps first first
 same first = record { scratchpad = refl; low_expansion = refl; high_expansion = refl; video = refl; registers = refl; rom = refl; image = refl }
@@ -97,11 +97,11 @@ module _ (first m : Memory) (k : Keeps first m) where
 -- a step keeps them
 pub step_leaves : (first : Memory) (x : MachineState) → Keeps first x.cpu.memory → Keeps first (machine_step x).1.cpu.memory
 step_leaves first x k =
-    step_keeps Memory console (Keeps first)
+    step_keeps Memory console (Keeps first) true
     (λ m a w h. written first m h (region (even a)) (even a) w)
-    (λ m a h. holds _ (byte_gave first m h (region a)))
-    (λ m a b h. holds _ (byte_took first m h (region a) b))
-    x.cpu k
+    (λ any m a h. holds _ (byte_gave first m h (region a)))
+    (λ any m a b h. holds _ (byte_took first m h (region a) b))
+    x.cpu k (λ word done. all_allowed (instr_at word))
 
 pub steps_leave : (x : MachineState) (made : ℕ) → Keeps x.cpu.memory (after made x).cpu.memory
 steps_leave x zero = same x.cpu.memory

@@ -1,5 +1,5 @@
 -- The changes of the instructions give the memory.
-use Rattle.std.proofs.Common.{◌≡◌, ℕ, zero, suc, ◌+◌, ◌-◌, ◌*◌, ◌<◌, ◌≤◌, Bool, true, false, cond, nat_eq, ◌&&◌, List, [], ◌∷◌, ◌++◌, length, take, drop, get_or}
+use Rattle.std.proofs.Common.{◌≡◌, ℕ, zero, suc, ◌+◌, ◌-◌, ◌*◌, ◌≤◌, Bool, true, false, cond, nat_eq, ◌&&◌, List, [], ◌∷◌, ◌++◌, length, take, drop, get_or}
 use Rattle.std.proofs.Common.{Option, Some, None, refl, sym, ap, ap₂, ◌∙◌, append_assoc, length-append, length-drop, arith}
 use Rattle.std.proofs.Math.ListN.{set}
 use Rattle.std.specs.List.{flat_map, range_with_len}
@@ -8,7 +8,7 @@ use Rattle.std.proofs.lemmas.Bool.Decides.{nat_tests}
 use Rattle.std.proofs.lemmas.List.{get_or-append_right, set-append_right, length-take-le}
 use Rattle.std.specs.Option.{option_map}
 use Rattle.change_defs.proofs.Lead.{changes_lead}
-use Rattle.console_defs.specs.Memory.{Memory, IsMemory}
+use Rattle.console_defs.specs.Memory.{IsMemory}
 use Rattle.console_defs.specs.Machine.{MachineState}
 use Rattle.console_defs.specs.Runs.{after}
 use Rattle.machine_change_defs.specs.declared.area.Area.{Area}
@@ -17,7 +17,7 @@ use Rattle.machine_change_defs.specs.declared.latches.Latches.{Latches}
 use Rattle.machine_change_defs.specs.Seen.{SeenMemory, seen_memory, size_of, bytes_of, with_bytes, workspace_place, workspace_at, replaced, with_workspace}
 use Rattle.machine_change_defs.specs.Changes.{RegisterChange, register_change, register_changes, registers_applied, new_number, new_held, new_mark, renewed}
 use Rattle.machine_change_defs.specs.Changes.{latch_changes, latches_applied, other_changes, others_applied, changes_at, changes_applied}
-use Rattle.machine_change_defs.specs.Laws.{Keeps, ChangesGiveMemory, memory_by_changes}
+use Rattle.machine_change_defs.specs.Laws.{ChangesGiveMemory, memory_by_changes}
 use Rattle.machine_change_defs.proofs.Kept.{steps_leave}
 
 -- a list whose front has so many bytes
@@ -176,7 +176,7 @@ changes_lead_at (Some (area, at)) m n within p q =
     let new = slice_size (bytes_of area n) at (size_of area) (area_size area n q) within in
     let made = with_workspace (Some (area, at)) ws m in
     let sized = with_size area (replaced at ws (bytes_of area m)) m p
-        (replaced_size (bytes_of area m) ws at (size_of area) (area_size area m p) within new) in
+    (replaced_size (bytes_of area m) ws at (size_of area) (area_size area m p) within new) in
     ap (λ w. others_applied (other_changes made n) (with_workspace (Some (area, at)) w m))
     (registers_lead (workspace_at (Some (area, at)) m) ws old new)
     ∙ others_lead made n sized q

@@ -1,11 +1,15 @@
--- The memory by the changes of the instructions.
+-- What holds of the reports of `steps`, and of the memory by the changes of their lines.
 use Rattle.std.specs.Prelude.{◌≡◌, ℕ, zero, suc, List, length}
 use Rattle.console_defs.specs.Memory.{Memory, IsMemory}
 use Rattle.console_defs.specs.Machine.{MachineState}
 use Rattle.console_defs.specs.Runs.{after}
+use Rattle.report_defs.specs.ObjectInput.{linked_input}
+use Rattle.report_defs.specs.Report.{Report}
+use Rattle.report_defs.specs.Laws.{Begins}
 use Rattle.machine_change_defs.specs.Seen.{SeenMemory, seen_memory}
 use Rattle.machine_change_defs.specs.Changes.{memory_applied}
 use Rattle.machine_change_defs.specs.Lines.{step_changes}
+use Rattle.machine_change_defs.specs.Reports.{StepsReport, StepsFront}
 
 -- What no instruction changes: how many bytes each part has, the ROM, and the bytes of the GROMs.
 pub record Keeps (first m : Memory) : Type 0 where
@@ -30,3 +34,16 @@ pub record ChangesGiveMemory : Type 0 where
   pub seen : (x : MachineState) → IsMemory x.cpu.memory → (made : ℕ)
       → memory_by_changes x made ≡ seen_memory (after made x).cpu.memory
   pub kept : (x : MachineState) (made : ℕ) → Keeps x.cpu.memory (after made x).cpu.memory
+
+-- the law, which is proved: there is at most one report on each limit and input
+abbrev pub OneStepsReport : Type 0
+OneStepsReport =
+    (limit : ℕ) (input : List ℕ) (first second : Report)
+    → StepsReport limit (linked_input input) first → StepsReport limit (linked_input input) second → first ≡ second
+
+-- the law, which is proved: what is written before the end of a report is known begins the report
+abbrev pub StepsFrontsBeginReports : Type 0
+StepsFrontsBeginReports =
+    (limit : ℕ) (input : List ℕ) (front report : Report)
+    → StepsFront limit (linked_input input) front → StepsReport limit (linked_input input) report
+    → Begins front report

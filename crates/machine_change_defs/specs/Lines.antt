@@ -1,5 +1,5 @@
 -- The lines of a run of the machine: a line for each instruction, and the expansion memory after it.
-use Rattle.std.specs.Prelude.{ℕ, suc, ◌+◌, ◌*◌, List, [], ◌∷◌, ◌++◌, codes, map}
+use Rattle.std.specs.Prelude.{ℕ, suc, ◌+◌, List, [], ◌∷◌, ◌++◌, codes, map}
 use Rattle.std.specs.List.{range_with_len}
 use Rattle.source_defs.specs.Digits.{word_digits, marked_word}
 use Rattle.tms_defs.specs.Accesses.{Answer, Gives, AtPort, NoInstruction}

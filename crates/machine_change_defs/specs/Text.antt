@@ -62,16 +62,17 @@ latches_text made =
     ++ (latch_text (codes "GF") byte_digits made.grom_fetched
     ++ latch_text (codes "GH") mark_text made.grom_half_written))))
 
--- Profile: bytes are shown in order of area and place, and then what the ports hold.
-unfoldable pub others_text : OtherChanges → List ℕ
-others_text made =
+-- Profile: bytes that the processor addresses are shown in order of area and place.
+unfoldable pub bytes_text : OtherChanges → List ℕ
+bytes_text made =
     area_text Scratchpad made.scratchpad
-    ++ (area_text LowExpansion made.low_expansion
-    ++ (area_text HighExpansion made.high_expansion
-    ++ (area_text Video made.video
-    ++ (area_text Registers made.registers
-    ++ latches_text made.latches))))
+    ++ (area_text LowExpansion made.low_expansion ++ area_text HighExpansion made.high_expansion)
+
+-- Profile: then what stands after the ports: video memory, its registers, and what the ports hold.
+unfoldable pub ports_text : OtherChanges → List ℕ
+ports_text made =
+    area_text Video made.video ++ (area_text Registers made.registers ++ latches_text made.latches)
 
 -- Profile: the registers of the workspace are shown first.
 unfoldable pub changes_text : MemoryChanges → List ℕ
-changes_text made = flat_map register_text made.workspace ++ others_text made.others
+changes_text made = flat_map register_text made.workspace ++ (bytes_text made.others ++ ports_text made.others)

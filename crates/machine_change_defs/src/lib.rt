@@ -8,4 +8,4 @@ mod laws;
 
 pub use area::Area;
 pub use latches::Latches;
-pub use laws::changes_give_memory;
+pub use laws::{changes_give_memory, one_steps_report, steps_fronts_begin_reports};

@@ -1,11 +1,11 @@
 -- Runs of the machine that are shown, line by line.
-use Rattle.std.proofs.Common.{◌≡◌, ℕ, suc, ◌+◌, ◌<◌, ◌≤◌, Bool, true, false, List, [], ◌∷◌, ◌++◌, Option, Some, None, Result, Ok, Err, refl, sym, ap, ◌∙◌}
-use Rattle.std.proofs.Common.{subst, arith, eqb}
+use Rattle.std.proofs.Common.{◌≡◌, ℕ, suc, ◌+◌, ◌<◌, Bool, true, false, List, [], ◌∷◌, ◌++◌, Some, None, refl, sym, ap, ◌∙◌}
+use Rattle.std.proofs.Common.{subst, arith}
 use Rattle.std.specs.Prelude.{◌==◌, codes, nat_lt, if◌then◌else◌}
 use Rattle.std.proofs.lemmas.Bool.{eq-eqb, ne_eqb}
 use Rattle.std.proofs.lemmas.Bool.Decides.{nat_tests}
 use Rattle.console_defs.specs.Machine.{MachineState, machine_step}
-use Rattle.console_defs.specs.Runs.{IsRun, after, self_jumped, is_self_jump, end_of_step, end_before, end_at}
+use Rattle.console_defs.specs.Runs.{after, self_jumped, is_self_jump, end_of_step, end_before, end_at}
 use Rattle.console_defs.specs.declared.run_end.RunEnd.{RunEnd}
 use Rattle.console_defs.specs.declared.run_end.RunEnd.TheVariants as run
 use Rattle.tms_defs.specs.declared.step_end.StepEnd.{StepEnd}
@@ -13,7 +13,7 @@ use Rattle.tms_defs.specs.declared.step_end.StepEnd.TheVariants.{Done, Refused, 
 use Rattle.bench_io.specs.Stream.{SinkState}
 use Rattle.bench_io.specs.Written.{Wrote, Missed}
 use Rattle.bench_io.proofs.Writing.{wrote_none, wrote_more, missed_more}
-use Rattle.report_lines.proofs.Ranges.{mapped_split}
+use Rattle.report_defs.proofs.Ranges.{mapped_split}
 use Rattle.machine_change_defs.specs.Seen.{SeenMemory, seen_memory}
 use Rattle.machine_change_defs.specs.Changes.{memory_changes}
 use Rattle.machine_change_defs.specs.Text.{changes_text}

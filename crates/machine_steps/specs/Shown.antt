@@ -1,5 +1,5 @@
 -- Runs of the machine that are shown.
-use Rattle.std.specs.Prelude.{◌≡◌, ◌<◌, ℕ, List, None, Result, Ok, Err}
+use Rattle.std.specs.Prelude.{◌≡◌, ◌<◌, ℕ, None, Result, Ok, Err}
 use Rattle.console_defs.specs.Machine.{MachineState}
 use Rattle.console_defs.specs.Runs.{IsRun, end_at}
 use Rattle.console_defs.specs.declared.run_end.RunEnd.{RunEnd}

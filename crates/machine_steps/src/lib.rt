@@ -7,6 +7,7 @@ mod changes;
 mod expansion;
 mod front;
 mod latches;
+mod reach;
 mod run;
 mod seen;
 mod workspace;

@@ -6,6 +6,7 @@ ghost use Rattle.machine_steps.specs.Shown.{Shows};
 
 use crate::changes::append_changes;
 use crate::front::step_front;
+use crate::reach::reach_of;
 use crate::seen::Seen;
 use bench_io::{Failed, Sink, put_piece};
 use console_defs::RunEnd;
@@ -39,7 +40,7 @@ pub fn show_run<O: Sink>(
         let wp = machine.wp();
         match machine.step() {
             StepEnd::Done(word) => {
-                append_changes(line, wp, seen, machine.bus());
+                append_changes(line, reach_of(word), wp, seen, machine.bus());
                 put_piece(out, line.bytes())?;
                 if word == SELF_JUMP {
                     return Ok(RunEnd::SelfJump);

@@ -1,7 +1,8 @@
-use Rattle.std.proofs.Common.{◌≡◌, ◌+◌, List, ℕ, refl, arith}
+use Rattle.std.proofs.Common.{◌≡◌, ◌+◌, refl, arith}
 use Rattle.std.proofs.lemmas.Result.{err_from_is_err_and}
 use Rattle.std.proofs.lemmas.Bool.Decides.{nat_tests}
 use Rattle.machine_steps.proofs.Showing
+use Rattle.machine_steps.proofs.Staying.{stays_at}
 use Rattle.machine_steps.proofs.run.show_run.Goals as goal
 
 pub loop-made-init : goal.loop-made-init
@@ -26,6 +27,11 @@ returns-then-word-eq-SELF_JUMP-clause-shows g c =
     Showing.jumped c.args.limit c.args.machine.now c.loop-made.machine c.loop-made.made (state c.args.out.now) (state c.loop-made.out) c.loop-made.seen c.loop-made.invariant
     c.loop-made-test.true c.step.result c.step.new.self c.step.ensures.step c.in-Done.word c.in-Done.is c.append_changes.new.line (c.loop-made.made + 1) refl ends
     (state c.put_piece.new.sink) wrote self
+
+pub append_changes-requires-clause-stays : goal.append_changes-requires-clause-stays
+append_changes-requires-clause-stays g c =
+    stays_at c.loop-made.machine c.step.new.self c.step.result c.in-Done.word c.step.ensures.step c.in-Done.is
+    c.reach_of.result c.reach_of.ensures c.loop-made.seen c.loop-made.invariant.kept_is c.bus.result.now c.bus.ensures
 
 pub loop-made-preserved : goal.loop-made-preserved
 loop-made-preserved g c =

@@ -1,7 +1,7 @@
-use Rattle.std.proofs.Common.{◌≡◌, ◌+◌, ◌*◌, ◌++◌, sym, ap, ◌∙◌, append_assoc, append-nil, arith}
+use Rattle.std.proofs.Common.{◌≡◌, ◌++◌, sym, ap, ◌∙◌, append_assoc, append-nil, arith}
 use Rattle.std.specs.List.{flat_map, range_with_len}
 use Rattle.std.proofs.lemmas.Grind.{flat_map-append}
-use Rattle.report_lines.proofs.Ranges.{more}
+use Rattle.report_defs.proofs.Ranges.{more}
 use Rattle.machine_change_defs.specs.Changes.{register_change}
 use Rattle.machine_change_defs.specs.Text.{register_text}
 use Rattle.machine_steps.proofs.workspace.append_changed.Goals as goal
