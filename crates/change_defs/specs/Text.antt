@@ -28,10 +28,14 @@ repeated_text byte count = byte_digits byte ++ (if count == 1 then [] else codes
 
 -- Profile: a change is a blank, its place, an equals sign and the new bytes; if the change before it ended at its place,
 -- a comma and the new bytes. No change ends at 0.
-unfoldable pub change_text : Part → ℕ → Change → List ℕ
-change_text part end c =
-    (if (c.at == end) && not (end == 0) then codes "," else codes " " ++ (place_text part c.at ++ codes "="))
+abbrev pub placed_change : List ℕ → ℕ → Change → List ℕ
+placed_change place end c =
+    (if (c.at == end) && not (end == 0) then codes "," else codes " " ++ (place ++ codes "="))
     ++ repeated_text c.byte c.count
+
+-- a change of a part
+unfoldable pub change_text : Part → ℕ → Change → List ℕ
+change_text part end c = placed_change (place_text part c.at) end c
 
 -- the text of changes, of which the one before ended at a place
 abbrev pub change_texts : Part → ℕ → List Change → List ℕ

@@ -234,6 +234,22 @@ impl Bus {
         &self.scratchpad
     }
 
+    /// The 8,192 bytes of the low expansion memory, from >2000.
+    pub fn low_expansion(&self) -> &[u8]
+        ensures low { result.now ≡ self.now.low_expansion }
+        ensures size { length result.now ≡ 8192 }
+    {
+        &self.low_expansion
+    }
+
+    /// The 24,576 bytes of the high expansion memory, from >A000.
+    pub fn high_expansion(&self) -> &[u8]
+        ensures high { result.now ≡ self.now.high_expansion }
+        ensures size { length result.now ≡ 24576 }
+    {
+        &self.high_expansion
+    }
+
     /// The video processor.
     pub fn vdp(&self) -> &Vdp
         ensures { result.now ≡ self.now.vdp }

@@ -113,6 +113,13 @@ impl Grom {
         self.counter
     }
 
+    /// The byte that was fetched ahead, which the next read gives.
+    pub fn fetched(&self) -> u8
+        ensures { result ≡ self.now.fetched }
+    {
+        self.fetched
+    }
+
     /// No half of an address was written.
     pub fn is_idle(&self) -> bool
         ensures { result ≡ is_grom_idle self.now }

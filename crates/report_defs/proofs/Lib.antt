@@ -6,3 +6,4 @@ pub mod ListedWords
 pub mod EnteredWords
 pub mod Fronts
 pub mod ListedFiles
+pub mod Ranges

@@ -59,15 +59,18 @@ one_memory linked image_a image_b a b image p q =
     one_new p.empty q.empty p.vdp q.vdp (new_grom image_a) (new_grom image_b) (one_vdp p.vdp q.vdp p.new_vdp q.new_vdp) (ap new_grom image) p.new_memory q.new_memory in
     p.loaded ∙ ap (λ memory. with_words (entries linked.words) (with_first_word 0 memory)) empty ∙ sym q.loaded
 
-one_start : (linked : LinkedMemory) (a b : MachineState) → IsStart linked a → IsStart linked b → a ≡ b
+pub one_start : (linked : LinkedMemory) (a b : MachineState) → IsStart linked a → IsStart linked b → a ≡ b
 one_start linked a b p q =
     let image : p.image ≡ q.image = one_zeros 65536 p.image q.image p.zeros q.zeros in
     p.machine.machine
     ∙ ap (λ memory. new_machine memory 0x83E0 linked.entry) (one_memory linked p.image q.image a.cpu.memory b.cpu.memory image p.machine.memory q.machine.memory)
     ∙ sym q.machine.machine
 
+pub some_apart : (e : RunEnd) (end : Option RunEnd) → end ≡ Some e → end ≡ None → ⊥
+some_apart e end is none = absurd (cc)
+
 -- a run ends at one number, and by one end
-one_number : (stop : Option ℕ) (limit m n : ℕ) (x y z : MachineState) (e f : RunEnd) → IsRun stop limit m x e y → IsRun stop limit n x f z → m ≡ n
+pub one_number : (stop : Option ℕ) (limit m n : ℕ) (x y z : MachineState) (e f : RunEnd) → IsRun stop limit m x e y → IsRun stop limit n x f z → m ≡ n
 one_number stop limit m n x y z e f p q = by (nat_lt m n) refl (nat_lt n m) refl
   where
     by : (below : Bool) → nat_lt m n ≡ below → (above : Bool) → nat_lt n m ≡ above → m ≡ n
@@ -75,7 +78,7 @@ one_number stop limit m n x y z e f p q = by (nat_lt m n) refl (nat_lt n m) refl
     by false b true a = let none = p.first n (grind (arith, nat_tests)) in absurd (cc (q.ends, none))
     by false b false a = grind (arith, nat_tests)
 
-same_run : (stop : Option ℕ) (limit m n : ℕ) (x y z : MachineState) (e f : RunEnd) → m ≡ n → IsRun stop limit m x e y → IsRun stop limit n x f z → (e ≡ f) × (y ≡ z)
+pub same_run : (stop : Option ℕ) (limit m n : ℕ) (x y z : MachineState) (e f : RunEnd) → m ≡ n → IsRun stop limit m x e y → IsRun stop limit n x f z → (e ≡ f) × (y ≡ z)
 same_run stop limit m n x y z e f same p q =
     let is : Some e ≡ Some f = sym p.ends ∙ ap (λ made. end_at stop limit made x) same ∙ q.ends in
     (cc is, p.left ∙ ap (λ made. after made x) same ∙ sym q.left)

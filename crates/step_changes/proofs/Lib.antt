@@ -1,2 +1,2 @@
-mod Appending
-mod Neighbours
+pub mod Appending
+pub mod Neighbours

@@ -15,7 +15,7 @@ abbrev pub change : ℕ → ℕ → ℕ → Change
 change at byte count = record { at = at; byte = byte; count = count }
 
 -- equal lists have no changes
-none : (a : List ℕ) (at : ℕ) → changes_from at a a ≡ []
+pub none : (a : List ℕ) (at : ℕ) → changes_from at a a ≡ []
 none [] at = refl
 none (x ∷ a) at = ap (λ b. cond b (changes_from (at + 1) a a) (joined at x (changes_from (at + 1) a a))) (eq-eqb x x refl) ∙ none a (at + 1)
 

@@ -6,3 +6,5 @@ mod scan;
 mod text;
 
 pub use line::{LONGEST, LongLine, append_part};
+pub use scan::{next_difference, stretch};
+pub use text::append_repeated;

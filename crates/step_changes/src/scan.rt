@@ -8,7 +8,7 @@ ghost use Rattle.step_changes.specs.Scan as spec;
 use lane_scan::first_difference;
 
 /// The first place from `at` on at which two lists of one length differ.
-pub(crate) fn next_difference(before: &[u8], now: &[u8], at: usize) -> Option<usize>
+pub fn next_difference(before: &[u8], now: &[u8], at: usize) -> Option<usize>
     requires size { length before.now ≡ length now.now }
     requires at { at ≤ length now.now }
     ensures { spec.IsNext before.now now.now at result }
@@ -20,7 +20,7 @@ pub(crate) fn next_difference(before: &[u8], now: &[u8], at: usize) -> Option<us
 }
 
 /// How many neighbours from a place on, at which two lists of one length differ, differ too and are the same byte now.
-pub(crate) fn stretch(before: &[u8], now: &[u8], from: usize) -> usize
+pub fn stretch(before: &[u8], now: &[u8], from: usize) -> usize
     requires size { length before.now ≡ length now.now }
     requires from { from < length now.now }
     ensures value { result ≡ 1 + prefix_len (spec.is_made (slice_index now.now from)) (drop (from + 1) (zip before.now now.now)) }

@@ -51,9 +51,9 @@ fn append_place(line: &mut Line, part: Part, at: usize)
 
 /// Appends a byte, and at how many places it is.
 #[tactic(auto, using(std::proofs::Common::append_assoc), unfolding(change_defs::specs::Text::repeated_text))]
-fn append_repeated(line: &mut Line, byte: u8, count: usize)
+pub fn append_repeated(line: &mut Line, byte: u8, count: usize)
     requires room { array_vec_len line.old + 43 ≤ 192 }
-    requires count { count ≤ 16384 }
+    requires count { count ≤ 24576 }
     ensures bytes { line.new.items ≡ line.old.items ++ spec.repeated_text byte count }
     ensures len { array_vec_len line.new ≤ array_vec_len line.old + 8 }
 {

@@ -1,5 +1,4 @@
 pub mod Dumps
-pub mod Ranges
 pub mod Playing
 pub mod Decimals
 pub mod Numbers

@@ -20,7 +20,7 @@ use Rattle.sim_steps.proofs.Running.{Stepping, none_yet, stepped, stopped, whole
 use Rattle.gpl_run.specs.Sessions.{SessionState, IsSession, seen, address_in, ended_by}
 use Rattle.report_defs.specs.Trace.{SeenState, ShowsChanges, seen_state, step_front, step_line, step_lines}
 use Rattle.trace_dump.specs.Plays.{PlaysWhole, BreaksOff}
-use Rattle.trace_dump.proofs.Ranges.{mapped_split}
+use Rattle.report_defs.proofs.Ranges.{mapped_split}
 
 pub seen_running : (t : SessionState) → t.ended ≡ None → seen t ≡ shown_by t.machine.cpu.memory
 seen_running t e = ap (λ (o : Option Reason). record (shown_by t.machine.cpu.memory) { pc = address_in o t.machine }) e

@@ -7,7 +7,6 @@ mod first_changes;
 mod line;
 mod parts;
 mod program;
-mod rows;
 mod seen;
 mod state;
 mod step_line;

@@ -6,11 +6,10 @@ ghost use Rattle.report_defs.specs.Dump as spec;
 ghost use Rattle.report_defs.specs.Rows.{rows_lines};
 ghost use Rattle.bench_io.specs.Written.{Written};
 
-use crate::rows::put_rows;
 use crate::workspace::put_workspace;
 use bench_io::{Failed, Sink, put_piece};
 use grom_counter::Grom;
-use report_lines::{Line, append, append_count, append_spaced, append_word};
+use report_lines::{Line, append, append_count, append_spaced, append_word, put_rows};
 use tms_step::Machine;
 use vdp_ports::Vdp;
 

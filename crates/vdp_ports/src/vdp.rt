@@ -133,6 +133,20 @@ impl Vdp {
         self.address
     }
 
+    /// The byte that was fetched ahead, which the next read gives.
+    pub fn fetched(&self) -> u8
+        ensures { result ≡ self.now.fetched }
+    {
+        self.fetched
+    }
+
+    /// The first byte of an address pair whose second byte is still to come.
+    pub fn held(&self) -> Option<u8>
+        ensures { result ≡ self.now.held }
+    {
+        self.held
+    }
+
     /// No byte of an address pair is held.
     pub fn is_idle(&self) -> bool
         ensures { result ≡ is_vdp_idle self.now }

@@ -1,7 +1,7 @@
 use Rattle.std.proofs.Common.{◌≡◌, ◌+◌, ◌-◌, ◌++◌, sym, ap, ◌∙◌, append_assoc, arith}
 use Rattle.std.specs.List.{flat_map, range_with_len}
 use Rattle.report_defs.specs.Dump.{register_text, eight_registers}
-use Rattle.trace_dump.proofs.Ranges.{more_from}
+use Rattle.report_defs.proofs.Ranges.{more_from}
 use Rattle.trace_dump.proofs.workspace.append_registers.Goals as goal
 
 pub loop-number-preserved : goal.loop-number-preserved

@@ -4,13 +4,16 @@ ghost use Rattle.std.specs.Prelude.{◌≡◌, ◌≤◌, ◌<◌, ◌+◌, ◌*
 ghost use Rattle.report_defs.specs.Rows as rows;
 ghost use Rattle.bench_io.specs.Written.{Written};
 
+use crate::line::{Line, append_spaced, append_word};
 use bench_io::{Failed, Sink, put_piece};
 use lane_scan::rows_equal;
-use report_lines::{Line, append_spaced, append_word};
 
 /// Writes bytes in rows of 16, of which the first stands at an address; a run of rows that equal the row before them is
-/// an asterisk.
-pub(crate) fn put_rows<O: Sink>(first: u16, bytes: &[u8], out: &mut O) -> Result<(), Failed>
+/// an asterisk. Each line is written by one call, and no memory is taken.
+///
+/// # Errors
+/// `Failed` means that a line could not be written. The sink then got a front of the rows, and its count of faults rose.
+pub fn put_rows<O: Sink>(first: u16, bytes: &[u8], out: &mut O) -> Result<(), Failed>
     requires { first + length bytes.now ≤ 65536 }
     ensures { Written result (O.state out.old) (O.state out.new) (rows.rows_lines first bytes.now) }
 {

@@ -1,7 +1,7 @@
 use Rattle.std.specs.List.{flat_map, range_with_len}
 use Rattle.bench_io.specs.Written.{Wrote}
 use Rattle.report_defs.specs.Rows.{row_lines}
-use Rattle.trace_dump.proofs.rows.put_rows.Given as goal
+use Rattle.report_lines.proofs.rows.put_rows.Given as goal
 
 -- the lines of the rows so far were written
 abbrev pub invariant-loop-number : goal.invariant-loop-number

@@ -1,6 +1,6 @@
 use Rattle.std.proofs.Common.{arith}
 use Rattle.bench_io.proofs.Writing.{wrote_none}
-use Rattle.trace_dump.proofs.rows.put_row.Goals as goal
+use Rattle.report_lines.proofs.rows.put_row.Goals as goal
 
 pub returns : goal.returns
 returns g c = grind (arith, wrote_none)

@@ -2,8 +2,8 @@ use Rattle.std.proofs.Common.{◌≡◌, ◌≤◌, ◌+◌, ◌/◌, length, ar
 use Rattle.std.proofs.lemmas.Result.{err_from_is_err_and}
 use Rattle.bench_io.proofs.Writing.{wrote_more, missed_more, missed_early}
 use Rattle.report_defs.specs.Rows.{row_lines, rows_lines}
-use Rattle.trace_dump.proofs.Ranges.{more, all_split}
-use Rattle.trace_dump.proofs.rows.put_rows.Goals as goal
+use Rattle.report_defs.proofs.Ranges.{more, all_split}
+use Rattle.report_lines.proofs.rows.put_rows.Goals as goal
 
 pub loop-number-preserved : goal.loop-number-preserved
 loop-number-preserved g c =

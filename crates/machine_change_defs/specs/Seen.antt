@@ -1,0 +1,82 @@
+-- What is seen of the memory of a machine: all of it but the ROM and the bytes of the GROMs, which no instruction
+-- changes.
+use Rattle.std.specs.Prelude.{ℕ, ◌+◌, ◌-◌, ◌&&◌, nat_le, if◌then◌else◌, List, [], ◌++◌, take, drop, slice_range, Option, Some, None}
+use Rattle.console_defs.specs.Memory.{Memory}
+use Rattle.machine_change_defs.specs.declared.area.Area.{Area}
+use Rattle.machine_change_defs.specs.declared.area.Area.TheVariants.{Scratchpad, LowExpansion, HighExpansion}
+use Rattle.machine_change_defs.specs.declared.area.Area.TheVariants.{Video, Registers}
+use Rattle.machine_change_defs.specs.declared.latches.Latches.{Latches}
+
+pub record SeenMemory : Type 0 where
+  pub scratchpad : List ℕ
+  pub low_expansion : List ℕ
+  pub high_expansion : List ℕ
+  pub video : List ℕ
+  pub registers : List ℕ
+  pub latches : Latches
+
+abbrev pub seen_latches : Memory → Latches
+seen_latches m =
+    record {
+      video_address = m.vdp.address;
+      video_fetched = m.vdp.fetched;
+      video_held = m.vdp.held;
+      grom_counter = m.grom.counter;
+      grom_fetched = m.grom.fetched;
+      grom_half_written = m.grom.half_written;
+    }
+
+abbrev pub seen_memory : Memory → SeenMemory
+seen_memory m =
+    record {
+      scratchpad = m.scratchpad;
+      low_expansion = m.low_expansion;
+      high_expansion = m.high_expansion;
+      video = m.vdp.memory;
+      registers = m.vdp.registers;
+      latches = seen_latches m;
+    }
+
+-- how many bytes an area has
+abbrev pub size_of : Area → ℕ
+size_of Scratchpad = 256
+size_of LowExpansion = 8192
+size_of HighExpansion = 24576
+size_of Video = 16384
+size_of Registers = 8
+
+abbrev pub bytes_of : Area → SeenMemory → List ℕ
+bytes_of Scratchpad m = m.scratchpad
+bytes_of LowExpansion m = m.low_expansion
+bytes_of HighExpansion m = m.high_expansion
+bytes_of Video m = m.video
+bytes_of Registers m = m.registers
+
+abbrev pub with_bytes : Area → List ℕ → SeenMemory → SeenMemory
+with_bytes Scratchpad bytes m = record m { scratchpad = bytes }
+with_bytes LowExpansion bytes m = record m { low_expansion = bytes }
+with_bytes HighExpansion bytes m = record m { high_expansion = bytes }
+with_bytes Video bytes m = record m { video = bytes }
+with_bytes Registers bytes m = record m { registers = bytes }
+
+-- Where the 32 bytes of a workspace stand: the area, and the place in it.
+-- Profile: it is shown by its registers where it lies wholly in the scratchpad from >8300 on, or in expansion memory.
+abbrev pub workspace_place : ℕ → Option (Area × ℕ)
+workspace_place wp =
+    if nat_le 0x8300 wp && nat_le wp 0x83E0 then Some (Scratchpad, wp - 0x8300)
+    else if nat_le 0x2000 wp && nat_le wp 0x3FE0 then Some (LowExpansion, wp - 0x2000)
+    else if nat_le 0xA000 wp && nat_le wp 0xFFE0 then Some (HighExpansion, wp - 0xA000)
+    else None
+
+abbrev pub workspace_at : Option (Area × ℕ) → SeenMemory → List ℕ
+workspace_at None m = []
+workspace_at (Some (area, at)) m = slice_range (bytes_of area m) at (at + 32)
+
+-- a list in which 32 bytes from a place on are other ones
+abbrev pub replaced : ℕ → List ℕ → List ℕ → List ℕ
+replaced at workspace bytes = take at bytes ++ (workspace ++ drop (at + 32) bytes)
+
+-- a memory in which the bytes of a workspace are other ones
+abbrev pub with_workspace : Option (Area × ℕ) → List ℕ → SeenMemory → SeenMemory
+with_workspace None workspace m = m
+with_workspace (Some (area, at)) workspace m = with_bytes area (replaced at workspace (bytes_of area m)) m

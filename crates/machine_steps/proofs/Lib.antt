@@ -1,0 +1,4 @@
+pub mod Appending
+pub mod Eight
+pub mod Showing
+pub mod Staying
