@@ -19,6 +19,8 @@ mod gasm;
 #[cfg(test)]
 mod gdis;
 #[cfg(test)]
+mod glist;
+#[cfg(test)]
 mod gpl_programs;
 #[cfg(test)]
 mod gpl_rows;

@@ -2,7 +2,7 @@
 
 use super::rows::failed_rows;
 use super::{
-    asm, dis, exec, files, gasm, gdis, gpl_programs, gpl_rows, gsteps, link, trace, watch,
+    asm, dis, exec, files, gasm, gdis, glist, gpl_programs, gpl_rows, gsteps, link, trace, watch,
 };
 use std::test::Fail;
 
@@ -14,6 +14,7 @@ const TABLES: &[&str] = &[
     files::ROWS,
     gasm::ROWS,
     gdis::ROWS,
+    glist::ROWS,
     gpl_programs::ROWS,
     gpl_rows::ROWS,
     gsteps::ROWS,

@@ -1,10 +1,10 @@
 -- How a run of a command of `ti_debug` ends.
-use Rattle.std.proofs.Common.{◌≡◌, ◌≤◌, ℕ, List, length, Result, sym, subst, inl, inr}
+use Rattle.std.proofs.Common.{◌≤◌, ℕ, List, length, Result, Ok, Err, subst, inl, inr}
 use Rattle.std.specs.Prelude.{nat_lt}
 use Rattle.bench_io.specs.Stream.{SourceState}
 use Rattle.bench_io.specs.ReadAll.{ReadWhole}
-use Rattle.gpl_step_defs.specs.State.{start}
-use Rattle.gpl_step_defs.specs.Run.{run}
+use Rattle.source_defs.specs.Refusals.{Refusal}
+use Rattle.gpl_source_defs.specs.declared.causes.GplCause.{GplCause}
 use Rattle.gpl_source_defs.specs.Programs.{program_of_source}
 use Rattle.report_defs.specs.declared.status.Status.{Status}
 use Rattle.report_defs.specs.Report as spec
@@ -13,26 +13,45 @@ use Rattle.reports.specs.Outputs.{Outputs}
 use Rattle.reports.specs.Answers.{WantsMemory}
 use Rattle.reports.specs.Run.{EndsBy}
 use Rattle.reports.proofs.Answers.{reported_as}
-use Rattle.reports.proofs.NoUsage.{IsNoUsage, large_no_usage}
+use Rattle.reports.proofs.NoUsage.{IsNoUsage, same_no_usage, large_no_usage}
 use Rattle.bench_commands.specs.Loaded.{RunsNone}
 use Rattle.bench_commands.proofs.NoUsage as shown
 use Rattle.bench_commands.proofs.Loading.{program_none}
 use Rattle.bench_commands.proofs.Ends.{HasNoUsage, run_of, by_answer}
 use Rattle.bench_commands.proofs.Tracing.{by_trace}
 use Rattle.debug_report_defs.specs.declared.command.DebugCommand.{DebugCommand}
-use Rattle.debug_report_defs.specs.declared.command.DebugCommand.TheVariants.{Gsteps}
+use Rattle.debug_report_defs.specs.declared.command.DebugCommand.TheVariants.{Glist, Gsteps}
 use Rattle.debug_report_defs.specs.Reports.{AcceptedReport}
+use Rattle.gpl_list_defs.specs.Text.{listing_lines}
+use Rattle.gpl_list_defs.specs.Listing.{listing_of, listing_report, report_by}
+use Rattle.debug_commands.specs.Answered.{EndsAnswered}
 use Rattle.debug_commands.specs.Debug.{debug_input, debug_program}
 use Rattle.debug_commands.specs.Gsteps.{EndsSteps}
 
+listing_no_usage : (lines : List (List ℕ)) (refused : Result Unit (Refusal GplCause)) → IsNoUsage (report_by lines refused)
+listing_no_usage lines (Ok done) e = absurd cc
+listing_no_usage lines (Err refused) e = absurd cc
+
 accepted_no_usage : (command : DebugCommand) (input : List ℕ) (report : spec.Report) → AcceptedReport command input report
     → IsNoUsage report
+accepted_no_usage Glist input report is =
+    same_no_usage report (listing_report (listing_of input)) is
+    (listing_no_usage (listing_lines (listing_of input).rows (listing_of input).names) (listing_of input).refused)
 accepted_no_usage (Gsteps limit) input report on = shown.program_none (spec.shown_lines all_changes_text) limit input report on
 
 pub no_usage : HasNoUsage debug_input
 no_usage command input report on =
     large_no_usage (nat_lt spec.largest_input (length input)) report (AcceptedReport command input report)
     (accepted_no_usage command input report) on
+
+-- a run of a command that makes its report first ends as that
+module _ (command : DebugCommand) (before after : SourceState) (o : Outputs) (bytes : List ℕ)
+    (takes : ReadWhole spec.largest_input before after bytes) where
+  pub by_answered : (Reports : spec.Report → Type 0) → ((report : spec.Report) → Reports report → AcceptedReport command bytes report)
+      → (end : Status) → EndsAnswered Reports o end → EndsBy debug_program (run_of debug_input no_usage command before after o) end
+  by_answered Reports accepted end (answer, made, ends) =
+      by_answer debug_input no_usage command before after o bytes takes answer end
+      (reported_as Reports (AcceptedReport command bytes) WantsMemory answer accepted made) ends
 
 -- a run of `gsteps` ends as its steps
 module _ (limit : ℕ) (before after : SourceState) (o : Outputs) (bytes : List ℕ)
@@ -44,7 +63,6 @@ module _ (limit : ℕ) (before after : SourceState) (o : Outputs) (bytes : List 
       (λ report on. subst (λ (n : ℕ). AcceptedReport (Gsteps n) bytes report) is on)
       (λ report on. (on.0, subst (λ (n : ℕ). spec.ProgramReport (spec.ShowsSteps all_changes_text n) (program_of_source bytes) report) is on.1))
       end ends
-  by_steps end (inr (answer, reported, ends)) =
-      let accepted = reported_as (spec.ProgramReport RunsNone (program_of_source bytes)) (AcceptedReport (Gsteps limit) bytes) WantsMemory answer
-      (program_none (spec.ReportsProgram (spec.shown_lines all_changes_text) limit) (program_of_source bytes)) reported in
-      by_answer debug_input no_usage (Gsteps limit) before after o bytes takes answer end accepted ends
+  by_steps end (inr ends) =
+      by_answered (Gsteps limit) before after o bytes takes (spec.ProgramReport RunsNone (program_of_source bytes))
+      (program_none (spec.ReportsProgram (spec.shown_lines all_changes_text) limit) (program_of_source bytes)) end ends

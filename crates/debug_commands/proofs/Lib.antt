@@ -1,2 +1,3 @@
+mod Listed
 mod Ends
 pub mod Laws

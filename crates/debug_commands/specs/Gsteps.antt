@@ -1,11 +1,11 @@
 -- How the steps of an input are shown.
-use Rattle.std.specs.Prelude.{◌≡◌, ◌⊎◌, ℕ, List, Result}
+use Rattle.std.specs.Prelude.{◌≡◌, ◌⊎◌, ℕ, List}
 use Rattle.gpl_source_defs.specs.Programs.{program_of_source}
 use Rattle.report_defs.specs.declared.status.Status.{Status}
-use Rattle.report_defs.specs.Report.{Report, ProgramReport}
+use Rattle.report_defs.specs.Report.{ProgramReport}
 use Rattle.change_defs.specs.Text.{all_changes_text}
 use Rattle.reports.specs.Outputs.{Outputs}
-use Rattle.reports.specs.Answers.{WantsMemory, Reported, Ends}
+use Rattle.debug_commands.specs.Answered.{EndsAnswered}
 use Rattle.bench_commands.specs.declared.trace.Trace.{Trace}
 use Rattle.bench_commands.specs.Loaded.{RunsNone}
 use Rattle.bench_commands.specs.Traced.{TracesSource, EndsTrace}
@@ -17,9 +17,7 @@ ShowsAll limit input o end =
 
 -- the source is not run
 abbrev pub RunsNoStep : List ℕ → Outputs → Status → Type 0
-RunsNoStep input o end =
-    (answer : Result Report Status) × Reported (ProgramReport RunsNone (program_of_source input)) WantsMemory answer
-    × Ends o answer end
+RunsNoStep input = EndsAnswered (ProgramReport RunsNone (program_of_source input))
 
 abbrev pub EndsSteps : ℕ → List ℕ → Outputs → Status → Type 0
 EndsSteps limit input o end = ShowsAll limit input o end ⊎ RunsNoStep input o end

@@ -1,3 +1,4 @@
+pub mod Answered
 pub mod Gsteps
 pub mod Debug
 pub mod Laws

@@ -1,6 +1,7 @@
 //! `ti_debug`: its commands, over any input and outputs.
 #![tactic(auto)]
 
+mod glist;
 mod gsteps;
 mod running;
 mod words;

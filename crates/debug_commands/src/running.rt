@@ -1,11 +1,12 @@
 //! The program, over any input and outputs.
 
-ghost use Rattle.std.specs.Prelude.{◌≡◌, Some};
+ghost use Rattle.std.specs.Prelude.{Some};
 ghost use Rattle.debug_report_defs.specs.Words.{debug_command, KeepsLimit};
 ghost use Rattle.reports.specs.Run.{EndsBy};
 ghost use Rattle.debug_commands.specs.Debug.{debug_program};
 ghost use Rattle.debug_commands.specs.Laws.{LawsOfDebugRuns};
 
+use crate::glist::glist;
 use crate::gsteps::gsteps;
 use crate::words::{read_debug_command, usage};
 use bench_io::{Sink, Source, read_all};
@@ -23,8 +24,9 @@ use std::alloc::Global;
 /// input are shown and nothing fails, there is one report on them, which was written whole, and the status is its own,
 /// or out of memory; that the words which the machine holds are the linked memory of the interpreter's source, and that
 /// for each i up to the last step of a program that is run the machine after the first i turns matches its state after i
-/// steps; and that the changes which are read from the lines of the first i steps, made in the first state, give the
-/// state after i steps.
+/// steps; that the changes which are read from the lines of the first i steps, made in the first state, give the state
+/// after i steps; and that the bytes of the rows of a listing, at their addresses, are the image of its source, and its
+/// names those of the source.
 #[tactic(auto, using(crate::proofs::Laws::laws))]
 pub fn debug<S: Source, O: Sink, E: Sink>(
     alloc: Global,
@@ -77,13 +79,9 @@ fn run_debug_command<S: Source, O: Sink, E: Sink>(
         Ok(bytes) => bytes,
         Err(error) => return finish(&Err(error.into()), out, err),
     };
-    gsteps(alloc, steps_of(command), bytes.as_slice(), out, err)
-}
-
-/// The most steps of `gsteps`, which is the only command.
-fn steps_of(command: DebugCommand) -> u32
-    ensures { command ≡ DebugCommand.Gsteps result }
-{
-    let DebugCommand::Gsteps { limit } = command;
-    limit
+    let input = bytes.as_slice();
+    match command {
+        DebugCommand::Glist => glist(alloc, input, out, err),
+        DebugCommand::Gsteps { limit } => gsteps(alloc, limit, input, out, err),
+    }
 }

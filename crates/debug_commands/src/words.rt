@@ -1,6 +1,6 @@
 //! Which command the words say, and how the program is called.
 
-ghost use Rattle.std.specs.Prelude.{◌≡◌, ◌∷◌, [], IfSome};
+ghost use Rattle.std.specs.Prelude.{◌≡◌, IfSome};
 ghost use Rattle.report_defs.specs.Commands.{same_word};
 ghost use Rattle.debug_report_defs.specs.Words as spec;
 ghost use Rattle.debug_report_defs.specs.Words.{KeepsLimit};
@@ -14,14 +14,26 @@ pub(crate) fn read_debug_command(words: &Words) -> Option<DebugCommand>
     ensures limit { IfSome result KeepsLimit }
 {
     match words.as_slice() {
+        [name] => command_alone(name.as_slice()),
         [name, word] => command_with(name.as_slice(), word.as_slice()),
         _ => None,
     }
 }
 
+/// The command of one word.
+fn command_alone(name: &[u8]) -> Option<DebugCommand>
+    ensures command { result ≡ spec.command_alone name.now }
+    ensures limit { IfSome result KeepsLimit }
+{
+    if is_same(name, b"glist") {
+        return Some(DebugCommand::Glist);
+    }
+    None
+}
+
 /// The command of two words.
 fn command_with(name: &[u8], word: &[u8]) -> Option<DebugCommand>
-    ensures command { result ≡ spec.debug_command (name.now ∷ word.now ∷ []) }
+    ensures command { result ≡ spec.command_with name.now word.now }
     ensures limit { IfSome result KeepsLimit }
 {
     if !is_same(name, b"gsteps") {
@@ -43,5 +55,5 @@ fn is_same(word: &[u8], name: &[u8]) -> bool
 pub(crate) fn usage() -> &'static [u8]
     ensures { result.now ≡ spec.debug_usage }
 {
-    b"usage: ti_debug gsteps N\n"
+    b"usage: ti_debug glist|gsteps N\n"
 }

@@ -1,5 +1,5 @@
 -- What holds of all reports of `ti_debug`.
-use Rattle.std.proofs.Common.{◌≡◌, List, ℕ, zero, suc, ◌+◌, refl, ap, ◌∙◌}
+use Rattle.std.proofs.Common.{◌≡◌, List, ℕ, zero, suc, ◌+◌, refl, sym, ap, ◌∙◌}
 use Rattle.std.specs.Prelude.{nat_lt, length}
 use Rattle.gpl_source_defs.specs.Programs.{program_of_source}
 use Rattle.gpl_step_defs.specs.State.{GplState, IsState, start}
@@ -14,7 +14,7 @@ use Rattle.change_defs.proofs.RunLead.{runs_keep, run_changes_lead}
 use Rattle.change_defs.specs.Steps.{StepChanges, state_applied, changes_after, state_by_changes}
 use Rattle.change_defs.specs.Text.{all_changes_text}
 use Rattle.debug_report_defs.specs.declared.command.DebugCommand.{DebugCommand}
-use Rattle.debug_report_defs.specs.declared.command.DebugCommand.TheVariants.{Gsteps}
+use Rattle.debug_report_defs.specs.declared.command.DebugCommand.TheVariants.{Glist, Gsteps}
 use Rattle.debug_report_defs.specs.Reports.{AcceptedReport}
 use Rattle.debug_report_defs.specs.Reader.{changes_of_text}
 use Rattle.debug_report_defs.specs.Laws.{OneDebugReport, DebugFrontsBeginReports, LinesGiveStates, text_after, state_by_texts}
@@ -23,6 +23,7 @@ use Rattle.debug_report_defs.proofs.Fitting.{steps_fit}
 
 one_accepted : (command : DebugCommand) (input : List ℕ) (first second : Report) → AcceptedReport command input first
     → AcceptedReport command input second → first ≡ second
+one_accepted Glist input first second p q = p ∙ sym q
 one_accepted (Gsteps limit) input first second p q =
     one_assembled (ReportsProgram (shown_lines all_changes_text) limit) (one_program (shown_lines all_changes_text) limit)
     (program_of_source input) first second p q
@@ -33,6 +34,7 @@ one_debug_report command input first second p q =
     (one_accepted command input) p q
 
 pub debug_fronts_begin_reports : DebugFrontsBeginReports
+debug_fronts_begin_reports Glist input front report p q = absurd p
 debug_fronts_begin_reports (Gsteps limit) input front report p q =
     begins_program all_changes_text limit (program_of_source input) front report p.1
     (accepted (AcceptedReport (Gsteps limit)) input report p.0 q)

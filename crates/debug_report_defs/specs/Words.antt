@@ -1,25 +1,34 @@
 -- The words of the command line of `ti_debug`.
-use Rattle.std.specs.Prelude.{ℕ, ◌≤◌, if◌then◌else◌, List, [], ◌∷◌, codes, Option, None}
+use Rattle.std.specs.Prelude.{⊤, ℕ, ◌≤◌, if◌then◌else◌, List, [], ◌∷◌, codes, Option, Some, None}
 use Rattle.std.specs.Option.{option_map}
 use Rattle.report_defs.specs.Commands.{same_word, number_word, most_steps}
 use Rattle.debug_report_defs.specs.declared.command.DebugCommand.{DebugCommand}
-use Rattle.debug_report_defs.specs.declared.command.DebugCommand.TheVariants.{Gsteps}
+use Rattle.debug_report_defs.specs.declared.command.DebugCommand.TheVariants.{Glist, Gsteps}
 
 -- Profile: gsteps makes at most 100,000 steps.
 abbrev pub gsteps_command : List ℕ → Option DebugCommand
 gsteps_command word = option_map Gsteps (number_word most_steps word)
 
+-- a command of one word
+abbrev pub command_alone : List ℕ → Option DebugCommand
+command_alone name = if same_word name (codes "glist") then Some Glist else None
+
+-- a command with a word behind its name
+abbrev pub command_with : List ℕ → List ℕ → Option DebugCommand
+command_with name word = if same_word name (codes "gsteps") then gsteps_command word else None
+
 -- words in any other shape are no command
 abbrev pub debug_command : List (List ℕ) → Option DebugCommand
 debug_command [] = None
-debug_command (name ∷ []) = None
-debug_command (name ∷ word ∷ []) = if same_word name (codes "gsteps") then gsteps_command word else None
+debug_command (name ∷ []) = command_alone name
+debug_command (name ∷ word ∷ []) = command_with name word
 debug_command (name ∷ word ∷ next ∷ others) = None
 
 -- a command keeps the limit of its number
 abbrev pub KeepsLimit : DebugCommand → Type 0
+KeepsLimit Glist = ⊤
 KeepsLimit (Gsteps limit) = limit ≤ most_steps
 
 -- Profile: words that are no command are answered by how the program is called.
 unfoldable pub debug_usage : List ℕ
-debug_usage = codes "usage: ti_debug gsteps N\n"
+debug_usage = codes "usage: ti_debug glist|gsteps N\n"

@@ -3,6 +3,8 @@
 /// A command, as the words of the command line say it.
 #[derive(Clone, Copy, Debug, PartialEq, Eq)]
 pub enum DebugCommand {
+    /// `glist`: lists a GPL source, each line with its address and its bytes, and its names.
+    Glist,
     /// `gsteps N`: assembles a GPL source, and the interpreter runs up to so many of its steps from the entry; each step
     /// is shown by a line with all that it changed.
     Gsteps {

@@ -1,5 +1,5 @@
 -- A builder behind a line that says nothing.
-use Rattle.std.proofs.Common.{◌≡◌, ℕ, ◌+◌, false, List, None, Ok, length, refl, sym, ap, ◌∙◌, arith}
+use Rattle.std.proofs.Common.{◌≡◌, ℕ, ◌+◌, ◌≤◌, false, List, None, Ok, length, refl, sym, ap, subst, ◌∙◌, arith}
 use Rattle.std.proofs.lemmas.List.{append-nil}
 use Rattle.std.proofs.lemmas.Bool.Decides.{nat_tests}
 use Rattle.source_defs.specs.Refusals.{◌>>=◌}
@@ -8,11 +8,13 @@ use Rattle.source_defs.specs.Symbols.{Names}
 use Rattle.gpl_source_defs.specs.declared.location.Location.{Location}
 use Rattle.gpl_source_defs.specs.Statements.{Nothing}
 use Rattle.gpl_source_defs.specs.Locations.{Line, location, IsInGrom}
-use Rattle.gpl_source_defs.specs.FirstChecks.{Checked, checked, line_of, names, is_full}
+use Rattle.gpl_source_defs.specs.FirstChecks.{Checked, checked, line_of, names, label_entry, is_full}
 use Rattle.gpl_source_defs.specs.SecondChecks.{outcome}
 use Rattle.gpl_asm.specs.declared.lines.GplLines.{GplLines}
 use Rattle.gpl_asm.specs.Building.{IsBehind, Takes}
+use Rattle.gpl_asm.specs.declared.taken.TakenLine.{TakenLine}
 use Rattle.gpl_asm.specs.Keeping.{Counts}
+use Rattle.gpl_asm.proofs.LineLaws.{place_is}
 use Rattle.gpl_asm.proofs.TakeLaws.{Answers, is_behind, reaches}
 
 -- what the first checks leave of a line that says nothing
@@ -35,8 +37,9 @@ module _ (lines : List Line) (builder new : GplLines) (is : IsBehind lines build
   fits : is_full builder.location Nothing ≡ false
   fits = not_full builder.location builder.placed
 
-  pub counted : (text : List ℕ) → fields text ≡ Ok no_fields → Counts builder new → {A : Type 0} (value : A) → Takes lines text (Ok value) new
-  counted text none counts {A} value =
+  pub counted : (text : List ℕ) → fields text ≡ Ok no_fields → Counts builder new → (told : TakenLine)
+      → told ≡ record { at = new.location; origin = None; label = None; value = 0 } → Takes lines text (Ok told) new
+  counted text none counts told tells =
       let there : is_full (location lines) Nothing ≡ false = ap (λ (at : Location). is_full at Nothing) (sym is.location) ∙ fits in
       let here : builder.location.number + 0 ≡ builder.location.number = omega arith in (
         line_of (location lines) (length lines + 1) nothing_checked,
@@ -48,4 +51,12 @@ module _ (lines : List Line) (builder new : GplLines) (is : IsBehind lines build
           taken = counts.taken;
           ended = counts.ended;
         }),
+        record {
+          at = ap (λ (told : TakenLine). told.at) tells ∙ (counts.location ∙ (is.location ∙ sym (place_is (length lines + 1) nothing_checked lines)));
+          origin = ap (λ (told : TakenLine). told.origin) tells;
+          names = ap (λ (told : TakenLine). label_entry told.label told.value) (sym tells);
+          room =
+              let at : told.at ≡ builder.location = ap (λ (told : TakenLine). told.at) tells ∙ counts.location in
+              subst (λ (at : Location). at.number + 0 ≤ 65536) (sym at) (reaches builder.location Nothing builder.placed fits);
+        },
       )

@@ -1,3 +1,4 @@
+pub mod Short
 pub mod RestLaws
 pub mod ReplayLaws
 pub mod LineLaws

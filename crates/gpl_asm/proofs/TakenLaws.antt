@@ -10,6 +10,7 @@ use Rattle.gpl_asm.specs.Finishing.{TakesText}
 use Rattle.gpl_asm.specs.declared.error.GplError.{GplError}
 use Rattle.gpl_asm.specs.declared.error.GplError.TheVariants.{At, Memory}
 use Rattle.gpl_asm.specs.declared.lines.GplLines.{GplLines}
+use Rattle.gpl_asm.specs.declared.taken.TakenLine.{TakenLine}
 
 -- a line that was taken, by the texts of the lines
 module _ (texts : List (List ℕ)) (text : List ℕ) (builder new : GplLines) (taken : HasTaken texts builder) (going : has_ended taken.lines ≡ false) where
@@ -19,7 +20,7 @@ module _ (texts : List (List ℕ)) (text : List ℕ) (builder new : GplLines) (t
   whole_is : laid check (numbered 1 (texts ++ text ∷ [])) ≡ last_line check text taken.lines count
   whole_is = laid_more check text texts [] 1 count taken.lines (omega (arith, taken.all)) taken.laid going
 
-  pub takes_text : {A : Type 0} (result : Result A GplError) → Takes taken.lines text result new → TakesText texts text result new
+  pub takes_text : (result : Result TakenLine GplError) → Takes taken.lines text result new → TakesText texts text result new
   takes_text (Ok value) takes = record {
     lines = takes.0 ∷ taken.lines;
     laid = whole_is ∙ ap (λ answer. at_line count answer >>= λ line. Ok (line ∷ taken.lines)) takes.1;

@@ -1,15 +1,16 @@
 -- What a builder keeps of the lines that it has taken.
-use Rattle.std.specs.Prelude.{◌≡◌, ℕ, ◌+◌, List, ◌∷◌, length, Result, Ok, Err, ◌<◌, ◌-◌, ◌^◌, IsFalse}
+use Rattle.std.specs.Prelude.{◌≡◌, ℕ, ◌+◌, List, ◌∷◌, length, Result, Ok, Err, ◌<◌, ◌≤◌, ◌-◌, ◌^◌, IsFalse}
 use Rattle.std.specs.List.{AllByRecursion}
 use Rattle.source_defs.specs.Refusals.{Refusal, ◌>>=◌}
 use Rattle.source_defs.specs.Symbols.{Names}
 use Rattle.source_defs.specs.Growing.{Grows}
 use Rattle.source_defs.specs.Layout.{laid, numbered, settled, has_ended}
 use Rattle.gpl_source_defs.specs.declared.causes.GplCause.{GplCause}
-use Rattle.gpl_source_defs.specs.Locations.{Line, location}
-use Rattle.gpl_source_defs.specs.FirstChecks.{names, check}
+use Rattle.gpl_source_defs.specs.Locations.{Line, location, place}
+use Rattle.gpl_source_defs.specs.FirstChecks.{names, check, label_entry}
 use Rattle.gpl_source_defs.specs.Programs.{Settled, settle, image, entry}
 use Rattle.gpl_asm.specs.declared.lines.GplLines.{GplLines}
+use Rattle.gpl_asm.specs.declared.taken.TakenLine.{TakenLine}
 use Rattle.gpl_asm.specs.declared.error.GplError.{GplError}
 use Rattle.gpl_asm.specs.declared.error.GplError.TheVariants as error
 use Rattle.gpl_asm.specs.Replay.{Built, nothing, replay, HasRoom}
@@ -33,10 +34,18 @@ pub record IsBehind (lines : List Line) (builder : GplLines) : Type 0 where
       → whole later lines ≡ replay later nothing builder.waiting.items
   pub room : (later : Names) → Grows builder.symbols later → AllByRecursion (HasRoom later) builder.waiting.items
 
+-- what is told of a line that was taken behind others
+pub record Tells (lines : List Line) (line : Line) (told : TakenLine) : Type 0 where
+  pub at : told.at ≡ place lines line
+  pub origin : told.origin ≡ line.origin
+  pub names : line.names ≡ label_entry told.label told.value
+  -- it ends before the addresses do
+  pub room : told.at.number + line.size ≤ 65536
+
 -- a line was taken behind others, or why it is refused there
-abbrev pub Takes : {A : Type 0} → List Line → List ℕ → Result A GplError → GplLines → Type 0
-Takes lines text (Ok _) builder =
-    (line : Line) × (check lines (length lines + 1) text ≡ Ok line) × IsBehind (line ∷ lines) builder
+abbrev pub Takes : List Line → List ℕ → Result TakenLine GplError → GplLines → Type 0
+Takes lines text (Ok told) builder =
+    (line : Line) × (check lines (length lines + 1) text ≡ Ok line) × IsBehind (line ∷ lines) builder × Tells lines line told
 Takes lines text (Err (error.At number cause)) builder =
     (number ≡ length lines + 1) × (check lines (length lines + 1) text ≡ Err cause) × NoMemory cause
     × IsBehind lines builder

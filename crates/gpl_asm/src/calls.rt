@@ -1,16 +1,19 @@
 //! The calls of a builder.
 
-ghost use Rattle.std.specs.Prelude.{◌≡◌, ◌↔◌, ◌<◌, ◌-◌, ◌^◌, ℕ, false, List, [], length, IfOk, IsFalse};
+ghost use Rattle.std.specs.Prelude.{◌≡◌, ◌↔◌, ◌<◌, ◌≤◌, ◌-◌, ◌^◌, ℕ, false, List, [], length, IfOk, OnOk, IsFalse};
 ghost use Rattle.source_defs.specs.Layout.{has_ended};
 ghost use Rattle.std.specs.List.{AllByRecursion};
 ghost use Rattle.source_defs.specs.EndedLines.{IsOneLine, text_of};
 ghost use Rattle.gpl_source_defs.specs.Programs.{program_of_lines, program_of_source};
-ghost use Rattle.gpl_asm.specs.Building.{HasTaken, IsOpen, CanCount};
+ghost use Rattle.gpl_source_defs.specs.Locations.{Line};
+ghost use Rattle.gpl_source_defs.specs.FirstChecks.{names};
+ghost use Rattle.gpl_asm.specs.Building.{HasTaken, IsBehind, Takes, IsOpen, CanCount};
 ghost use Rattle.gpl_asm.specs.Finishing.{TakesText, GivesProgram};
 
 use crate::error::GplError;
 use crate::finish::GplProgram;
 use crate::lines::GplLines;
+use crate::taken::TakenLine;
 use asm_text::Symbols;
 use gpl_forms::GromImage;
 use gpl_source_defs::Location;
@@ -40,18 +43,27 @@ impl GplLines {
         })
     }
 
-    /// Takes a line behind those that were taken. It is given without its line feed, and no line that ends the source
-    /// was taken before.
+    /// Takes a line behind those that were taken, and tells where it stands. It is given without its line feed, and no
+    /// line that ends the source was taken before.
     ///
     /// # Errors
     /// `At` comes exactly where the first checks refuse the line there, and carries its number, which is the number of
     /// lines taken plus 1. `Memory` is want of memory. After an error the builder is as before.
-    pub fn line(&mut self, line: &[u8]) -> Result<(), GplError>
+    pub fn line(&mut self, line: &[u8]) -> Result<TakenLine, GplError>
         requires open { IsOpen self.old }
         requires count { CanCount self.old }
-        ensures { (texts : List (List ℕ)) → HasTaken texts self.old → TakesText texts line.now result self.new }
+        ensures texts { (texts : List (List ℕ)) → HasTaken texts self.old → TakesText texts line.now result self.new }
+        ensures lines { (lines : List Line) → IsBehind lines self.old → Takes lines line.now result self.new }
+        ensures short { OnOk result (length line.now ≤ 256) }
     {
         self.take(line)
+    }
+
+    /// The names of the lines that were taken, beside those of registers.
+    pub fn names(&self) -> &Symbols
+        ensures { (lines : List Line) → IsBehind lines self.now → result.now ≡ names lines }
+    {
+        &self.symbols
     }
 
     /// Whether a line that ends the source was taken.

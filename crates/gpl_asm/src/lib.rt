@@ -10,9 +10,12 @@ mod pending;
 mod place;
 mod source;
 mod take;
+mod taken;
 
 pub use crate::error::GplError;
 pub use crate::finish::GplProgram;
 pub use crate::lines::GplLines;
+pub use crate::place::put;
 pub use crate::source::gpl_assemble;
+pub use crate::taken::TakenLine;
 pub use gpl_source_defs::GplCause;

@@ -12,7 +12,11 @@ use gpl_lines::Outcome;
 use gpl_source_defs::{GplCause, Location};
 
 /// Places what a line comes to, and gives the entry behind it; or refuses it where a byte of it was placed before.
-pub(crate) fn put(
+///
+/// # Errors
+/// `Overlap` comes exactly where a byte of the line stands at an address at which one was placed; then the image is as
+/// before.
+pub fn put(
     image: &mut GromImage,
     entry: Option<u16>,
     at: Location,

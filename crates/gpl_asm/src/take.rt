@@ -1,6 +1,6 @@
 //! A line that a builder takes.
 
-ghost use Rattle.std.specs.Prelude.{◌≡◌, ◌<◌, ◌≤◌, ◌+◌, ◌-◌, ◌^◌, ◌||◌, List};
+ghost use Rattle.std.specs.Prelude.{◌≡◌, ◌<◌, ◌≤◌, ◌+◌, ◌-◌, ◌^◌, ◌||◌, List, None, OnOk, length};
 ghost use Rattle.source_defs.specs.Layout.{set_or};
 ghost use Rattle.gpl_source_defs.specs.Locations.{Line, behind, IsInGrom};
 ghost use Rattle.gpl_source_defs.specs.FirstChecks.{is_end};
@@ -11,19 +11,22 @@ ghost use Rattle.gpl_asm.specs.Building.{IsBehind, Takes};
 use crate::error::{GplError, refusal_at};
 use crate::keep::assemble_line;
 use crate::lines::GplLines;
+use crate::taken::TakenLine;
 use asm_text::is_comment_line;
 use gpl_lines::{Checked, Scope};
 use gpl_source_defs::Location;
 
 impl GplLines {
-    /// Takes a line behind those that were taken. A refused line leaves the builder as before.
-    pub(crate) fn take(&mut self, text: &[u8]) -> Result<(), GplError>
+    /// Takes a line behind those that were taken, and tells where it stands. A refused line leaves the builder as
+    /// before.
+    pub(crate) fn take(&mut self, text: &[u8]) -> Result<TakenLine, GplError>
         requires { self.old.taken < 2 ^ 32 - 1 }
-        ensures { (lines : List Line) → IsBehind lines self.old → Takes lines text.now result self.new }
+        ensures takes { (lines : List Line) → IsBehind lines self.old → Takes lines text.now result self.new }
+        ensures short { OnOk result (length text.now ≤ 256) }
     {
         if is_comment_line(text) {
             self.count();
-            return Ok(());
+            return Ok(self.nothing_taken());
         }
         let scope = self.scope();
         let checked = match scope.checked(text) {
@@ -31,10 +34,29 @@ impl GplLines {
             Err(failure) => return Err(refusal_at(self.taken + 1, failure)),
         };
         let rest = assemble_line(&scope, text, &checked.statement)?;
-        let origin = checked.origin(self.location);
-        self.keep(rest, checked.label, checked.label_value(self.location))?;
+        let at = self.location;
+        let origin = checked.origin(at);
+        let value = checked.label_value(at);
+        self.keep(rest, checked.label, value)?;
         self.advance(origin, &checked);
-        Ok(())
+        Ok(TakenLine {
+            at,
+            origin,
+            label: checked.label,
+            value,
+        })
+    }
+
+    /// What is told of a line that says nothing.
+    fn nothing_taken(&self) -> TakenLine
+        ensures { result ≡ record { at = self.now.location; origin = None; label = None; value = 0 } }
+    {
+        TakenLine {
+            at: self.location,
+            origin: None,
+            label: None,
+            value: 0,
+        }
     }
 
     /// Counts a line that says nothing.

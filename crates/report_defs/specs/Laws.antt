@@ -20,7 +20,7 @@ use Rattle.report_defs.specs.declared.status.Status.TheVariants.{Done}
 use Rattle.report_defs.specs.GromListing.{image_listing}
 use Rattle.report_defs.specs.ObjectFaults.{link_line}
 use Rattle.report_defs.specs.ObjectInput.{told}
-use Rattle.report_defs.specs.Report.{Report, Whole, Faulty, Rejected, asm_report, link_report, one_piece}
+use Rattle.report_defs.specs.Report.{Report, Whole, Faulty, Rejected, RejectedAfter, asm_report, link_report, one_piece}
 use Rattle.report_defs.specs.Report.{largest_input, ReportOn, FrontOn}
 use Rattle.report_defs.specs.ProgramCommands.{AsmFiles, ProgramCommand, OverFiles, Plain}
 use Rattle.report_defs.specs.FileReports.{ReportWith}
@@ -44,6 +44,7 @@ Begins (Whole status shown) report =
     (end : Status) × (others : List (List ℕ)) × (report ≡ Whole end (shown ++ others))
 Begins (Faulty fault) report = report ≡ Faulty fault
 Begins (Rejected line) report = report ≡ Rejected line
+Begins (RejectedAfter pieces line) report = report ≡ RejectedAfter pieces line
 
 -- the law, which is proved: what is written before the end of a report is known begins the report
 abbrev pub FrontsBeginReports : Type 0

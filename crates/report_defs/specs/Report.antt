@@ -42,16 +42,19 @@ use Rattle.report_defs.specs.Summary.{summary_of, summary_lines}
 use Rattle.report_defs.specs.Commands.{most_steps}
 
 -- The pieces that standard output gets, each by one write, with the status; or the fault whose line standard error
--- gets; or the line itself, of an input that is refused.
+-- gets; or the line itself, of an input that is refused; or, of such an input, the pieces that standard output gets first
+-- and then the line.
 pub data Report : Type 0 where
   Whole : Status → List (List ℕ) → Report
   Faulty : Fault → Report
   Rejected : (line : List ℕ) → Report
+  RejectedAfter : List (List ℕ) → (line : List ℕ) → Report
 
 abbrev pub status_of : Report → Status
 status_of (Whole status pieces) = status
 status_of (Faulty fault) = fault_status fault
 status_of (Rejected line) = Refused
+status_of (RejectedAfter pieces line) = Refused
 
 -- Profile: an input has at most 1,048,576 bytes.
 abbrev pub largest_input : ℕ

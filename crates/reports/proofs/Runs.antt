@@ -2,7 +2,7 @@
 use Rattle.std.proofs.Common.{◌≡◌, ◌≢◌, Option, Some, None, refl, sym, ap, ◌∙◌, subst, inl, inr}
 use Rattle.report_defs.specs.declared.status.Status.{Status}
 use Rattle.report_defs.specs.declared.status.Status.TheVariants as status
-use Rattle.report_defs.specs.Report.{Report, Whole, Faulty, Rejected, status_of}
+use Rattle.report_defs.specs.Report.{Report, Whole, Faulty, Rejected, RejectedAfter, status_of}
 use Rattle.count_defs.specs.Counts.{Rose}
 use Rattle.reports.specs.Outputs.{Outputs, EndsWith, WroteReport, MissedReport}
 use Rattle.reports.specs.Answers.{EndsByLine}
@@ -23,6 +23,8 @@ pub no_miss : (o : Outputs) (report : Report) → (Rose o.out.faults o.out'.faul
 no_miss o (Whole status pieces) out err missed = out missed.0.rose
 no_miss o (Faulty fault) out err missed = err missed.0.rose
 no_miss o (Rejected line) out err missed = err missed.0.rose
+no_miss o (RejectedAfter pieces line) out err (inl missed) = out missed.0.rose
+no_miss o (RejectedAfter pieces line) out err (inr missed) = err missed.1.rose
 
 module _ {C W X : Type 0} (p : Program C W X) where
   -- a run ends by the writing of a report that is no usage line

@@ -1,12 +1,12 @@
-use Rattle.std.proofs.Common.{List, ℕ, refl, sym, subst}
+use Rattle.std.proofs.Common.{◌≡◌, List, ℕ, refl, subst}
 use Rattle.reports.specs.Answers.{Ends}
 use Rattle.reports.specs.Outputs.{Outputs}
-use Rattle.reports.specs.Run.{EndsBy}
-use Rattle.debug_report_defs.specs.declared.command.DebugCommand.{DebugCommand}
+use Rattle.debug_report_defs.specs.declared.command.DebugCommand.TheVariants.{Glist}
+use Rattle.gpl_list_defs.specs.Listing.{listing_of, listing_report}
 use Rattle.bench_commands.proofs.Ends.{run_of, by_unread}
-use Rattle.debug_commands.specs.Debug.{debug_input, debug_program}
+use Rattle.debug_commands.specs.Debug.{debug_input}
 use Rattle.debug_commands.specs.Gsteps.{EndsSteps}
-use Rattle.debug_commands.proofs.Ends.{no_usage, by_steps}
+use Rattle.debug_commands.proofs.Ends.{no_usage, by_answered, by_steps}
 use Rattle.debug_commands.proofs.running.run_debug_command.Goals as goal
 
 pub returns-in-Err : goal.returns-in-Err
@@ -20,15 +20,24 @@ returns-in-Err g c =
     refl c.in-Err.ensures.err
     (subst (λ answer. Ends o answer c.finish.result) c.into.ensures c.finish.ensures)
 
-pub returns : goal.returns
-returns g c =
+pub returns-in-Glist : goal.returns-in-Glist
+returns-in-Glist g c =
+    let source = g.S.Source.state in
+    let out = g.O.Sink.state in
+    let err = g.E.Sink.state in
+    let new = c.glist.new in
+    let o : Outputs = record { out = out c.args.out.now; out' = out new.out; err = err c.args.err.now; err' = err new.err } in
+    let bytes = c.in-Ok.bytes.items in
+    let ends = rw c.as_slice-input.ensures.value at c.glist.ensures in
+    by_answered Glist (source c.args.input.now) (source c.read_all.new.source) o bytes c.in-Ok.ensures.ok (λ report. report ≡ listing_report (listing_of bytes))
+    (λ report is. is) c.glist.result ends
+
+pub returns-in-Gsteps : goal.returns-in-Gsteps
+returns-in-Gsteps g c =
     let source = g.S.Source.state in
     let out = g.O.Sink.state in
     let err = g.E.Sink.state in
     let new = c.gsteps.new in
     let o : Outputs = record { out = out c.args.out.now; out' = out new.out; err = err c.args.err.now; err' = err new.err } in
-    let steps = subst (λ (bytes : List ℕ). EndsSteps c.steps_of.result bytes o c.gsteps.result) c.as_slice.ensures.value c.gsteps.ensures in
-    let before = source c.args.input.now in
-    let after = source c.read_all.new.source in
-    subst (λ (command : DebugCommand). EndsBy debug_program (run_of debug_input no_usage command before after o) c.gsteps.result) (sym c.steps_of.ensures)
-    (by_steps c.steps_of.result before after o c.in-Ok.bytes.items c.in-Ok.ensures.ok c.gsteps.result steps)
+    let steps = subst (λ (bytes : List ℕ). EndsSteps c.in-Gsteps.limit bytes o c.gsteps.result) c.as_slice-input.ensures.value c.gsteps.ensures in
+    by_steps c.in-Gsteps.limit (source c.args.input.now) (source c.read_all.new.source) o c.in-Ok.bytes.items c.in-Ok.ensures.ok c.gsteps.result steps

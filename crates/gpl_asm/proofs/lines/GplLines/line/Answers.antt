@@ -2,7 +2,7 @@ use Rattle.std.proofs.Common.{sym, ◌∙◌}
 use Rattle.gpl_asm.proofs.TakenLaws.{takes_text}
 use Rattle.gpl_asm.proofs.lines.GplLines.line.Goals as goal
 
-pub returns : goal.returns
-returns c = λ texts taken.
+pub returns-clause-texts : goal.returns-clause-texts
+returns-clause-texts c = λ texts taken.
     takes_text texts c.args.line.now c.args.self.now c.take.new.self taken (sym taken.behind.ended ∙ c.requires.open) c.take.result
-    (c.take.ensures taken.lines taken.behind)
+    (c.take.ensures.takes taken.lines taken.behind)

@@ -1,25 +1,37 @@
 use Rattle.std.proofs.Common.{◌≡◌, ◌+◌, ◌||◌, false, Ok, length, sym, ap, subst, ◌∙◌}
 use Rattle.std.specs.Prelude.{Option}
 use Rattle.source_defs.specs.Refusals.{◌>>=◌}
+use Rattle.source_defs.specs.Fields.{no_fields}
 use Rattle.source_defs.specs.Symbols.{Names, look_up}
 use Rattle.source_defs.specs.Layout.{with_names}
 use Rattle.gpl_source_defs.specs.declared.location.Location.{Location}
 use Rattle.source_defs.specs.Growing.{Grows}
 use Rattle.gpl_source_defs.specs.Locations.{location, behind, origin_of}
 use Rattle.source_defs.specs.Layout.{set_or}
-use Rattle.gpl_source_defs.specs.FirstChecks.{checked, line_of, names, label_entry, is_taken, is_full, is_end}
+use Rattle.gpl_source_defs.specs.FirstChecks.{checked, line_of, names, label_entry, label_value, is_taken, is_full, is_end}
 use Rattle.gpl_source_defs.specs.SecondChecks.{outcome}
 use Rattle.gpl_lines.specs.Defined.{defined_checked}
 use Rattle.gpl_source_defs.proofs.CheckLaws.{is_let_through}
 use Rattle.gpl_asm.specs.Replay.{answer}
+use Rattle.gpl_asm.proofs.LineLaws.{place_is}
 use Rattle.gpl_asm.proofs.CountLaws.{counted}
+use Rattle.gpl_asm.proofs.Short.{fields_short, said_short}
 use Rattle.gpl_asm.proofs.TakeLaws.{leads_on, reaches, is_behind}
 use Rattle.gpl_asm.proofs.lines.GplLines.take.Goals as goal
 
-pub returns-then-is_comment_line : goal.returns-then-is_comment_line
-returns-then-is_comment_line c = λ lines is.
+pub returns-then-is_comment_line-clause-short : goal.returns-then-is_comment_line-clause-short
+returns-then-is_comment_line-clause-short c =
+    fields_short c.args.text.now no_fields (c.is_comment_line.ensures.fields c.if-is_comment_line.true)
+
+pub returns-clause-short : goal.returns-clause-short
+returns-clause-short c =
+    said_short c.scope-scope.result.symbols.now c.scope-scope.result.at c.args.text.now (defined_checked c.in-Ok.checked).statement
+    (is_let_through c.scope-scope.result.symbols.now c.scope-scope.result.at c.args.text.now (defined_checked c.in-Ok.checked) c.in-Ok.ensures.checked).said
+
+pub returns-then-is_comment_line-clause-takes : goal.returns-then-is_comment_line-clause-takes
+returns-then-is_comment_line-clause-takes c = λ lines is.
     counted lines c.args.self.now c.count.new.self is c.args.text.now (c.is_comment_line.ensures.fields c.if-is_comment_line.true)
-    c.count.ensures {A = Unit {0}} tt
+    c.count.ensures c.nothing_taken.result c.nothing_taken.ensures
 
 pub assemble_line-requires-clause-said : goal.assemble_line-requires-clause-said
 assemble_line-requires-clause-said c =
@@ -31,8 +43,8 @@ advance-requires-clause-place c =
     (defined_checked c.in-Ok.checked) c.origin-origin.result c.in-Ok.checked.size c.in-Ok.ensures.checked c.scope-scope.ensures.at
     c.in_ok-keep.ensures.still.location c.origin-origin.ensures.origin c.origin-origin.ensures.address c.in-Ok.ensures.size c.args.self.now.placed
 
-pub returns : goal.returns
-returns c = λ lines is.
+pub returns-clause-takes : goal.returns-clause-takes
+returns-clause-takes c = λ lines is.
     let found = defined_checked c.in-Ok.checked in
     let builder = c.args.self.now in
     let at = c.scope-scope.ensures.at in
@@ -55,7 +67,7 @@ returns c = λ lines is.
           c.in_ok-rest.ensures.waits fresh (reaches builder.location found.statement builder.placed fits)
           (record {
             waiting = went.waiting.waiting ∙ keeps.waiting;
-            names = went.waiting.names ∙ (keeps.defined ∙ ap (λ number. with_names builder.symbols (label_entry found.label number)) c.label_value.ensures);
+            names = went.waiting.names ∙ (keeps.defined ∙ ap (λ number. with_names builder.symbols (label_entry found.label number)) c.label_value-value.ensures);
             location = went.location
                 ∙ (ap (λ (origin : Option Location). behind (set_or origin c.keep.new.self.location) c.in-Ok.checked.size) c.origin-origin.ensures.origin
                 ∙ (ap (λ (at : Location). behind (set_or (origin_of builder.location found.statement) at) c.in-Ok.checked.size) keeps.still.location
@@ -63,4 +75,10 @@ returns c = λ lines is.
             taken = went.taken ∙ ap (λ taken. taken + 1) keeps.still.taken;
             ended = went.ended ∙ ap (λ ended. is_end found.statement || ended) keeps.still.ended;
           }),
+      record {
+        at = is.location ∙ sym (place_is (length lines + 1) found lines);
+        origin = c.origin-origin.ensures.origin ∙ ap (λ (at : Location). origin_of at found.statement) is.location;
+        names = ap (λ number. label_entry found.label number) (sym (c.label_value-value.ensures ∙ ap (λ (at : Location). label_value at found.statement) is.location));
+        room = reaches builder.location found.statement builder.placed fits;
+      },
     )

@@ -1,0 +1,7 @@
+pub mod Further
+mod Placing
+mod RowLaws
+mod ReadLaws
+mod SettleLaws
+mod PassLaws
+mod ListingLaws

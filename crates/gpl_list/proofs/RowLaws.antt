@@ -1,0 +1,94 @@
+-- Rows of lines, one after the other.
+use Rattle.std.proofs.Common.{◌≡◌, ℕ, ◌+◌, ◌≤◌, List, [], ◌∷◌, ◌++◌, Some, None, Ok, length, map, true, refl, sym, ap, subst, ◌∙◌, arith}
+use Rattle.std.specs.Prelude.{Option}
+use Rattle.source_defs.specs.Expression.{Absolute}
+use Rattle.source_defs.specs.Symbols.{Names}
+use Rattle.source_defs.specs.Growing.{Grows, is_closed}
+use Rattle.source_defs.specs.Layout.{set_or}
+use Rattle.source_defs.specs.Refusals.{◌>>=◌}
+use Rattle.source_defs.proofs.RefusalLaws.{bound}
+use Rattle.source_defs.proofs.DefinedNames.{grown_on}
+use Rattle.gpl_source_defs.specs.declared.location.Location.{Location}
+use Rattle.gpl_source_defs.specs.Statements.{Statement, size_said}
+use Rattle.gpl_source_defs.specs.Locations.{Line, location, place, origin_of}
+use Rattle.gpl_source_defs.specs.FirstChecks.{Checked, checked, check, line_of, names, said, label_entry, label_value}
+use Rattle.gpl_source_defs.specs.Growing.{is_open}
+use Rattle.gpl_source_defs.proofs.CheckLaws.{is_let_through}
+use Rattle.gpl_source_defs.proofs.GrowingLaws.{said_stays}
+use Rattle.gpl_asm.specs.declared.taken.TakenLine.{TakenLine}
+use Rattle.gpl_asm.specs.Building.{Tells}
+use Rattle.gpl_asm.proofs.LineLaws.{place_is}
+use Rattle.gpl_asm.proofs.TakeLaws.{label_grows}
+use Rattle.gpl_list_defs.specs.Rows as spec
+use Rattle.gpl_list.specs.declared.rows.Row.{Row}
+use Rattle.gpl_list.specs.Reading.{defined_address, named, IsTaken, RowOf, Describes, onto}
+
+pub onto_more : (before rest : List Line) (line : Line) → onto (rest ++ line ∷ []) before ≡ line ∷ onto rest before
+onto_more before [] line = refl
+onto_more before (first ∷ rest) line = onto_more (first ∷ before) rest line
+
+pub describes_more : (texts : List (ℕ × List ℕ)) (later : Names) (before rest : List Line) (rows : List Row) (line : Line) (row : Row)
+    → Describes texts later before rest rows → RowOf texts later (onto rest before) line row
+    → Describes texts later before (rest ++ line ∷ []) (rows ++ row ∷ [])
+describes_more texts later before [] [] line row all one = (one, tt)
+describes_more texts later before [] (other ∷ rows) line row all one = absurd all
+describes_more texts later before (first ∷ rest) [] line row all one = absurd all
+describes_more texts later before (first ∷ rest) (other ∷ rows) line row all one =
+    (all.0, describes_more texts later (first ∷ before) rest rows line row all.1 one)
+
+-- the names of a line
+pub names_are : (label : Option (List ℕ)) (value number : ℕ)
+    → map (λ entry. record { name = entry.0; value = entry.1; line = number }) (label_entry label value) ≡ named label value number
+names_are None value number = refl
+names_are (Some name) value number = refl
+
+-- what the first checks left of a line
+pub checked_of : (lines : List Line) (number : ℕ) (text : List ℕ) (line : Line) → check lines number text ≡ Ok line
+    → (found : Checked) × (checked (names lines) (location lines) text ≡ Ok found) × (line_of (location lines) number found ≡ line)
+checked_of lines number text line e =
+    let b = bound (checked (names lines) (location lines) text) _ line e in
+    let same : line_of (location lines) number b.0 ≡ line = cc (b.2) in
+    (b.0, b.1, same)
+
+-- the row of a line that was taken behind others
+module _ (texts : List (ℕ × List ℕ)) (lines : List Line) (text : List ℕ) (found : Checked) (told : TakenLine) (row : Row)
+    (e : checked (names lines) (location lines) text ≡ Ok found)
+    (tells : Tells lines (line_of (location lines) (length lines + 1) found) told)
+    (taken : IsTaken (length lines + 1) told.at (defined_address told) text row)
+    (there : spec.text_of texts (length lines + 1) ≡ text) where
+  abbrev line : Line
+  line = line_of (location lines) (length lines + 1) found
+
+  abbrev statement : Statement
+  statement = found.statement
+
+  place_there : place lines line ≡ location lines
+  place_there = place_is (length lines + 1) found lines
+
+  at_there : row.at ≡ location lines
+  at_there = taken.at ∙ (tells.at ∙ place_there)
+
+  said_later : (later : Names) → Grows (names (line ∷ lines)) later → said later row.at row.text.items ≡ Ok statement
+  said_later later more =
+      let through = is_let_through (names lines) (location lines) text found e in
+      let grows : Grows (names lines) later =
+      grown_on (names lines) (names (line ∷ lines)) later (label_grows (names lines) found.label (label_value (location lines) statement) through.fresh) more in
+      let closed : is_closed is_open (said (names lines) (location lines) text) ≡ true = ap (is_closed is_open) through.said in
+      ap (λ (at : Location). said later at row.text.items) at_there
+      ∙ (ap (λ text. said later (location lines) text) taken.text
+      ∙ (said_stays (names lines) later grows (location lines) text closed ∙ through.said))
+
+  pub row_of : (later : Names) → Grows (names (line ∷ lines)) later → RowOf texts later lines line row
+  row_of later more = record {
+    numbered = refl;
+    number = taken.number;
+    at = taken.at ∙ tells.at;
+    address = taken.address
+        ∙ (ap (λ (origin : Option Location). (set_or origin told.at).number) tells.origin
+        ∙ (ap (λ (at : Location). (set_or (origin_of (location lines) statement) at).number) tells.at
+        ∙ ap (λ (at : Location). (set_or (origin_of at statement) (place lines line)).number) (sym place_there)));
+    bytes = taken.bytes;
+    text = taken.text ∙ sym there;
+    said = said_later later more;
+    room = subst (λ (at : Location). at.number + size_said statement ≤ 65536) (sym taken.at) tells.room;
+  }

@@ -1,0 +1,34 @@
+use Rattle.std.proofs.Common.{List, [], Err, map, sym, ap, subst}
+use Rattle.source_defs.specs.Symbols.{Names}
+use Rattle.source_defs.proofs.DefinedNames.{grown_not}
+use Rattle.gpl_source_defs.specs.Locations.{Line}
+use Rattle.gpl_source_defs.specs.FirstChecks.{names}
+use Rattle.gpl_asm.specs.declared.error.GplError.{GplError}
+use Rattle.gpl_asm.specs.declared.error.GplError.TheVariants.{At}
+use Rattle.gpl_list.specs.Reading.{defined_row, defined_name, Describes, onto}
+use Rattle.gpl_list.specs.Settling.{SettlesLines}
+use Rattle.gpl_list.proofs.ListingLaws.{listed_whole, listed_front}
+use Rattle.gpl_list.proofs.listing.settled_listing.Goals as goal
+
+pub returns-in-Ok : goal.returns-in-Ok
+returns-in-Ok c = λ texts lines keeps.
+    let same = c.names.ensures lines keeps.behind in
+    let rest = keeps.rows.0 in
+    let describes = subst (λ (known : Names). Describes texts known [] rest c.args.read.rows.items) (sym same)
+    (keeps.rows.2 (names lines) (grown_not (names lines))) in
+    let s = rw keeps.rows.1 at (c.in-Ok.ensures {u = tt} texts rest describes) in
+    listed_whole texts lines (map defined_row c.settle_rows.new.settled.items) (map defined_name c.args.read.names.items) c.names.result.now s.0 same s.1 s.2
+    keeps.names
+
+pub returns-in-Err-At : goal.returns-in-Err-At
+returns-in-Err-At c = λ texts lines keeps.
+    let same = c.names.ensures lines keeps.behind in
+    let rest = keeps.rows.0 in
+    let describes = subst (λ (known : Names). Describes texts known [] rest c.args.read.rows.items) (sym same)
+    (keeps.rows.2 (names lines) (grown_not (names lines))) in
+    let s = subst (λ (before : List Line). SettlesLines {A = Unit {0}} texts c.names.result.now before (Err (At c.in-Err-At.line c.in-Err-At.cause)) c.settle_rows.new.settled.items)
+    keeps.rows.1
+    (subst (λ (error : GplError). SettlesLines {A = Unit {0}} texts c.names.result.now (onto rest []) (Err error) c.settle_rows.new.settled.items) c.in-Err-At.field-0-is
+    (c.in-Err-At.ensures {u = tt} texts rest describes)) in
+    listed_front texts lines (map defined_row c.settle_rows.new.settled.items) (map defined_name c.new.result.items) c.names.result.now
+    (record { line = c.in-Err-At.line; cause = c.in-Err-At.cause }) same s.0 s.1 (ap (map defined_name) c.new.ensures.items)

@@ -1,0 +1,107 @@
+-- What is kept of the lines that were read.
+use Rattle.std.specs.Prelude.{◌≡◌, ⊤, ℕ, ◌+◌, ◌-◌, ◌≤◌, List, [], ◌∷◌, ◌++◌, length, map, take, Option, Some, None}
+use Rattle.std.specs.Prelude.{Result, Ok, Err}
+use Rattle.source_defs.specs.Refusals.{Refusal}
+use Rattle.source_defs.specs.Expression.{Absolute}
+use Rattle.source_defs.specs.Symbols.{Names}
+use Rattle.source_defs.specs.Growing.{Grows}
+use Rattle.source_defs.specs.Layout.{laid, set_or}
+use Rattle.gpl_source_defs.specs.declared.location.Location.{Location}
+use Rattle.gpl_source_defs.specs.Statements.{size_said}
+use Rattle.gpl_source_defs.specs.Locations.{Line, place}
+use Rattle.gpl_source_defs.specs.FirstChecks.{check, names, said}
+use Rattle.gpl_asm.specs.declared.error.GplError.{GplError}
+use Rattle.gpl_asm.specs.declared.error.GplError.TheVariants.{At, Memory}
+use Rattle.gpl_asm.specs.declared.taken.TakenLine.{TakenLine}
+use Rattle.gpl_asm.specs.Building.{IsBehind, HasTaken, IsOpen, CanCount}
+use Rattle.gpl_list_defs.specs.Rows as spec
+use Rattle.gpl_list.specs.declared.rows.Row.{Row}
+use Rattle.gpl_list.specs.declared.rows.NameRow.{NameRow}
+use Rattle.gpl_list.specs.declared.read.ReadLines.{ReadLines}
+
+abbrev pub defined_row : Row → spec.Row
+defined_row row = record { number = row.number; at = row.address; bytes = row.bytes.items; text = row.text.items }
+
+abbrev pub defined_name : NameRow → spec.NameRow
+defined_name row = record { name = row.name; value = Absolute row.value; line = row.line }
+
+abbrev pub defined_address : TakenLine → ℕ
+defined_address told = (set_or told.origin told.at).number
+
+-- the name of a line, if it has one
+abbrev pub named : Option (List ℕ) → ℕ → ℕ → List spec.NameRow
+named None value number = []
+named (Some name) value number = record { name = name; value = Absolute value; line = number } ∷ []
+
+-- the row of a line that was taken, by its number, its place, its address and its text
+pub record IsTaken (count : ℕ) (place : Location) (from : ℕ) (line : List ℕ) (row : Row) : Type 0 where
+  pub number : row.number ≡ count
+  pub at : row.at ≡ place
+  pub address : row.address ≡ from
+  pub bytes : row.bytes.items ≡ []
+  pub text : row.text.items ≡ line
+
+-- one row more
+abbrev pub OneMore : ℕ → Location → ℕ → List ℕ → List Row → List Row → Type 0
+OneMore number at address text before after =
+    (row : Row) × (after ≡ before ++ row ∷ []) × IsTaken number at address text row
+
+-- the row of a line behind others, with what it says by later names too
+pub record RowOf (texts : List (ℕ × List ℕ)) (later : Names) (before : List Line) (line : Line) (row : Row) : Type 0 where
+  pub numbered : line.number ≡ length before + 1
+  pub number : row.number ≡ line.number
+  pub at : row.at ≡ place before line
+  pub address : row.address ≡ spec.address (place before line) line.statement
+  pub bytes : row.bytes.items ≡ []
+  pub text : row.text.items ≡ spec.text_of texts line.number
+  pub said : said later row.at row.text.items ≡ Ok line.statement
+  pub room : row.at.number + size_said line.statement ≤ 65536
+
+-- the rows of lines in their order, behind others
+abbrev pub Describes : List (ℕ × List ℕ) → Names → List Line → List Line → List Row → Type 0
+Describes texts later before [] [] = ⊤
+Describes texts later before (line ∷ rest) (row ∷ rows) =
+    RowOf texts later before line row × Describes texts later (line ∷ before) rest rows
+Describes texts later before [] (row ∷ rows) = ⊥
+Describes texts later before (line ∷ rest) [] = ⊥
+
+-- lines in their order, put behind others, of which the nearest stands first
+abbrev pub onto : List Line → List Line → List Line
+onto [] before = before
+onto (line ∷ rest) before = onto rest (line ∷ before)
+
+-- the rows of lines, whatever names are still to come
+abbrev pub DescribesAll : List (ℕ × List ℕ) → List Line → List Row → Type 0
+DescribesAll texts lines rows =
+    (rest : List Line) × (onto rest [] ≡ lines)
+    × ((later : Names) → Grows (names lines) later → Describes texts later [] rest rows)
+
+-- the lines were taken, and their rows and names are kept
+pub record Keeps (texts : List (ℕ × List ℕ)) (lines : List Line) (read : ReadLines) : Type 0 where
+  pub behind : IsBehind lines read.builder
+  pub rows : DescribesAll texts lines read.rows.items
+  pub names : map defined_name read.names.items ≡ spec.name_rows lines
+
+-- no line was taken
+pub record KeepsNone (read : ReadLines) : Type 0 where
+  pub taken : HasTaken [] read.builder
+  pub going : IsOpen read.builder
+  pub count : CanCount read.builder
+  pub rows : read.rows.items ≡ []
+  pub names : read.names.items ≡ []
+
+-- a line was taken behind others, or the first checks refuse it there
+abbrev pub ReadsLine : {A : Type 0} → List (ℕ × List ℕ) → List Line → List ℕ → Result A GplError → ReadLines → Type 0
+ReadsLine texts lines text (Ok done) read =
+    (line : Line) × (check lines (length lines + 1) text ≡ Ok line) × Keeps texts (line ∷ lines) read
+ReadsLine texts lines text (Err (At number cause)) read =
+    (number ≡ length lines + 1) × (check lines (length lines + 1) text ≡ Err cause) × Keeps texts lines read
+ReadsLine texts lines text (Err Memory) read = ⊤
+
+-- the lines of a source were read, or those before the first that the first checks refuse
+abbrev pub ReadsLines : {A : Type 0} → List (ℕ × List ℕ) → Result A GplError → ReadLines → Type 0
+ReadsLines texts (Ok done) read = (lines : List Line) × (laid check texts ≡ Ok lines) × Keeps texts lines read
+ReadsLines texts (Err (At number cause)) read =
+    (laid check texts ≡ Err (record { line = number; cause = cause }))
+    × (lines : List Line) × (laid check (take (number - 1) texts) ≡ Ok lines) × Keeps texts lines read
+ReadsLines texts (Err Memory) read = ⊤

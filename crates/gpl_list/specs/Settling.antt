@@ -1,0 +1,50 @@
+-- What lines come to by all names.
+use Rattle.std.specs.Prelude.{◌≡◌, ⊤, ℕ, ◌+◌, ◌≤◌, List, ◌∷◌, map, Result, Ok, Err}
+use Rattle.source_defs.specs.Refusals.{Refusal}
+use Rattle.source_defs.specs.Symbols.{Names, look_up}
+use Rattle.source_defs.specs.Layout.{settled}
+use Rattle.gpl_defs.specs.Image.{Image}
+use Rattle.gpl_source_defs.specs.declared.location.Location.{Location}
+use Rattle.gpl_source_defs.specs.Statements.{Statement, size_said}
+use Rattle.gpl_source_defs.specs.Locations.{Line}
+use Rattle.gpl_source_defs.specs.FirstChecks.{said}
+use Rattle.gpl_source_defs.specs.SecondChecks.{outcome}
+use Rattle.gpl_source_defs.specs.Programs.{Settled, settle, settle_at, image}
+use Rattle.gpl_lines.specs.Answers.{Fails, Gives}
+use Rattle.gpl_lines.specs.Defined.{defined_outcome}
+use Rattle.gpl_lines.specs.declared.failure.Failure.{Failure}
+use Rattle.gpl_lines.specs.declared.second_checks.Outcome.{Outcome}
+use Rattle.gpl_asm.specs.declared.error.GplError.{GplError}
+use Rattle.gpl_asm.specs.declared.error.GplError.TheVariants.{At, Memory}
+use Rattle.gpl_list_defs.specs.Rows as spec
+use Rattle.gpl_list.specs.declared.rows.Row.{Row}
+use Rattle.gpl_list.specs.Reading.{defined_row}
+
+-- what a line comes to that says something by all names
+abbrev pub ComesTo : Names → Location → List ℕ → Result Outcome Failure → Type 0
+ComesTo known at text result =
+    (statement : Statement) → said known at text ≡ Ok statement
+    → Gives defined_outcome result (outcome (look_up known) at statement)
+
+-- a line was settled behind others, and its bytes were placed
+abbrev pub SettledAs : {A : Type 0} → (A → List ℕ) → Names → Location → Statement → List Settled → Result A Failure → Image → Type 0
+SettledAs bytes known at statement earlier (Ok value) left =
+    (found : Settled) × (settle_at known at statement earlier ≡ Ok found) × (left ≡ image (found ∷ earlier))
+    × (bytes value ≡ spec.placed_bytes known at statement)
+SettledAs bytes known at statement earlier (Err failure) left = Fails failure (settle_at known at statement earlier)
+
+abbrev pub SettlesLine : {A : Type 0} → (A → List ℕ) → Names → Location → List ℕ → Image → Result A Failure → Image → Type 0
+SettlesLine bytes known at text old result left =
+    (statement : Statement) (earlier : List Settled)
+    → said known at text ≡ Ok statement → at.number + size_said statement ≤ 65536 → old ≡ image earlier
+    → SettledAs bytes known at statement earlier result left
+
+-- the rows of lines with their bytes, or of those before the first that the second checks refuse
+abbrev pub SettlesLines : {A : Type 0} → List (ℕ × List ℕ) → Names → List Line → Result A GplError → List Row → Type 0
+SettlesLines texts known lines (Ok done) rows =
+    (found : List Settled) × (settled (settle known) lines ≡ Ok found)
+    × (map defined_row rows ≡ spec.rows (spec.placed_bytes known) texts lines)
+SettlesLines texts known lines (Err (At number cause)) rows =
+    (settled (settle known) lines ≡ Err (record { line = number; cause = cause }))
+    × (map defined_row rows ≡ spec.rows (spec.placed_bytes known) texts (spec.lines_before number lines))
+SettlesLines texts known lines (Err Memory) rows = ⊤

@@ -1,0 +1,11 @@
+//! The listing of a GPL source: each line with its address and its bytes, and the names.
+#![tactic(auto)]
+
+mod listing;
+mod read;
+mod rows;
+mod settle;
+mod text;
+mod write;
+
+pub use crate::listing::{GplListing, Refused, list_source};

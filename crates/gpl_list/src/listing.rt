@@ -1,0 +1,105 @@
+//! The listing of a source.
+
+ghost use Rattle.std.specs.Prelude.{◌≡◌, ◌<◌, ◌^◌, ℕ, List, IfOk, length};
+ghost use Rattle.source_defs.specs.Layout.{settled};
+ghost use Rattle.gpl_source_defs.specs.Locations.{Line};
+ghost use Rattle.gpl_source_defs.specs.FirstChecks.{names};
+ghost use Rattle.gpl_source_defs.specs.Programs.{settle};
+ghost use Rattle.bench_io.specs.Written.{Written};
+ghost use Rattle.gpl_list_defs.specs.Text.{listing_lines};
+ghost use Rattle.gpl_list_defs.specs.Listing.{listing_of, settled_listing};
+ghost use Rattle.gpl_list.specs.Reading.{Keeps};
+ghost use Rattle.gpl_list.specs.Listings.{defined_listing, refused_by};
+
+use crate::read::ReadLines;
+use crate::rows::{NameRow, Row};
+use crate::settle::settle_rows;
+use crate::write::{put_names, put_rows};
+use bench_io::{Failed, Sink};
+use gpl_asm::GplError;
+use gpl_source_defs::GplCause;
+use std::alloc::{AllocError, Global};
+
+/// The listing of a GPL source: its lines with their addresses and their bytes, and its names.
+#[derive(Drop)]
+pub struct GplListing {
+    pub(crate) rows: Vec<Row>,
+    pub(crate) names: Vec<NameRow>,
+    pub(crate) refused: Option<Refused>,
+}
+
+/// A line of a source that is refused.
+#[derive(Clone, Copy, Debug, PartialEq, Eq)]
+pub struct Refused {
+    /// The number of the line, from 1.
+    pub line: u32,
+    /// What is wrong with it.
+    pub cause: GplCause,
+}
+
+/// The listing of a source of fewer than 2^32 bytes. Of one that is refused it has the lines before the refused one, with
+/// their bytes where the second checks refuse it, and no names.
+///
+/// # Errors
+/// `AllocError` means out of memory.
+pub fn list_source(alloc: Global, text: &[u8]) -> Result<GplListing, AllocError>
+    requires { length text.now < 2 ^ 32 }
+    ensures { IfOk result (λ listing. defined_listing listing ≡ listing_of text.now) }
+{
+    let mut read = ReadLines::new(alloc)?;
+    match read.read(text) {
+        Ok(()) => settled_listing(read),
+        Err(GplError::At { line, cause }) => Ok(GplListing {
+            rows: read.rows,
+            names: Vec::new(alloc),
+            refused: Some(Refused { line, cause }),
+        }),
+        Err(GplError::Memory) => Err(AllocError),
+    }
+}
+
+/// The listing of lines that the first checks let through.
+fn settled_listing(read: ReadLines) -> Result<GplListing, AllocError>
+    ensures { (texts : List (ℕ × List ℕ)) → (lines : List Line) → Keeps texts lines read →
+        IfOk result (λ listing. defined_listing listing
+        ≡ settled_listing texts lines (settled (settle (names lines)) lines)) }
+{
+    let ReadLines {
+        alloc,
+        rows,
+        names,
+        builder,
+    } = read;
+    let mut settled = Vec::new(alloc);
+    match settle_rows(alloc, builder.names(), rows, &mut settled) {
+        Ok(()) => Ok(GplListing {
+            rows: settled,
+            names,
+            refused: None,
+        }),
+        Err(GplError::At { line, cause }) => Ok(GplListing {
+            rows: settled,
+            names: Vec::new(alloc),
+            refused: Some(Refused { line, cause }),
+        }),
+        Err(GplError::Memory) => Err(AllocError),
+    }
+}
+
+impl GplListing {
+    /// Writes the rows and the names, each line by one call. It takes no memory.
+    pub fn write<O: Sink>(&self, out: &mut O) -> Result<(), Failed>
+        ensures { Written result (O.state out.old) (O.state out.new)
+            (listing_lines (defined_listing self.now).rows (defined_listing self.now).names) }
+    {
+        put_rows(self.rows.as_slice(), out)?;
+        put_names(self.names.as_slice(), out)
+    }
+
+    /// The refused line, if one is refused.
+    pub fn refused(&self) -> Option<Refused>
+        ensures { refused_by result ≡ (defined_listing self.now).refused }
+    {
+        self.refused
+    }
+}

@@ -1,0 +1,114 @@
+//! The second pass over the lines of a source: their bytes, by all names.
+
+ghost use Rattle.std.specs.Prelude.{◌≡◌, ℕ, List, [], ◌∷◌, ◌++◌, OnOk};
+ghost use Rattle.gpl_source_defs.specs.Locations.{Line};
+ghost use Rattle.gpl_source_defs.specs.Programs.{bytes_in};
+ghost use Rattle.gpl_lines.specs.Defined.{defined_outcome};
+ghost use Rattle.gpl_asm.specs.Errors.{refusal_at};
+ghost use Rattle.gpl_list.specs.Reading.{Describes, onto};
+ghost use Rattle.gpl_list.specs.Settling.{ComesTo, SettlesLine, SettlesLines};
+
+use crate::rows::Row;
+use asm_text::Symbols;
+use gpl_asm::{GplError, put};
+use gpl_forms::GromImage;
+use gpl_lines::{Failure, Outcome, Scope};
+use gpl_source_defs::Location;
+use std::alloc::{AllocError, Global};
+
+/// Gives rows of lines their bytes by all names, one after the other, up to the first that the second checks refuse.
+/// Those before it are given.
+pub(crate) fn settle_rows(
+    alloc: Global,
+    names: &Symbols,
+    rows: Vec<Row>,
+    settled: &mut Vec<Row>,
+) -> Result<(), GplError>
+    requires { settled.old.items ≡ [] }
+    ensures { (texts : List (ℕ × List ℕ)) → (rest : List Line) → Describes texts names.now [] rest rows.items →
+        SettlesLines texts names.now (onto rest []) result settled.new.items }
+{
+    let mut image = GromImage::new(alloc)?;
+    for row in rows {
+        match settle_line(alloc, names, row.at, row.text.as_slice(), &mut image) {
+            Ok(bytes) => push_row(settled, with_bytes(row, bytes))?,
+            Err(failure) => return Err(refusal_at(row.number, failure)),
+        }
+    }
+    Ok(())
+}
+
+/// A row with these bytes.
+fn with_bytes(row: Row, bytes: Vec<u8>) -> Row
+    ensures number { result.number ≡ row.number }
+    ensures at { result.at ≡ row.at }
+    ensures address { result.address ≡ row.address }
+    ensures text { result.text.items ≡ row.text.items }
+    ensures bytes { result.bytes.items ≡ bytes.items }
+{
+    Row {
+        number: row.number,
+        at: row.at,
+        address: row.address,
+        bytes,
+        text: row.text,
+    }
+}
+
+/// Appends a row.
+fn push_row(rows: &mut Vec<Row>, row: Row) -> Result<(), AllocError>
+    ensures { OnOk result (rows.new.items ≡ rows.old.items ++ row ∷ []) }
+{
+    rows.push(row)?;
+    Ok(())
+}
+
+/// Places the bytes of a line behind others, by all names, and gives them.
+fn settle_line(
+    alloc: Global,
+    names: &Symbols,
+    at: Location,
+    text: &[u8],
+    image: &mut GromImage,
+) -> Result<Vec<u8>, Failure>
+    ensures { SettlesLine (λ bytes. bytes.items) names.now at text.now image.old result image.new }
+{
+    let outcome = outcome_of(alloc, names, at, text)?;
+    match put(image, None, at, &outcome) {
+        Ok(_) => Ok(bytes_of(alloc, outcome)),
+        Err(cause) => Err(Failure::Refused(cause)),
+    }
+}
+
+/// What a line comes to, by all names.
+fn outcome_of(alloc: Global, names: &Symbols, at: Location, text: &[u8]) -> Result<Outcome, Failure>
+    ensures { ComesTo names.now at text.now result }
+{
+    let scope = Scope {
+        alloc,
+        symbols: names,
+        at,
+    };
+    let statement = scope.said(text)?;
+    scope.outcome(&statement)
+}
+
+/// The bytes that a line places.
+fn bytes_of(alloc: Global, outcome: Outcome) -> Vec<u8>
+    ensures { result.items ≡ bytes_in (defined_outcome outcome) }
+{
+    match outcome {
+        Outcome::Bytes(bytes) => bytes,
+        Outcome::Entry(_) => Vec::new(alloc),
+    }
+}
+
+/// The refusal of a line by its number.
+fn refusal_at(line: u32, failure: Failure) -> GplError
+    ensures { result ≡ refusal_at line failure }
+{
+    match failure {
+        Failure::Refused(cause) => GplError::At { line, cause },
+        Failure::Memory => GplError::Memory,
+    }
+}

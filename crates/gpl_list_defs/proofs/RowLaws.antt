@@ -1,0 +1,131 @@
+-- The rows of a source give its program.
+use Rattle.std.proofs.Common.{◌≡◌, ℕ, List, [], ◌∷◌, ◌++◌, Ok, Err, refl, sym, ap, ◌∙◌}
+use Rattle.std.specs.Prelude.{Result, map, Option, Bool, true, false, if◌then◌else◌}
+use Rattle.std.specs.FinMap.{empty, insert}
+use Rattle.source_defs.specs.Refusals.{Refusal, ◌>>=◌, at_line}
+use Rattle.source_defs.specs.Expression.{Value}
+use Rattle.source_defs.specs.Symbols.{Names, predefined, look_up}
+use Rattle.source_defs.specs.Layout.{laid, settled, line_texts}
+use Rattle.source_defs.specs.Layout as layout
+use Rattle.source_defs.proofs.RefusalLaws.{bound}
+use Rattle.gpl_defs.specs.Image.{Image, placed}
+use Rattle.gpl_source_defs.specs.declared.causes.GplCause.{GplCause}
+use Rattle.gpl_source_defs.specs.declared.causes.GplCause.TheVariants.{Overlap}
+use Rattle.gpl_source_defs.specs.declared.location.Location.{Location}
+use Rattle.gpl_source_defs.specs.Statements.{Statement, Nothing, Instruction, Grom, Aorg, Equ, Bss, Data, Byte, Text, End}
+use Rattle.gpl_source_defs.specs.Locations.{Line, place}
+use Rattle.gpl_source_defs.specs.FirstChecks.{check, names}
+use Rattle.gpl_source_defs.specs.SecondChecks.{Outcome, outcome}
+use Rattle.gpl_source_defs.specs.Programs.{Settled, settle, settle_at, overlaps, image, bytes_in, program_by, program_behind}
+use Rattle.gpl_list_defs.specs.Rows.{Row, NameRow, address, bytes_of, placed_bytes, row, rows, names_in, name_rows}
+use Rattle.gpl_list_defs.specs.Listing.{settled_listing, laid_listing}
+use Rattle.gpl_list_defs.specs.Laws.{with_rows, with_names, ListsOf, ListingsGivePrograms}
+
+-- ---- rows and names behind others
+
+with_rows_append : (at : Image) (first second : List Row) → with_rows at (first ++ second) ≡ with_rows (with_rows at first) second
+with_rows_append at [] second = refl
+with_rows_append at (row ∷ first) second = with_rows_append (placed at row.at row.bytes) first second
+
+with_names_append : (known : Names) (first second : List NameRow) → with_names known (first ++ second) ≡ with_names (with_names known first) second
+with_names_append known [] second = refl
+with_names_append known (row ∷ first) second = with_names_append (insert known row.name row.value) first second
+
+entries_in : (known : Names) (number : ℕ) (entries : List (List ℕ × Value))
+    → with_names known (map (λ entry. record { name = entry.0; value = entry.1; line = number }) entries) ≡ layout.with_names known entries
+entries_in known number [] = refl
+entries_in known number (entry ∷ entries) = entries_in (insert known entry.0 entry.1) number entries
+
+pub names_give : (lines : List Line) → with_names predefined (name_rows lines) ≡ names lines
+names_give [] = refl
+names_give (line ∷ before) =
+    with_names_append predefined (name_rows before) (names_in line)
+    ∙ (ap (λ (known : Names). with_names known (names_in line)) (names_give before)
+    ∙ entries_in (names before) line.number line.names)
+
+-- ---- the bytes of a line stand at its address
+
+at_address : (look : List ℕ → Option Value) (at : Location) (statement : Statement) (to : Image) (found : Outcome) → outcome look at statement ≡ Ok found
+    → placed to (address at statement) (bytes_in found) ≡ placed to at.number (bytes_in found)
+unfolding outcome
+at_address look at (Grom number) to found e = cc e
+at_address look at (Aorg number) to found e = cc e
+at_address look at Nothing to found e = refl
+at_address look at (Instruction skeleton) to found e = refl
+at_address look at (Equ number) to found e = refl
+at_address look at (Bss number) to found e = refl
+at_address look at (Data texts) to found e = refl
+at_address look at (Byte texts) to found e = refl
+at_address look at (Text quoted) to found e = refl
+at_address look at (End text) to found e = refl
+
+-- what a line came to
+record Came (known : Names) (at : Location) (statement : Statement) (line : Settled) : Type 0 where
+  at_is : line.at ≡ at.number
+  came : outcome (look_up known) at statement ≡ Ok line.outcome
+
+abbrev room_by : Bool → Settled → Result Settled GplCause
+room_by full line = if full then Err Overlap else Ok line
+
+has_room : (full : Bool) (line found : Settled) → room_by full line ≡ Ok found → line ≡ found
+has_room true line found e = cc e
+has_room false line found e = cc e
+
+came_to : (known : Names) (at : Location) (statement : Statement) (earlier : List Settled) (found : Settled)
+    → settle_at known at statement earlier ≡ Ok found → Came known at statement found
+came_to known at statement earlier found e =
+    let b = bound (outcome (look_up known) at statement) _ found e in
+    let line : Settled = record { at = at.number; outcome = b.0 } in
+    let same : line ≡ found = has_room (overlaps (image earlier) at.number (bytes_in b.0)) line found b.2 in
+    record {
+      at_is = ap (λ (line : Settled). line.at) (sym same);
+      came = b.1 ∙ ap (λ (line : Settled). Ok line.outcome) same;
+    }
+
+at_line_ok : {A : Type 0} (number : ℕ) (answer : Result A GplCause) (found : A) → at_line number answer ≡ Ok found → answer ≡ Ok found
+at_line_ok number (Ok value) found e = cc e
+at_line_ok number (Err cause) found e = cc e
+
+-- the rows of lines that are settled make their image
+module _ (known : Names) (texts : List (ℕ × List ℕ)) where
+  abbrev shown : List Line → List Row
+  shown lines = rows (placed_bytes known) texts lines
+
+  one_more : (before : List Line) (line : Line) (earlier : List Settled) (found : Settled) → with_rows empty (shown before) ≡ image earlier
+      → Came known (place before line) line.statement found → with_rows empty (shown (line ∷ before)) ≡ image (found ∷ earlier)
+  one_more before line earlier found is came =
+      let at = place before line in
+      let bytes : placed_bytes known at line.statement ≡ bytes_in found.outcome = ap bytes_of came.came in
+      with_rows_append empty (shown before) (row (placed_bytes known) texts before line ∷ [])
+      ∙ (ap (λ (to : Image). placed to (address at line.statement) (placed_bytes known at line.statement)) is
+      ∙ (ap (λ bytes. placed (image earlier) (address at line.statement) bytes) bytes
+      ∙ (at_address (look_up known) at line.statement (image earlier) found.outcome came.came
+      ∙ ap (λ at. placed (image earlier) at (bytes_in found.outcome)) (sym came.at_is))))
+
+  pub rows_give : (lines : List Line) (found : List Settled) → settled (settle known) lines ≡ Ok found → with_rows empty (shown lines) ≡ image found
+  rows_give [] found e =
+      let same : [] ≡ found = cc e in
+      ap image same
+  rows_give (line ∷ before) found e =
+      let b = bound (settled (settle known) before) _ found e in
+      let c = bound (at_line line.number (settle known before b.0 line)) _ found b.2 in
+      let same : c.0 ∷ b.0 ≡ found = cc (c.2) in
+      let came = came_to known (place before line) line.statement b.0 c.0 (at_line_ok line.number (settle known before b.0 line) c.0 c.1) in
+      one_more before line b.0 c.0 (rows_give before b.0 b.1) came ∙ ap image same
+
+-- ---- the listing of a source
+
+settled_gives : (texts : List (ℕ × List ℕ)) (lines : List Line) (answer : Result (List Settled) (Refusal GplCause))
+    → settled (settle (names lines)) lines ≡ answer
+    → ListsOf (settled_listing texts lines answer) (answer >>= λ found. Ok (program_by lines found))
+settled_gives texts lines (Ok found) e =
+    record { image = rows_give (names lines) texts lines found e; names = names_give lines; accepted = refl }
+settled_gives texts lines (Err refused) e = refl
+
+laid_gives : (texts : List (ℕ × List ℕ)) (answer : Result (List Line) (Refusal GplCause))
+    → ListsOf (laid_listing texts answer) (answer >>= program_behind)
+laid_gives texts (Ok lines) = settled_gives texts lines (settled (settle (names lines)) lines) refl
+laid_gives texts (Err refused) = refl
+
+pub listings_give_programs : ListingsGivePrograms
+listings_give_programs source = laid_gives (line_texts source) (laid check (line_texts source))

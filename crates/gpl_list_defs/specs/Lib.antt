@@ -1,0 +1,4 @@
+pub mod Rows
+pub mod Text
+pub mod Listing
+pub mod Laws

@@ -1,0 +1,59 @@
+-- The listing of a GPL source.
+use Rattle.std.specs.Prelude.{ℕ, ◌-◌, List, [], take, Result, Ok, Err}
+use Rattle.source_defs.specs.Refusals.{Refusal}
+use Rattle.source_defs.specs.Layout.{laid, settled, line_texts}
+use Rattle.gpl_source_defs.specs.declared.causes.GplCause.{GplCause}
+use Rattle.gpl_source_defs.specs.Locations.{Line}
+use Rattle.gpl_source_defs.specs.FirstChecks.{check, names}
+use Rattle.gpl_source_defs.specs.Programs.{Settled, settle}
+use Rattle.report_defs.specs.declared.status.Status.TheVariants.{Done}
+use Rattle.report_defs.specs.SourceFaults.{gpl_line}
+use Rattle.report_defs.specs.Report.{Report, Whole, RejectedAfter}
+use Rattle.gpl_list_defs.specs.Rows.{Row, NameRow, no_bytes, placed_bytes, rows, name_rows, lines_before}
+use Rattle.gpl_list_defs.specs.Text.{listing_lines}
+
+-- what is listed of a source: its rows, its names, and the refusal of the line behind the rows, if one is refused
+pub record Listing : Type 0 where
+  pub rows : List Row
+  pub names : List NameRow
+  pub refused : Result Unit (Refusal GplCause)
+
+-- Of lines that the first checks let through. Profile: each has a row, and the names stand behind them; of a source that
+-- the second checks refuse the lines before the refused one have rows, and no names stand.
+abbrev pub settled_listing : List (ℕ × List ℕ) → List Line → Result (List Settled) (Refusal GplCause) → Listing
+settled_listing texts lines (Ok found) =
+    record { rows = rows (placed_bytes (names lines)) texts lines; names = name_rows lines; refused = Ok tt }
+settled_listing texts lines (Err refused) =
+    record {
+      rows = rows (placed_bytes (names lines)) texts (lines_before refused.line lines);
+      names = [];
+      refused = Err refused;
+    }
+
+-- the lines that the first checks let through
+abbrev pub let_through : Result (List Line) (Refusal GplCause) → List Line
+let_through (Ok lines) = lines
+let_through (Err refused) = []
+
+-- Profile: where the first checks refuse a line, those before it have rows without bytes, since later names are not
+-- known.
+abbrev pub laid_listing : List (ℕ × List ℕ) → Result (List Line) (Refusal GplCause) → Listing
+laid_listing texts (Ok lines) = settled_listing texts lines (settled (settle (names lines)) lines)
+laid_listing texts (Err refused) =
+    record {
+      rows = rows no_bytes texts (let_through (laid check (take (refused.line - 1) texts)));
+      names = [];
+      refused = Err refused;
+    }
+
+-- the listing of a source
+abbrev pub listing_of : List ℕ → Listing
+listing_of source = laid_listing (line_texts source) (laid check (line_texts source))
+
+-- what is reported of it: a refused line is told behind the lines before it
+abbrev pub report_by : List (List ℕ) → Result Unit (Refusal GplCause) → Report
+report_by lines (Ok done) = Whole Done lines
+report_by lines (Err refused) = RejectedAfter lines (gpl_line refused)
+
+abbrev pub listing_report : Listing → Report
+listing_report listing = report_by (listing_lines listing.rows listing.names) listing.refused

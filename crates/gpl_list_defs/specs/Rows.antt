@@ -1,0 +1,76 @@
+-- The rows of a listing: the lines of a GPL source with their addresses, and its names.
+use Rattle.std.specs.Prelude.{ℕ, ◌+◌, ◌==◌, nat_lt, if◌then◌else◌, List, [], ◌∷◌, ◌++◌, filter, map, Result, Ok, Err}
+use Rattle.source_defs.specs.Expression.{Value}
+use Rattle.source_defs.specs.Symbols.{Names, look_up}
+use Rattle.source_defs.specs.Layout.{set_or}
+use Rattle.gpl_source_defs.specs.declared.causes.GplCause.{GplCause}
+use Rattle.gpl_source_defs.specs.declared.location.Location.{Location}
+use Rattle.gpl_source_defs.specs.Statements.{Statement}
+use Rattle.gpl_source_defs.specs.Locations.{Line, place, origin_of}
+use Rattle.gpl_source_defs.specs.SecondChecks.{Outcome, outcome}
+use Rattle.gpl_source_defs.specs.Programs.{bytes_in}
+
+-- a line by its number, its address, which is 65,536 behind the last of all, the bytes that it places, and its text
+pub record Row : Type 0 where
+  pub number : ℕ
+  pub at : ℕ
+  pub bytes : List ℕ
+  pub text : List ℕ
+
+-- a name, what it stands for, and the number of the line that defines it
+pub record NameRow : Type 0 where
+  pub name : List ℕ
+  pub value : Value
+  pub line : ℕ
+
+-- The address of a line at a place. Profile: GROM and AORG stand at the address that they set.
+abbrev pub address : Location → Statement → ℕ
+address at statement = (set_or (origin_of at statement) at).number
+
+-- what is listed of the bytes of a line, by its place and what it says
+abbrev pub ListsBytes : Type 0
+ListsBytes = Location → Statement → List ℕ
+
+-- none
+abbrev pub no_bytes : ListsBytes
+no_bytes at statement = []
+
+-- the bytes that it places, by all names
+abbrev pub bytes_of : Result Outcome GplCause → List ℕ
+bytes_of (Ok found) = bytes_in found
+bytes_of (Err cause) = []
+
+abbrev pub placed_bytes : Names → ListsBytes
+placed_bytes known at statement = bytes_of (outcome (look_up known) at statement)
+
+-- the text of the line with a number
+abbrev pub text_of : List (ℕ × List ℕ) → ℕ → List ℕ
+text_of [] number = []
+text_of (line ∷ lines) number = if line.0 == number then line.1 else text_of lines number
+
+abbrev pub row : ListsBytes → List (ℕ × List ℕ) → List Line → Line → Row
+row bytes texts before line =
+    record {
+      number = line.number;
+      at = address (place before line) line.statement;
+      bytes = bytes (place before line) line.statement;
+      text = text_of texts line.number;
+    }
+
+-- The rows of lines, of which the nearest stands first, in their order.
+abbrev pub rows : ListsBytes → List (ℕ × List ℕ) → List Line → List Row
+rows bytes texts [] = []
+rows bytes texts (line ∷ before) = rows bytes texts before ++ row bytes texts before line ∷ []
+
+-- the names that a line defines
+abbrev pub names_in : Line → List NameRow
+names_in line = map (λ entry. record { name = entry.0; value = entry.1; line = line.number }) line.names
+
+-- Profile: names stand in the order in which they are defined.
+abbrev pub name_rows : List Line → List NameRow
+name_rows [] = []
+name_rows (line ∷ before) = name_rows before ++ names_in line
+
+-- the lines before the one with a number
+abbrev pub lines_before : ℕ → List Line → List Line
+lines_before number lines = filter (λ line. nat_lt line.number number) lines
