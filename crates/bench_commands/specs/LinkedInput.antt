@@ -1,8 +1,10 @@
 -- What an object text gives, in the terms of the definitions.
 use Rattle.std.specs.Prelude.{◌≡◌, ℕ, List, Result, Ok, Err}
+use Rattle.console_defs.specs.Machine.{MachineState}
 use Rattle.link_defs.specs.LinkedMemory.{LinkedMemory}
 use Rattle.link_loader.specs.View.{defined_linked}
 use Rattle.link_loader.specs.declared.linked.Linked.{Linked}
+use Rattle.report_defs.specs.Exec.{IsStart}
 use Rattle.report_defs.specs.Report.{Report, Rejected}
 use Rattle.reports.specs.declared.unreported.Unreported.{Unreported}
 use Rattle.reports.specs.Answers.{WantsMemory, Reported, error_answer}
@@ -15,3 +17,8 @@ RejectsAs defined report = (line : List ℕ) × (defined ≡ Err line) × (repor
 abbrev pub LinksInput : Result Linked Unreported → Result LinkedMemory (List ℕ) → Type 0
 LinksInput (Ok linked) defined = defined ≡ Ok (defined_linked linked)
 LinksInput (Err unreported) defined = Reported (RejectsAs defined) WantsMemory (error_answer unreported)
+
+-- a machine at the entry of the linked memory, or why there is none
+abbrev pub StartsInput : Result MachineState Unreported → Result LinkedMemory (List ℕ) → Type 0
+StartsInput (Ok machine) defined = (linked : LinkedMemory) × (defined ≡ Ok linked) × IsStart linked machine
+StartsInput (Err unreported) defined = Reported (RejectsAs defined) WantsMemory (error_answer unreported)

@@ -3,7 +3,7 @@
 mod asm;
 mod demo;
 mod dis;
-mod exec;
+pub(crate) mod exec;
 mod gasm;
 mod gdis;
 mod interp;

@@ -9,6 +9,7 @@ mod running;
 mod steady;
 mod trace;
 
+pub use crate::commands::exec::start_input;
 pub use crate::commands::program::{LoadedProgram, load_program};
 pub use crate::commands::trace::start_trace;
 pub use crate::running::{bench, run_command};

@@ -12,12 +12,12 @@ use report_lines::{Line, append, append_word};
 use tms_step::Machine;
 use trace_dump::dump;
 
-/// Writes how a run ended, and the machine that it left.
-pub(crate) fn put_execution<O: Sink>(
-    out: &mut O,
-    ending: RunEnd,
-    machine: &Machine,
-) -> Result<(), Failed>
+/// Writes how a run ended, and the machine that it left. Each line is written by one call, and no memory is taken.
+///
+/// # Errors
+/// `Failed` means that a line could not be written. The sink then got a front of the lines, and its count of faults
+/// rose.
+pub fn put_execution<O: Sink>(out: &mut O, ending: RunEnd, machine: &Machine) -> Result<(), Failed>
     ensures { Written result (O.state out.old) (O.state out.new) (spec.exec_lines ending machine.now) }
 {
     put_piece(out, end_line(ending).as_slice())?;
@@ -52,7 +52,7 @@ fn append_stop(line: &mut Line, words: &[u8], address: u16)
 }
 
 /// The status of a run's report: a machine that stopped has its own.
-pub(crate) fn end_status(ending: RunEnd) -> Status
+pub fn end_status(ending: RunEnd) -> Status
     ensures { result ≡ spec.end_status ending }
 {
     match ending {

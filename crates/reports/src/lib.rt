@@ -12,6 +12,7 @@ mod report;
 mod unreported;
 mod watched;
 
+pub use crate::execution::{end_status, put_execution};
 pub use crate::listing::Listing;
 pub use crate::outcome::finish;
 pub use crate::report::Report;

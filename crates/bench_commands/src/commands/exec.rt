@@ -5,7 +5,9 @@ ghost use Rattle.console_defs.specs.Runs.{IsRun};
 ghost use Rattle.link_loader.specs.View.{defined_linked};
 ghost use Rattle.report_defs.specs.Exec as runs;
 ghost use Rattle.report_defs.specs.Report as spec;
+ghost use Rattle.report_defs.specs.ObjectInput.{linked_input};
 ghost use Rattle.reports.specs.Answers.{answer, WantsMemory, Reported};
+ghost use Rattle.bench_commands.specs.LinkedInput.{StartsInput};
 
 use crate::object_input::link_input;
 use byte_lists::zeros;
@@ -32,6 +34,18 @@ pub(crate) fn exec(alloc: Global, limit: u32, input: &[u8]) -> Result<Report, Un
 {
     let linked = link_input(alloc, input)?;
     execute(alloc, limit, &linked)
+}
+
+/// A machine at the entry of the linked memory of an object text, or why there is none. No memory is taken later.
+///
+/// # Errors
+/// `Refused` has the line of a text that is refused, and `Memory` means out of memory.
+pub fn start_input(alloc: Global, input: &[u8]) -> Result<Machine, Unreported>
+    requires { length input.now ≤ spec.largest_input }
+    ensures { StartsInput result (linked_input input.now) }
+{
+    let linked = link_input(alloc, input)?;
+    Ok(start(alloc, &linked)?)
 }
 
 /// The report of up to `limit` instructions of linked memory, from its entry on.
