@@ -47,7 +47,7 @@ link_no_usage : (found : Result LinkedMemory (List ℕ)) → IsNoUsage (link_rep
 link_no_usage (Ok linked) e = absurd cc
 link_no_usage (Err line) e = absurd cc
 
-end_no_usage : (found : RunEnd) → end_status found ≡ Usage → ⊥
+pub end_no_usage : (found : RunEnd) → end_status found ≡ Usage → ⊥
 end_no_usage ending.Limit e = absurd cc
 end_no_usage ending.SelfJump e = absurd cc
 end_no_usage (ending.Refused at) e = absurd cc

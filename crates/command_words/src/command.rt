@@ -9,7 +9,7 @@ use crate::words::Words;
 use report_defs::Command;
 
 /// The most instructions that `exec` makes.
-const MOST_INSTRUCTIONS: u32 = 10_000_000;
+pub const MOST_INSTRUCTIONS: u32 = 10_000_000;
 
 /// The most steps that `run`, `trace`, `demo` and `watch` make.
 pub const MOST_STEPS: u32 = 100_000;

@@ -1,12 +1,14 @@
 -- How a run of a command of `ti_debug` ends.
-use Rattle.std.proofs.Common.{◌≤◌, ℕ, List, length, Result, Ok, Err, subst, inl, inr}
+use Rattle.std.proofs.Common.{◌≤◌, ℕ, List, length, Result, Ok, Err, sym, subst, inl, inr}
 use Rattle.std.specs.Prelude.{nat_lt}
 use Rattle.bench_io.specs.Stream.{SourceState}
 use Rattle.bench_io.specs.ReadAll.{ReadWhole}
 use Rattle.source_defs.specs.Refusals.{Refusal}
 use Rattle.gpl_source_defs.specs.declared.causes.GplCause.{GplCause}
 use Rattle.gpl_source_defs.specs.Programs.{program_of_source}
+use Rattle.link_defs.specs.LinkedMemory.{LinkedMemory}
 use Rattle.report_defs.specs.declared.status.Status.{Status}
+use Rattle.report_defs.specs.ObjectInput.{linked_input}
 use Rattle.report_defs.specs.Report as spec
 use Rattle.change_defs.specs.Text.{all_changes_text}
 use Rattle.reports.specs.Outputs.{Outputs}
@@ -17,11 +19,13 @@ use Rattle.reports.proofs.NoUsage.{IsNoUsage, same_no_usage, large_no_usage}
 use Rattle.bench_commands.specs.Loaded.{RunsNone}
 use Rattle.bench_commands.proofs.NoUsage as shown
 use Rattle.bench_commands.proofs.Loading.{program_none}
-use Rattle.bench_commands.proofs.Ends.{HasNoUsage, run_of, by_answer}
+use Rattle.bench_commands.proofs.Ends.{HasNoUsage, run_of, by_answer, by_front, reading, within}
 use Rattle.bench_commands.proofs.Tracing.{by_trace}
 use Rattle.debug_report_defs.specs.declared.command.DebugCommand.{DebugCommand}
-use Rattle.debug_report_defs.specs.declared.command.DebugCommand.TheVariants.{Glist, Gsteps}
+use Rattle.debug_report_defs.specs.declared.command.DebugCommand.TheVariants.{Glist, Gsteps, Steps}
 use Rattle.debug_report_defs.specs.Reports.{AcceptedReport}
+use Rattle.machine_change_defs.specs.Reports.{StepsReport}
+use Rattle.steps_command.specs.Ends.{EndsInstructions}
 use Rattle.gpl_list_defs.specs.Text.{listing_lines}
 use Rattle.gpl_list_defs.specs.Listing.{listing_of, listing_report, report_by}
 use Rattle.debug_commands.specs.Answered.{EndsAnswered}
@@ -32,12 +36,18 @@ listing_no_usage : (lines : List (List ℕ)) (refused : Result Unit (Refusal Gpl
 listing_no_usage lines (Ok done) e = absurd cc
 listing_no_usage lines (Err refused) e = absurd cc
 
+steps_no_usage : (limit : ℕ) (found : Result LinkedMemory (List ℕ)) (report : spec.Report) → StepsReport limit found report
+    → IsNoUsage report
+steps_no_usage limit (Ok linked) report on = same_no_usage report _ on.is (shown.end_no_usage on.ending)
+steps_no_usage limit (Err line) report is = same_no_usage report (spec.Rejected line) is (λ e. absurd cc)
+
 accepted_no_usage : (command : DebugCommand) (input : List ℕ) (report : spec.Report) → AcceptedReport command input report
     → IsNoUsage report
 accepted_no_usage Glist input report is =
     same_no_usage report (listing_report (listing_of input)) is
     (listing_no_usage (listing_lines (listing_of input).rows (listing_of input).names) (listing_of input).refused)
 accepted_no_usage (Gsteps limit) input report on = shown.program_none (spec.shown_lines all_changes_text) limit input report on
+accepted_no_usage (Steps limit) input report on = steps_no_usage limit (linked_input input) report on
 
 pub no_usage : HasNoUsage debug_input
 no_usage command input report on =
@@ -66,3 +76,16 @@ module _ (limit : ℕ) (before after : SourceState) (o : Outputs) (bytes : List 
   by_steps end (inr ends) =
       by_answered (Gsteps limit) before after o bytes takes (spec.ProgramReport RunsNone (program_of_source bytes))
       (program_none (spec.ReportsProgram (spec.shown_lines all_changes_text) limit) (program_of_source bytes)) end ends
+
+-- a run of `steps` ends as its instructions
+module _ (limit : ℕ) (before after : SourceState) (o : Outputs) (bytes : List ℕ)
+    (takes : ReadWhole spec.largest_input before after bytes) where
+  pub by_instructions : (end : Status) → EndsInstructions limit bytes o end
+      → EndsBy debug_program (run_of debug_input no_usage (Steps limit) before after o) end
+  by_instructions end (inl ends) =
+      by_answered (Steps limit) before after o bytes takes (StepsReport limit (linked_input bytes)) (λ report on. on) end ends
+  by_instructions end (inr (front, shows, is, missed)) =
+      let le = within debug_input no_usage (Steps limit) before after o bytes takes in
+      let reads = reading debug_input no_usage (Steps limit) before after o bytes takes in
+      subst (EndsBy debug_program (run_of debug_input no_usage (Steps limit) before after o)) (sym is)
+      (by_front debug_input no_usage (Steps limit) before after o front (bytes, reads, (le, shows)) missed)

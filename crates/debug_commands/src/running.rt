@@ -15,6 +15,7 @@ use debug_report_defs::DebugCommand;
 use report_defs::{LARGEST_INPUT, Status};
 use reports::{finish, tell};
 use std::alloc::Global;
+use steps_command::steps;
 
 /// Runs the command that the words say. It reads all of `input` before it writes, writes the report to `out`, or a
 /// fault line or the usage line to `err`, and takes all its memory before the first byte is written. The line of a step
@@ -26,7 +27,8 @@ use std::alloc::Global;
 /// for each i up to the last step of a program that is run the machine after the first i turns matches its state after i
 /// steps; that the changes which are read from the lines of the first i steps, made in the first state, give the state
 /// after i steps; and that the bytes of the rows of a listing, at their addresses, are the image of its source, and its
-/// names those of the source.
+/// names those of the source; and that the changes of the lines of the first i instructions, made in the first memory,
+/// give the memory after i instructions.
 #[tactic(auto, using(crate::proofs::Laws::laws))]
 pub fn debug<S: Source, O: Sink, E: Sink>(
     alloc: Global,
@@ -83,5 +85,6 @@ fn run_debug_command<S: Source, O: Sink, E: Sink>(
     match command {
         DebugCommand::Glist => glist(alloc, input, out, err),
         DebugCommand::Gsteps { limit } => gsteps(alloc, limit, input, out, err),
+        DebugCommand::Steps { limit } => steps(alloc, limit, input, out, err),
     }
 }

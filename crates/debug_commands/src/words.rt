@@ -5,7 +5,7 @@ ghost use Rattle.report_defs.specs.Commands.{same_word};
 ghost use Rattle.debug_report_defs.specs.Words as spec;
 ghost use Rattle.debug_report_defs.specs.Words.{KeepsLimit};
 
-use command_words::{MOST_STEPS, Words, number_word};
+use command_words::{MOST_INSTRUCTIONS, MOST_STEPS, Words, number_word};
 use debug_report_defs::DebugCommand;
 
 /// The command that the words say, or `None` if they are in no shape of one.
@@ -36,11 +36,31 @@ fn command_with(name: &[u8], word: &[u8]) -> Option<DebugCommand>
     ensures command { result ≡ spec.command_with name.now word.now }
     ensures limit { IfSome result KeepsLimit }
 {
-    if !is_same(name, b"gsteps") {
-        return None;
+    if is_same(name, b"gsteps") {
+        gsteps_command(word)
+    } else if is_same(name, b"steps") {
+        steps_command(word)
+    } else {
+        None
     }
+}
+
+/// `gsteps` with its number.
+fn gsteps_command(word: &[u8]) -> Option<DebugCommand>
+    ensures command { result ≡ spec.gsteps_command word.now }
+    ensures limit { IfSome result KeepsLimit }
+{
     let limit = number_word(word, MOST_STEPS)?;
     Some(DebugCommand::Gsteps { limit })
+}
+
+/// `steps` with its number.
+fn steps_command(word: &[u8]) -> Option<DebugCommand>
+    ensures command { result ≡ spec.steps_command word.now }
+    ensures limit { IfSome result KeepsLimit }
+{
+    let limit = number_word(word, MOST_INSTRUCTIONS)?;
+    Some(DebugCommand::Steps { limit })
 }
 
 /// Whether a word is a name.
@@ -55,5 +75,5 @@ fn is_same(word: &[u8], name: &[u8]) -> bool
 pub(crate) fn usage() -> &'static [u8]
     ensures { result.now ≡ spec.debug_usage }
 {
-    b"usage: ti_debug glist|gsteps N\n"
+    b"usage: ti_debug glist|gsteps N|steps N\n"
 }

@@ -14,8 +14,9 @@ use Rattle.change_defs.proofs.RunLead.{runs_keep, run_changes_lead}
 use Rattle.change_defs.specs.Steps.{StepChanges, state_applied, changes_after, state_by_changes}
 use Rattle.change_defs.specs.Text.{all_changes_text}
 use Rattle.debug_report_defs.specs.declared.command.DebugCommand.{DebugCommand}
-use Rattle.debug_report_defs.specs.declared.command.DebugCommand.TheVariants.{Glist, Gsteps}
+use Rattle.debug_report_defs.specs.declared.command.DebugCommand.TheVariants.{Glist, Gsteps, Steps}
 use Rattle.debug_report_defs.specs.Reports.{AcceptedReport}
+use Rattle.machine_change_defs.proofs.ReportLaws.{one_steps_report, steps_fronts_begin_reports}
 use Rattle.debug_report_defs.specs.Reader.{changes_of_text}
 use Rattle.debug_report_defs.specs.Laws.{OneDebugReport, DebugFrontsBeginReports, LinesGiveStates, text_after, state_by_texts}
 use Rattle.debug_report_defs.proofs.TextRead.{step_read}
@@ -27,6 +28,7 @@ one_accepted Glist input first second p q = p ∙ sym q
 one_accepted (Gsteps limit) input first second p q =
     one_assembled (ReportsProgram (shown_lines all_changes_text) limit) (one_program (shown_lines all_changes_text) limit)
     (program_of_source input) first second p q
+one_accepted (Steps limit) input first second p q = one_steps_report limit input first second p q
 
 pub one_debug_report : OneDebugReport
 one_debug_report command input first second p q =
@@ -38,6 +40,8 @@ debug_fronts_begin_reports Glist input front report p q = absurd p
 debug_fronts_begin_reports (Gsteps limit) input front report p q =
     begins_program all_changes_text limit (program_of_source input) front report p.1
     (accepted (AcceptedReport (Gsteps limit)) input report p.0 q)
+debug_fronts_begin_reports (Steps limit) input front report p q =
+    steps_fronts_begin_reports limit input front report p.1 (accepted (AcceptedReport (Steps limit)) input report p.0 q)
 
 -- the states by the texts are those by the changes
 by_texts : (s : GplState) → IsState s → (made : ℕ) → state_by_texts s made ≡ state_by_changes s made

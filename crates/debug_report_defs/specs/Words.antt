@@ -1,21 +1,28 @@
 -- The words of the command line of `ti_debug`.
 use Rattle.std.specs.Prelude.{⊤, ℕ, ◌≤◌, if◌then◌else◌, List, [], ◌∷◌, codes, Option, Some, None}
 use Rattle.std.specs.Option.{option_map}
-use Rattle.report_defs.specs.Commands.{same_word, number_word, most_steps}
+use Rattle.report_defs.specs.Commands.{same_word, number_word, most_instructions, most_steps}
 use Rattle.debug_report_defs.specs.declared.command.DebugCommand.{DebugCommand}
-use Rattle.debug_report_defs.specs.declared.command.DebugCommand.TheVariants.{Glist, Gsteps}
+use Rattle.debug_report_defs.specs.declared.command.DebugCommand.TheVariants.{Glist, Gsteps, Steps}
 
 -- Profile: gsteps makes at most 100,000 steps.
 abbrev pub gsteps_command : List ℕ → Option DebugCommand
 gsteps_command word = option_map Gsteps (number_word most_steps word)
 
+-- Profile: steps executes at most 10,000,000 instructions.
+abbrev pub steps_command : List ℕ → Option DebugCommand
+steps_command word = option_map Steps (number_word most_instructions word)
+
 -- a command of one word
 abbrev pub command_alone : List ℕ → Option DebugCommand
 command_alone name = if same_word name (codes "glist") then Some Glist else None
 
--- a command with a word behind its name
+-- a command with a word after its name
 abbrev pub command_with : List ℕ → List ℕ → Option DebugCommand
-command_with name word = if same_word name (codes "gsteps") then gsteps_command word else None
+command_with name word =
+    if same_word name (codes "gsteps") then gsteps_command word
+    else if same_word name (codes "steps") then steps_command word
+    else None
 
 -- words in any other shape are no command
 abbrev pub debug_command : List (List ℕ) → Option DebugCommand
@@ -28,7 +35,8 @@ debug_command (name ∷ word ∷ next ∷ others) = None
 abbrev pub KeepsLimit : DebugCommand → Type 0
 KeepsLimit Glist = ⊤
 KeepsLimit (Gsteps limit) = limit ≤ most_steps
+KeepsLimit (Steps limit) = limit ≤ most_instructions
 
 -- Profile: words that are no command are answered by how the program is called.
 unfoldable pub debug_usage : List ℕ
-debug_usage = codes "usage: ti_debug glist|gsteps N\n"
+debug_usage = codes "usage: ti_debug glist|gsteps N|steps N\n"

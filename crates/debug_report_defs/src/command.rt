@@ -11,4 +11,10 @@ pub enum DebugCommand {
         /// The most steps, up to 100,000.
         limit: u32,
     },
+    /// `steps N`: links object text and executes up to so many instructions of its linked memory from the entry; each is
+    /// shown by a line with all that it changed.
+    Steps {
+        /// The most instructions, up to 10,000,000.
+        limit: u32,
+    },
 }

@@ -6,7 +6,8 @@ use Rattle.gpl_list_defs.specs.Listing.{listing_of, listing_report}
 use Rattle.bench_commands.proofs.Ends.{run_of, by_unread}
 use Rattle.debug_commands.specs.Debug.{debug_input}
 use Rattle.debug_commands.specs.Gsteps.{EndsSteps}
-use Rattle.debug_commands.proofs.Ends.{no_usage, by_answered, by_steps}
+use Rattle.steps_command.specs.Ends.{EndsInstructions}
+use Rattle.debug_commands.proofs.Ends.{no_usage, by_answered, by_steps, by_instructions}
 use Rattle.debug_commands.proofs.running.run_debug_command.Goals as goal
 
 pub returns-in-Err : goal.returns-in-Err
@@ -41,3 +42,13 @@ returns-in-Gsteps g c =
     let o : Outputs = record { out = out c.args.out.now; out' = out new.out; err = err c.args.err.now; err' = err new.err } in
     let steps = subst (λ (bytes : List ℕ). EndsSteps c.in-Gsteps.limit bytes o c.gsteps.result) c.as_slice-input.ensures.value c.gsteps.ensures in
     by_steps c.in-Gsteps.limit (source c.args.input.now) (source c.read_all.new.source) o c.in-Ok.bytes.items c.in-Ok.ensures.ok c.gsteps.result steps
+
+pub returns-in-Steps : goal.returns-in-Steps
+returns-in-Steps g c =
+    let source = g.S.Source.state in
+    let out = g.O.Sink.state in
+    let err = g.E.Sink.state in
+    let new = c.steps.new in
+    let o : Outputs = record { out = out c.args.out.now; out' = out new.out; err = err c.args.err.now; err' = err new.err } in
+    let ends = subst (λ (bytes : List ℕ). EndsInstructions c.in-Steps.limit bytes o c.steps.result) c.as_slice-input.ensures.value c.steps.ensures in
+    by_instructions c.in-Steps.limit (source c.args.input.now) (source c.read_all.new.source) o c.in-Ok.bytes.items c.in-Ok.ensures.ok c.steps.result ends
