@@ -37,6 +37,8 @@ mod run;
 #[cfg(test)]
 mod statuses;
 #[cfg(test)]
+mod steps;
+#[cfg(test)]
 mod tables;
 #[cfg(test)]
 mod trace;
