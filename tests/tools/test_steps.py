@@ -13,7 +13,7 @@ CELLS, VIDEO, REGISTERS, END = 0x8300, 0x10000, 0x14000, 0x14011
 FIRST_GROM = 0x6000
 # An instruction, and how many bytes it has.
 SIZES = [('INC @>8300', 2), ('ST @>8301,>20', 3), ('RAND 9', 2), ('DST @>8302,>1234', 4), ('ALL >20', 2),
-         ('ADD @>8300,@>8301', 3), ('BACK >17', 2), ('ST V@>0000,@>8300', 5)]
+         ('ADD @>8300,@>8301', 3), ('BACK >17', 2), ('ST V@>0000,@>8300', 4)]
 
 
 def data_of(page):
@@ -82,6 +82,37 @@ class Steps(Calling):
             self.assertEqual(placed[:len(wanted)], wanted)
             self.assertEqual({name: value for name, value, _ in data['names']}, names)
             self.assertEqual([text for text, _, _ in data['lines']][:len(rows)], rows)
+
+    def test_each_state_of_the_processor_is_the_one_that_exec_writes(self):
+        objects = (TOP / 'examples/instructions/input').read_bytes()
+        self.file('a.obj', objects)
+        data = data_of(self.call('steps', '--exec', 'a.obj', '40').stdout)
+        befores = [(at, wp, st) for at, _, wp, st, *_ in data['steps']]
+        memory = bytearray(END)
+        apply(memory, data['first'])
+        for number, (step, before) in enumerate(zip(data['steps'], befores)):
+            report = self.program.run('exec', str(number), given=objects).out.decode()
+            state, shown = dump(report), re.search('PC >(....) WP >(....) ST >(....)', report)
+            self.assertEqual(memory[CELLS:CELLS + 0x100], state.pad)
+            self.assertEqual(memory[VIDEO:REGISTERS], state.vdp)
+            self.assertEqual(before, tuple(int(digits, 16) for digits in shown.groups()))
+            apply(memory, step[4:])
+        self.assertEqual((len(data['steps']), data['end']), (40, 'Cut off after 40 instructions, the limit.'))
+
+    def test_how_a_run_of_the_processor_ended_is_said(self):
+        for words, end, stopped in (
+                (b'BC060B8800', 'Stopped at a word access to the port >8800 after 0 instructions.', True),
+                (b'B0340', 'Stopped at a word that is not executed, at >A000 after 0 instructions.', True),
+                (b'B10FF', 'Ended at JMP $ after 1 instruction.', False)):
+            self.file('a.obj', b'00004        A0000' + words + b'20000F\n:\n')
+            data = data_of(self.call('steps', '--exec', 'a.obj').stdout)
+            self.assertEqual((data['end'], data['stopped']), (end, stopped))
+
+    def test_refused_object_text_is_reported(self):
+        self.file('a.obj', b'0')
+        ended = self.call('steps', '--exec', 'a.obj')
+        self.assertEqual((ended.returncode, ended.stdout), (1, b''))
+        self.assertTrue(ended.stderr.startswith(b'a.obj:1: short field\n'))
 
     def test_how_a_run_ended_is_said(self):
         for source, words, end, stopped in (

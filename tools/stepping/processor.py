@@ -111,11 +111,6 @@ def ending(rest, steps, cut):
     return ' '.join(filter(None, [ENDS[how], address, f'after {made}.'])), how != 'self jump'
 
 
-def bytes_in(listed):
-    """The bytes of linked memory by their addresses."""
-    return {at + offset: byte for at, word in words(listed).items() for offset, byte in enumerate(word.to_bytes(2, 'big'))}
-
-
 def run_of(debugger, objects, listed, limit, seconds):
     """The run of object text that the program accepts and whose linked memory is listed, up to a number of
     instructions."""
