@@ -1,14 +1,17 @@
 //! The calls of a builder.
 
-ghost use Rattle.std.specs.Prelude.{◌≡◌, ◌↔◌, ◌<◌, ◌-◌, ◌^◌, ℕ, false, List, [], length, IsFalse};
+ghost use Rattle.std.specs.Prelude.{◌≡◌, ◌↔◌, ◌<◌, ◌≤◌, ◌-◌, ◌^◌, ℕ, false, List, [], length, IsFalse};
 ghost use Rattle.std.specs.List.{AllByRecursion};
 ghost use Rattle.source_defs.specs.Layout.{has_ended};
+ghost use Rattle.asm_defs.specs.Locations.{location};
+ghost use Rattle.asm_defs.specs.FirstChecks.{names};
 ghost use Rattle.asm_defs.specs.Modules.{module_of_lines, module_of_source, title};
 ghost use Rattle.asm_core.specs.Building.{HasTaken, IsOpen, CanCount};
 ghost use Rattle.asm_core.specs.Finishing.{TakesText, GivesModule};
 ghost use Rattle.source_defs.specs.EndedLines.{IsOneLine, text_of};
 
 use crate::error::AsmError;
+use crate::finished::Finished;
 use crate::lines::AsmLines;
 use asm_defs::{Location, Part};
 use asm_text::Symbols;
@@ -69,6 +72,28 @@ impl AsmLines {
         ensures count { (result < 2 ^ 32 - 1) ↔ CanCount self.now }
     {
         self.taken
+    }
+
+    /// The location at which the next line is placed.
+    pub fn location(&self) -> Location
+        ensures place { (texts : List (List ℕ)) → (taken : HasTaken texts self.now) → result ≡ location taken.lines }
+        ensures within { result.number ≤ 65536 }
+    {
+        self.location
+    }
+
+    /// The module of the lines that were taken, as [`AsmLines::finish`] gives it, and what their names stand for.
+    pub fn finish_with_names(mut self) -> Finished
+        ensures module { (texts : List (List ℕ)) → HasTaken texts self →
+            GivesModule result.module (module_of_lines texts) }
+        ensures names { (texts : List (List ℕ)) → (taken : HasTaken texts self) →
+            result.names ≡ names taken.lines }
+    {
+        let module = self.module();
+        Finished {
+            module,
+            names: self.symbols,
+        }
     }
 
     /// The module of the lines that were taken, which is that of their text: each line with a carriage return and a

@@ -29,7 +29,8 @@ use std::alloc::{AllocError, Global};
 impl AsmLines {
     /// The module of the lines, or the first that the second checks refuse. The lines are given up.
     pub(crate) fn module(&mut self) -> Result<Module, AsmError>
-        ensures { (lines : List Line) → IsBehind lines self.old → GivesModule result (module_behind lines) }
+        ensures gives { (lines : List Line) → IsBehind lines self.old → GivesModule result (module_behind lines) }
+        ensures names { self.new.symbols ≡ self.old.symbols }
     {
         let mut output = self.output()?;
         self.resolve_all(&mut output)?;

@@ -7,6 +7,7 @@ mod define;
 mod emit;
 mod error;
 mod finish;
+mod finished;
 mod first_pass;
 mod keep;
 mod laws;
@@ -18,6 +19,7 @@ mod source;
 mod take;
 
 pub use crate::error::AsmError;
+pub use crate::finished::Finished;
 pub use crate::laws::modules_have_texts;
 pub use crate::lines::AsmLines;
 pub use crate::source::assemble;

@@ -1,6 +1,6 @@
 -- Lines of a file that are taken one after the other.
 use Rattle.std.proofs.Common.{◌≡◌, ℕ, ◌+◌, ◌*◌, ◌≤◌, List, [], ◌∷◌, ◌++◌, Some, None, length, refl, sym, ap, ◌∙◌, subst, arith}
-use Rattle.std.specs.Prelude.{Option}
+use Rattle.std.specs.Prelude.{Option, is_some}
 use Rattle.shelf_defs.specs.CopyLines.{Asked, Itself, asked}
 use Rattle.shelf_defs.specs.Files.{Contents}
 use Rattle.shelf_defs.specs.Copied.{Place, Copied, copy_line, lines_in, own_line, asked_line, one_line, most_bytes, most_copies}
@@ -16,10 +16,11 @@ use Rattle.source_defs.specs.declared.text.Line.{Line as TextLine}
 use Rattle.source_defs.specs.Lines.{lines, part}
 use Rattle.source_defs.proofs.LaidLaws.{texts_of}
 use Rattle.shelf_defs.specs.Questions.{Question, Agrees}
-use Rattle.bench_shelf.specs.Leading.{Leads, IsHeld, HasRoom, Grows, count, AllGiven, EndsBy, Asking, Copies}
+use Rattle.bench_shelf.specs.Leading.{Leads, Stops, IsHeld, HasRoom, Grows, count, AllGiven, EndsBy, Asking, Copies}
 use Rattle.bench_shelf.specs.Causes.{Later, TookNoMore}
 use Rattle.bench_shelf.proofs.CountLaws.{few_lines}
 use Rattle.bench_shelf.proofs.LeadingLaws.{leads_none, leads_then, leads_ended, leads_refused}
+use Rattle.bench_shelf.proofs.StoppingLaws.{stops_then, stops_refused}
 use Rattle.bench_shelf.proofs.AskingLaws.{agrees_front, agrees_back, all_given, asking_none, asking_then, ends_then}
 
 abbrev pub Numbered : Type 0
@@ -34,13 +35,14 @@ line_by levels place copies text contents = one_line (copy_line contents levels)
 
 -- a line that stands for itself asks for no file, and leads to what it leads to as any line
 pub own_copies : (levels : ℕ) (s : ShelfState) (old new : Copying) (place : Place) (text : List ℕ) (error : Option CopyError) → asked text ≡ Itself
-    → new.copies ≡ old.copies → EndsBy error [] → Leads old (own_line place old.copies text) error new
+    → new.copies ≡ old.copies → EndsBy error [] → Leads old (own_line place old.copies text) error new → Stops old (own_line place old.copies text) error new
     → Copies old new (line_by levels place old.copies text) error s s
-own_copies levels s old new place text error own same ends leads = record {
+own_copies levels s old new place text error own same ends leads stops = record {
   questions = [];
   asking = asking_none old new (line_by levels place old.copies text) s same;
   ends = ends;
   leads = λ contents agrees. subst (λ request. Leads old (asked_line (copy_line contents levels) request place old.copies text) error new) (sym own) leads;
+  stops = λ contents agrees. subst (λ request. Stops old (asked_line (copy_line contents levels) request place old.copies text) error new) (sym own) stops;
 }
 
 -- what a line comes to by what it asks for
@@ -57,10 +59,11 @@ no_fault at failure.Memory = tt
 -- such a line is refused
 pub own_refuses : (levels : ℕ) (s : ShelfState) (old new : Copying) (place : Place) (text : List ℕ) (at : KeptPlace) (failure : Failure) (error : CopyError)
     → failed_at at failure ≡ error → asked text ≡ Itself → new.copies ≡ old.copies → Leads old (own_line place old.copies text) (Some (failed_at at failure)) new
+    → Stops old (own_line place old.copies text) (Some (failed_at at failure)) new
     → Copies old new (line_by levels place old.copies text) (Some error) s s
-own_refuses levels s old new place text at failure error is own same leads =
+own_refuses levels s old new place text at failure error is own same leads stops =
     subst (λ error. Copies old new (line_by levels place old.copies text) (Some error) s s) is
-    (own_copies levels s old new place text (Some (failed_at at failure)) own same (no_fault at failure) leads)
+    (own_copies levels s old new place text (Some (failed_at at failure)) own same (no_fault at failure) leads stops)
 
 -- lines were taken, so that what the lines that are left lead to, all lines lead to
 pub record Follows (levels : ℕ) (file : Option (List ℕ)) (old : Copying) (all : Numbered) (now : Copying) (left : Numbered) (a b : ShelfState)
@@ -70,6 +73,8 @@ pub record Follows (levels : ℕ) (file : Option (List ℕ)) (old : Copying) (al
   pub given : AllGiven questions
   pub leads : (contents : Contents) → Agrees most_bytes contents old.copies questions → (error : Option CopyError) (last : Copying)
       → Leads now (lines_by levels file now.copies left contents) error last → Leads old (lines_by levels file old.copies all contents) error last
+  pub stops : (contents : Contents) → Agrees most_bytes contents old.copies questions → (error : Option CopyError) (last : Copying)
+      → Stops now (lines_by levels file now.copies left contents) error last → Stops old (lines_by levels file old.copies all contents) error last
 
 -- the place of a line
 abbrev pub line_place : Option (List ℕ) → ℕ → Place
@@ -82,6 +87,7 @@ module _ (levels : ℕ) (file : Option (List ℕ)) (a b : ShelfState) where
     asking = asking_none old old (lines_by levels file old.copies all) a refl;
     given = tt;
     leads = λ contents agrees error last leads. leads;
+    stops = λ contents agrees error last stops. stops;
   }))
 
   -- none is left
@@ -93,6 +99,7 @@ module _ (levels : ℕ) (file : Option (List ℕ)) (a b : ShelfState) where
     ends = follows.given;
     leads = λ contents agrees. follows.leads contents agrees None now
         (subst (λ lines. Leads now (lines_by levels file now.copies lines contents) None now) (sym none) (leads_none now going));
+    stops = λ contents agrees. tt;
   }
 
   module _ (old now mid : Copying) (all rest left : Numbered) (number : ℕ) (text : List ℕ) (first : left ≡ (number, text) ∷ rest)
@@ -107,6 +114,11 @@ module _ (levels : ℕ) (file : Option (List ℕ)) (a b : ShelfState) where
         → Leads now (lines_by levels file now.copies ((number, text) ∷ rest) contents) error last → Leads old (lines_by levels file old.copies all contents) error last
     from_first contents agrees error last leads =
         follows.leads contents agrees error last (subst (λ lines. Leads now (lines_by levels file now.copies lines contents) error last) (sym first) leads)
+
+    stops_first : (contents : Contents) → Agrees most_bytes contents old.copies follows.questions → (error : Option CopyError) (last : Copying)
+        → Stops now (lines_by levels file now.copies ((number, text) ∷ rest) contents) error last → Stops old (lines_by levels file old.copies all contents) error last
+    stops_first contents agrees error last stops =
+        follows.stops contents agrees error last (subst (λ lines. Stops now (lines_by levels file now.copies lines contents) error last) (sym first) stops)
 
     -- what is asked by the next line
     asking : (questions : List Question) → Asking now mid line questions b c → Asking old mid (lines_by levels file old.copies all) (follows.questions ++ questions) a c
@@ -127,6 +139,9 @@ module _ (levels : ℕ) (file : Option (List ℕ)) (a b : ShelfState) where
       leads = λ contents agrees error last more.
           from_first contents (agrees_front most_bytes contents old.copies follows.questions one.questions agrees) error last
           (leads_then now mid last (line contents) (next contents) error going (one.leads contents (line_agrees contents one.questions agrees)) more);
+      stops = λ contents agrees error last more.
+          stops_first contents (agrees_front most_bytes contents old.copies follows.questions one.questions agrees) error last
+          (stops_then now mid last (line contents) (next contents) error going (one.leads contents (line_agrees contents one.questions agrees)) more);
     }
 
     pub follows_end : (IsOpen mid.builder → ⊥) → Copies now mid line None b c → Copies old mid (lines_by levels file old.copies all) None a c
@@ -137,6 +152,7 @@ module _ (levels : ℕ) (file : Option (List ℕ)) (a b : ShelfState) where
       leads = λ contents agrees.
           from_first contents (agrees_front most_bytes contents old.copies follows.questions one.questions agrees) None mid
           (leads_ended now mid (line contents) (next contents) closed (one.leads contents (line_agrees contents one.questions agrees)));
+      stops = λ contents agrees. tt;
     }
 
     pub follows_refused : (error : CopyError) → Copies now mid line (Some error) b c → Copies old mid (lines_by levels file old.copies all) (Some error) a c
@@ -147,6 +163,9 @@ module _ (levels : ℕ) (file : Option (List ℕ)) (a b : ShelfState) where
       leads = λ contents agrees.
           from_first contents (agrees_front most_bytes contents old.copies follows.questions one.questions agrees) (Some error) mid
           (leads_refused now mid mid (line contents) (next contents) error (one.leads contents (line_agrees contents one.questions agrees)));
+      stops = λ contents agrees.
+          stops_first contents (agrees_front most_bytes contents old.copies follows.questions one.questions agrees) (Some error) mid
+          (stops_refused now mid (line contents) (next contents) error (one.stops contents (line_agrees contents one.questions agrees)));
     }
 
 -- the text of the first of some lines, and those of the others
@@ -206,16 +225,18 @@ pub record TakesLine (levels : ℕ) (place : Place) (text : List ℕ) (now mid :
   pub copies : Copies now mid (line_by levels place now.copies text) None b c
   pub later : Later b c
   pub most : mid.copies ≤ most_copies
+  pub same : is_some mid.kept ≡ is_some now.kept
   pub grows : Grows 1 now mid
   pub within : TookNoMore most_bytes b c
 
 pub own_takes : (levels : ℕ) (place : Place) (text : List ℕ) (now mid : Copying) (b : ShelfState) → asked text ≡ Itself
     → Leads now (own_line place now.copies text) None mid → Grows 1 now mid → mid.copies ≡ now.copies → now.copies ≤ most_copies
-    → TakesLine levels place text now mid b b
-own_takes levels place text now mid b own leads grows copies few = record {
-  copies = own_copies levels b now mid place text None own copies tt leads;
+    → is_some mid.kept ≡ is_some now.kept → TakesLine levels place text now mid b b
+own_takes levels place text now mid b own leads grows copies few same = record {
+  copies = own_copies levels b now mid place text None own copies tt leads tt;
   later = later_first b;
   most = omega (arith, copies, few);
+  same = same;
   grows = grows;
   within = omega arith;
 }

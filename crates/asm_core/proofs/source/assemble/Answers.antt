@@ -82,7 +82,7 @@ returns c =
       | in-None w ↦
           let whole : Ok before ≡ laid check (line_texts text) = ap (left_from text before) (sym w.in-None.ensures.steps.0) ∙ i.5 in
           subst (GivesModule c.module.result) (ap (λ answer. answer >>= module_behind) whole)
-          (c.module.ensures before (subst (IsBehind before) (sym w.builder-is) i.1))
+          (c.module.ensures.gives before (subst (IsBehind before) (sym w.builder-is) i.1))
       | in-Some+in_ok-take+then-builder w ↦
           let line = w.in-Some.line in
           let next = c.next.new.self in
@@ -94,5 +94,5 @@ returns c =
           let whole : Ok (taken.0 ∷ before) ≡ laid check (line_texts text) =
           sym (ends_there text before line next numbered.0 taken.0 taken.1 last) ∙ (ap (left_from text before) (sym steps) ∙ i.5) in
           subst (GivesModule c.module.result) (ap (λ answer. answer >>= module_behind) whole)
-          (c.module.ensures (taken.0 ∷ before) (subst (IsBehind (taken.0 ∷ before)) (sym w.builder-is) taken.2))
+          (c.module.ensures.gives (taken.0 ∷ before) (subst (IsBehind (taken.0 ∷ before)) (sym w.builder-is) taken.2))
     ]

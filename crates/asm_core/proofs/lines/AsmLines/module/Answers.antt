@@ -8,22 +8,22 @@ use Rattle.asm_core.specs.Resolving.{IsOutput}
 use Rattle.asm_core.proofs.EndLaws.{ends_refused, ends_stopped, ends_going}
 use Rattle.asm_core.proofs.lines.AsmLines.module.Goals as goal
 
-pub returns-in_err-resolve_all : goal.returns-in_err-resolve_all
-returns-in_err-resolve_all c = λ lines is.
+pub returns-in_err-resolve_all-clause-gives : goal.returns-in_err-resolve_all-clause-gives
+returns-in_err-resolve_all-clause-gives c = λ lines is.
     let result = c.from_residual-in_err-resolve_all in
     let p = err_from_is_err_and result.result result.ensures.1 in
     rw (p.1, p.2) (ends_refused lines c.args.self.now c.output.new.self is c.output.ensures.same c.in_err-resolve_all.field-0.0
     (c.in_err-resolve_all.ensures {u = tt} (map unused c.args.self.now.refs.items)))
 
-pub returns-in-Some : goal.returns-in-Some
-returns-in-Some c = λ lines is.
+pub returns-in-Some-clause-gives : goal.returns-in-Some-clause-gives
+returns-in-Some-clause-gives c = λ lines is.
     let none = map unused (refs lines) in
     ends_stopped lines c.args.self.now c.output.new.self is c.output.ensures.same none c.in_ok-output.output c.resolve_all.new.output
     (c.in_ok-resolve_all.ensures {u = tt} none)
     c.in-Some.refused c.in-Some.is c.stopped.result c.stopped.ensures
 
-pub returns : goal.returns
-returns c = λ lines is.
+pub returns-clause-gives : goal.returns-clause-gives
+returns-clause-gives c = λ lines is.
     let none = map unused (refs lines) in
     ends_going lines c.args.self.now c.output.new.self is c.output.ensures.same none c.in_ok-output.output c.resolve_all.new.output
     (c.in_ok-resolve_all.ensures {u = tt} none)

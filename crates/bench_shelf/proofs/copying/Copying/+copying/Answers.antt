@@ -8,6 +8,7 @@ use Rattle.shelf_defs.specs.Copied.{most_bytes}
 use Rattle.bench_shelf.specs.declared.copy_error.CopyCause.TheVariants as cause
 use Rattle.bench_shelf.specs.Leading.{Copies}
 use Rattle.bench_shelf.specs.CopyAnswers.{defined_place, failed_at, place_in}
+use Rattle.bench_shelf.proofs.CountLaws.{file_room}
 use Rattle.bench_shelf.proofs.FileLaws.{refuses_none, deep_copies, many_copies, copies_unread, copies_read}
 use Rattle.bench_shelf.proofs.SinceLaws.{causes_since, each_since}
 use Rattle.bench_shelf.proofs.Keeping.{within_then}
@@ -19,12 +20,12 @@ use Rattle.bench_shelf.proofs.copying.Copying.+copying.Goals.{copy_lines-After-i
 pub copy_asked-returns-in-Ok-clause-copies : goal.copy_asked-returns-in-Ok-clause-copies
 copy_asked-returns-in-Ok-clause-copies g t c =
     own_copies c.args.levels _ c.args.self.now c.take.new.self (defined_place c.args.place) c.args.text.now None (sym c.in-Itself.ensures) c.take.ensures.copies tt
-    c.in-Ok.ensures.leads
+    c.in-Ok.ensures.leads tt
 
 pub copy_asked-returns-in-Err-clause-copies : goal.copy_asked-returns-in-Err-clause-copies
 copy_asked-returns-in-Err-clause-copies g t c =
     own_refuses c.args.levels _ c.args.self.now c.take.new.self (defined_place c.args.place) c.args.text.now c.args.place c.in-Err.failure c.failed.result
-    (sym c.failed.ensures) (sym c.in-Itself.ensures) c.take.ensures.copies c.in-Err.ensures.leads
+    (sym c.failed.ensures) (sym c.in-Itself.ensures) c.take.ensures.copies c.in-Err.ensures.leads c.in-Err.ensures.stops
 
 pub copy_asked-returns-in-File-clause-copies : goal.copy_asked-returns-in-File-clause-copies
 copy_asked-returns-in-File-clause-copies g t c =
@@ -49,13 +50,13 @@ pub copy_file-returns-in-Err-clause-copies : goal.copy_file-returns-in-Err-claus
 copy_file-returns-in-Err-clause-copies g t c =
     let some : 0 < c.args.levels = omega (arith, c.if-levels-eq0.false) in
     copies_unread c.args.self.now c.args.levels c.args.place c.args.name some _ c.if-self-ge-MOST_COPIES.false _ _ c.in-Err.error refl
-    c.in-Err.ensures.refused c.in-Err.ensures.place
+    c.in-Err.ensures.refused c.in-Err.ensures.place (λ done holds. record { taken = holds.taken; places = holds.places; kept = holds.kept })
 
 pub copy_file-returns-clause-copies : goal.copy_file-returns-clause-copies
 copy_file-returns-clause-copies g t c =
     let some : 0 < c.args.levels = omega (arith, c.if-levels-eq0.false) in
     copies_read c.args.self.now c.args.levels c.args.place c.args.name some _ c.if-self-ge-MOST_COPIES.false _ c.copy_lines.new.self _ _ c.in-Ok.bytes.items refl
-    c.in-Ok.ensures.given c.in-Ok.ensures.size (λ done holds. record { taken = holds.taken; places = holds.places }) _ _
+    c.in-Ok.ensures.given c.in-Ok.ensures.size (λ done holds. record { taken = holds.taken; places = holds.places; kept = holds.kept }) _ _
     c.as_slice.ensures.value c.copy_lines.ensures.copies
 
 pub copy_file-returns-clause-causes : goal.copy_file-returns-clause-causes
@@ -74,6 +75,7 @@ copy_lines-loop-line-init g t c =
       going = c.requires.going;
       later = later_first _;
       most = c.requires.room.copies;
+      same = refl;
       counts = counts_first text old _ c.requires.room all;
       inside = subst (LinesLieInside text) (sym gives) c.lines-line-items.ensures.inside;
       follows = follows_first c.args.levels c.args.file.now _ _ old (line_texts text) _ (ap (texts_of text) all) refl;
@@ -126,13 +128,14 @@ taken_line g t c =
       | copy_lines-then-copies_nothing+in-Ok w ↦
           takes_as c.args.levels place place own now mid w.take.new.self _ _ _ refl w.self-is (ap state w.shelf-is)
           (own_takes c.args.levels place own now w.take.new.self _ (w.if-copies_nothing.ensures refl) w.in-Ok.ensures.leads w.in-Ok.ensures.grows
-          w.take.ensures.copies i.most)
+          w.take.ensures.copies i.most w.take.ensures.same)
       | copy_lines-else-copies_nothing+in-Ok-copy_asked w ↦
           takes_as c.args.levels place _ own now mid w.copy_asked.new.self _ _ _ (ap defined_place w.place_in-else-copies_nothing.ensures) w.self-is
           (ap state w.shelf-is) (record {
             copies = w.in-Ok-copy_asked.ensures.copies;
             later = w.copy_asked.ensures.later;
             most = w.copy_asked.ensures.most;
+            same = w.copy_asked.ensures.same;
             grows = w.in-Ok-copy_asked.ensures.grows;
             within = w.in-Ok-copy_asked.ensures.within;
           })
@@ -177,6 +180,7 @@ copy_lines-loop-line-preserved g t c =
       going = going;
       later = later_then _ _ _ i.later taken.later;
       most = taken.most;
+      same = taken.same ∙ i.same;
       counts = counts_more _ _ _ _ _ _ _ i.counts c.in-Some.ensures.steps taken.grows;
       inside = inside.1;
       follows = follows_more c.args.levels c.args.file.now _ _ c.args.self.now c.loop-line.self c.if-copies_nothing.self (line_texts text) (texts_of text next) _
@@ -199,4 +203,18 @@ copy_lines-returns-in-Err-clause-copies g t c =
     _ c.failed.result (own_refuses c.args.levels _ now c.take.new.self (line_place c.args.file.now line.number) own
     (place_in c.args.file.now line.number) after.in-Err.failure c.failed.result
     (sym (after.failed.ensures ∙ ap (λ at. failed_at at after.in-Err.failure) after.place_in.ensures)) (after.if-copies_nothing.ensures refl)
-    c.take.ensures.copies after.in-Err.ensures.leads)
+    c.take.ensures.copies after.in-Err.ensures.leads after.in-Err.ensures.stops)
+
+pub copy_file-copy_lines-requires : goal.copy_file-copy_lines-requires
+copy_file-copy_lines-requires g t c κs lives =
+    let old = c.args.self.now in (
+      omega (arith, c.if-levels-eq0.false),
+      (
+        λ a found. lives a found,
+        (
+          c.requires.going,
+          file_room old.alloc old.builder old.runs old.kept old.copies c.in-Ok.bytes.items c.as_slice.result.now c.requires.room
+              c.if-self-ge-MOST_COPIES.false c.as_slice.ensures.value c.in-Ok.ensures.size,
+        ),
+      ),
+    )

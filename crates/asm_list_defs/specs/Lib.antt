@@ -1,0 +1,4 @@
+pub mod Listed
+pub mod Rows
+pub mod ByText
+pub mod Laws
