@@ -1,5 +1,5 @@
 -- Writes to a sink, one after the other.
-use Rattle.std.proofs.Common.{◌≡◌, ℕ, ◌+◌, ◌≤◌, List, [], ◌∷◌, ◌++◌, length, take, Option, Some, None, Result, Ok, Err, refl, sym, ap, ◌∙◌, append_assoc}
+use Rattle.std.proofs.Common.{◌≡◌, ℕ, ◌≤◌, List, [], ◌∷◌, ◌++◌, take, Option, Some, None, Result, Ok, Err, refl, sym, ap, ◌∙◌, append_assoc}
 use Rattle.std.proofs.Common.{append-nil, length-append, arith}
 use Rattle.std.specs.Prelude.{OnOk, OnErr}
 use Rattle.std.specs.Option.{option_map}
@@ -8,7 +8,6 @@ use Rattle.std.proofs.lemmas.List.Folds.{concat-append}
 use Rattle.count_defs.specs.Counts.{raised, Rose}
 use Rattle.bench_io.specs.Stream.{SinkState, Grew, GrewByPrefix}
 use Rattle.bench_io.specs.Written.{Wrote, Missed, Written}
-use Rattle.bench_io.proofs.Taking.{raised-raised, raised-zero}
 
 grew_none : (a : Option (List ℕ)) → Grew a a []
 grew_none None = refl
@@ -20,14 +19,13 @@ grew_more (Some held) b c x y h k = k ∙ (ap (option_map (λ held. held ++ y)) 
 
 -- no piece is written by no call
 pub wrote_none : (a : SinkState) → Wrote a a []
-wrote_none a = record { held = grew_none a.held; puts = sym (raised-zero a.puts); faults = omega arith }
+wrote_none a = record { held = grew_none a.held; puts = omega arith; faults = omega arith }
 
 -- more pieces are written behind others
 pub wrote_more : (a b c : SinkState) (xs ys : List (List ℕ)) → Wrote a b xs → Wrote b c ys → Wrote a c (xs ++ ys)
 wrote_more a b c xs ys p q = record {
   held = rw concat-append (grew_more a.held b.held c.held (concat xs) (concat ys) p.held q.held);
-  puts = q.puts ∙ (ap (λ n. raised n (length ys)) p.puts ∙ (raised-raised a.puts (length xs) (length ys)
-      ∙ ap (raised a.puts) (sym (length-append xs ys))));
+  puts = omega (arith, length-append xs ys, p.puts, q.puts);
   faults = omega (arith, p.faults, q.faults);
 }
 
@@ -43,9 +41,7 @@ missed_more a b c xs ys p q = record {
     rw (concat-append, append_assoc)
         (grew_more a.held b.held c.held (concat xs) (concat q.done ++ take q.held.0 q.piece) p.held q.held.1),
   );
-  puts = q.puts ∙ (ap (λ n. raised n (length q.done + 1)) p.puts
-      ∙ (raised-raised a.puts (length xs) (length q.done + 1)
-      ∙ ap (raised a.puts) (omega (arith, length-append xs q.done))));
+  puts = omega (arith, length-append xs q.done, p.puts, q.puts);
   rose = λ top. omega (arith, p.faults, q.rose top);
 }
 
@@ -66,15 +62,7 @@ pub wrote_one : (a b : SinkState) (x : List ℕ) → Grew a.held b.held x → b.
 wrote_one a b x held puts faults = record { held = rw append-nil held; puts = puts; faults = faults }
 
 pub missed_one : (a b : SinkState) (x : List ℕ) → GrewByPrefix a.held b.held x → b.puts ≡ raised a.puts 1 → Rose a.faults b.faults → Missed a b (x ∷ [])
-missed_one a b x held puts rose = record {
-  done = [];
-  piece = x;
-  left = [];
-  are = refl;
-  held = held;
-  puts = puts;
-  rose = rose;
-}
+missed_one a b x held puts rose = record { done = []; piece = x; left = []; are = refl; held = held; puts = puts; rose = rose }
 
 -- what comes of pieces that are written behind others
 pub written_more : {T E : Type 0} (r : Result T E) (a b c : SinkState) (xs ys : List (List ℕ)) → Wrote a b xs → Written r b c ys → Written r a c (xs ++ ys)

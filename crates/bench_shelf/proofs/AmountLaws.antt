@@ -1,7 +1,7 @@
 -- How much is taken of the files that are asked for.
 use Rattle.std.proofs.Common.{◌≡◌, ◌≤◌, ℕ, ◌+◌, ◌-◌, ◌*◌, List, [], ◌∷◌, ◌++◌, length, subst, arith, mul-suc, mul-le-mul_left}
 use Rattle.count_defs.specs.Counts.{raised}
-use Rattle.shelf_defs.specs.Questions.{Answer, Bytes, NoFile, OverLimit, Unanswered, Question}
+use Rattle.shelf_defs.specs.Questions.{Answer, Bytes, Question}
 use Rattle.shelf_defs.specs.Amounts.{IsTaken, AreTaken}
 use Rattle.bench_shelf.specs.States.{ShelfState}
 use Rattle.bench_shelf.specs.Dialogue.{Dialogue}
@@ -26,9 +26,7 @@ taken_then limit (x ∷ xs) ys a b c d (n, m, one, few, less, rest) others =
 -- of one file no more is taken than one byte past the limit
 one_most : (limit : ℕ) (answer : Answer) (bytes empty : ℕ) → IsTaken limit answer bytes empty → bytes ≤ limit + 1
 one_most limit (Bytes all) bytes empty taken = omega (arith, taken.1)
-one_most limit NoFile bytes empty taken = omega (arith, taken.0)
-one_most limit OverLimit bytes empty taken = omega (arith, taken.0)
-one_most limit Unanswered bytes empty taken = omega (arith, taken.0)
+one_most limit _ bytes empty taken = omega (arith, taken.0)
 
 taken_most : (limit : ℕ) (questions : List Question) (bytes empty : ℕ) → AreTaken limit questions bytes empty → bytes ≤ (limit + 1) * length questions
 taken_most limit [] bytes empty taken = omega (arith, taken.0)

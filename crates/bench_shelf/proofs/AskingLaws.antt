@@ -5,10 +5,10 @@ use Rattle.std.specs.Prelude.{Option, IfSome}
 use Rattle.std.specs.FinMap.{get}
 use Rattle.shelf_defs.specs.Files.{Files, Contents, of_files}
 use Rattle.shelf_defs.specs.Copied.{Copied, most_bytes}
-use Rattle.shelf_defs.specs.Questions.{names_of, Answer, Bytes, NoFile, OverLimit, Unanswered, Question, Fits, Agrees, MayFollow, InTurn}
+use Rattle.shelf_defs.specs.Questions.{names_of, Answer, Bytes, Question, Fits, Agrees, MayFollow, InTurn}
 use Rattle.bench_shelf.specs.declared.copying.Copying.{Copying}
 use Rattle.bench_shelf.specs.declared.copy_error.CopyError.{CopyError}
-use Rattle.bench_shelf.specs.declared.copy_error.CopyError.TheVariants.{At, TooLarge, Fault, Memory}
+use Rattle.bench_shelf.specs.declared.copy_error.CopyError.TheVariants.{At, Fault}
 use Rattle.bench_shelf.specs.declared.copy_error.CopyCause.TheVariants.{Missing}
 use Rattle.bench_shelf.specs.States.{ShelfState, asked_more}
 use Rattle.bench_shelf.specs.Causes.{ReadsOnce}
@@ -91,9 +91,7 @@ reads_then limit xs ys s t u first next =
     let all = length-append xs ys in
     record {
       files = next.files ∙ first.files;
-      asked = next.asked
-          ∙ (ap (λ others. asked_more others (names_of ys)) first.asked
-          ∙ (more_then s.asked (names_of xs) (names_of ys) ∙ ap (asked_more s.asked) (sym (map_append (λ question. question.name) xs ys))));
+      asked = rw (next.asked, first.asked, map_append (λ question. question.name) xs ys) (more_then s.asked (names_of xs) (names_of ys));
       opens = omega (arith, all, first.opens, next.opens);
       bytes = first.bytes + next.bytes;
       empty = first.empty + next.empty;
@@ -106,15 +104,11 @@ reads_then limit xs ys s t u first next =
 
 may_follow : (answer : Answer) (rest : List Question) → IsGiven answer → MayFollow answer rest
 may_follow (Bytes bytes) rest given = tt
-may_follow NoFile rest given = absurd given
-may_follow OverLimit rest given = absurd given
-may_follow Unanswered rest given = absurd given
+may_follow _ rest given = absurd given
 
 pub none_follow : (answer : Answer) → MayFollow answer []
 none_follow (Bytes bytes) = tt
-none_follow NoFile = refl
-none_follow OverLimit = refl
-none_follow Unanswered = refl
+none_follow _ = refl
 
 pub turns_then : (IsNext : List Question → Question → Type 0) (front xs ys : List Question) → InTurn IsNext front xs → AllGiven xs
     → InTurn IsNext (front ++ xs) ys → InTurn IsNext front (xs ++ ys)
@@ -165,11 +159,9 @@ module _ (old now : Copying) (whole line : Contents → Copied) (asked : List Qu
   }
 
 pub ends_then : (error : CopyError) (xs ys : List Question) → EndsBy (Some error) ys → EndsBy (Some error) (xs ++ ys)
-ends_then (At file line cause) xs ys ends = tt
-ends_then TooLarge xs ys ends = tt
 ends_then Fault xs ys ends =
     record { front = xs ++ ends.front; last = ends.last; are = ap (λ all. xs ++ all) ends.are ∙ sym (append_assoc xs ends.front (ends.last ∷ [])); is = ends.is }
-ends_then Memory xs ys ends = tt
+ends_then _ xs ys ends = tt
 
 -- nothing is asked
 pub asking_none : (old new : Copying) (whole : Contents → Copied) (s : ShelfState) → new.copies ≡ old.copies → Asking old new whole [] s s

@@ -1,5 +1,5 @@
 -- A COPY line.
-use Rattle.std.proofs.Common.{◌≡◌, ℕ, zero, suc, ◌+◌, ◌-◌, ◌<◌, ◌≤◌, Bool, true, false, List, [], ◌∷◌, ◌++◌, Some, None, Err, length, refl, sym, ap, ◌∙◌, subst, arith, append-nil}
+use Rattle.std.proofs.Common.{◌≡◌, ℕ, zero, suc, ◌+◌, ◌-◌, ◌<◌, ◌≤◌, true, false, List, [], ◌∷◌, ◌++◌, Some, None, Err, length, refl, sym, ap, ◌∙◌, subst, arith, append-nil}
 use Rattle.std.specs.Prelude.{Option, nat_lt, nat_le}
 use Rattle.std.proofs.lemmas.Bool.Decides.{nat_tests}
 use Rattle.source_defs.specs.Refusals.{◌>>=◌}
@@ -62,40 +62,23 @@ refuses_none old found place refusal kept error s same memory is refuses =
 
 module _ (contents : Contents) (place : spec.Place) (copies : ℕ) (name : List ℕ) where
   -- a COPY line that may be followed
-  copy_by : (many : Bool) (levels : ℕ) → nat_le most_copies copies ≡ many → many ≡ false
-      → copy_line contents (suc levels) place copies name ≡ copied_file (copy_line contents levels) place copies name (contents copies name)
-  copy_by many levels is few = rw (is ∙ few) refl
-
   pub copy_more : (levels : ℕ) → 0 < levels → copies < 64
       → copy_line contents levels place copies name ≡ copied_file (copy_line contents (levels - 1)) place copies name (contents copies name)
   copy_more zero some few = absurd (omega (arith, some))
   copy_more (suc levels) some few =
       let less : nat_le most_copies copies ≡ false = grind (arith, nat_tests, few) in
       let back : suc levels - 1 ≡ levels = omega arith in
-      copy_by (nat_le most_copies copies) levels refl less
-      ∙ ap (λ n. copied_file (copy_line contents n) place copies name (contents copies name)) (sym back)
-
-  copy_many : (many : Bool) (levels : ℕ) → nat_le most_copies copies ≡ many → many ≡ true
-      → copy_line contents (suc levels) place copies name ≡ refused copies (spec.At place spec.TooMany)
-  copy_many many levels is few = rw (is ∙ few) refl
+      rw (less, back) refl
 
   pub too_many : (levels : ℕ) → 0 < levels → 64 ≤ copies → copy_line contents levels place copies name ≡ refused copies (spec.At place spec.TooMany)
   too_many zero some few = absurd (omega (arith, some))
   too_many (suc levels) some few =
       let more : nat_le most_copies copies ≡ true = grind (arith, nat_tests, few) in
-      copy_many (nat_le most_copies copies) levels refl more
+      rw more refl
 
 module _ (old last : Copying) (contents : Contents) (levels : ℕ) (place : Place) (name : List ℕ) where
   abbrev found_by : Option (List ℕ) → Copied
   found_by found = copied_file (copy_line contents levels) (defined_place place) old.copies name found
-
-  too_large : (large : Bool) (bytes : List ℕ) → nat_lt most_bytes (length bytes) ≡ large → large ≡ true
-      → found_by (Some bytes) ≡ refused (old.copies + 1) spec.TooLarge
-  too_large large bytes is more = rw (is ∙ more) refl
-
-  not_large : (large : Bool) (bytes : List ℕ) → nat_lt most_bytes (length bytes) ≡ large → large ≡ false
-      → found_by (Some bytes) ≡ lines_in (copy_line contents levels) (Some name) (old.copies + 1) (line_texts bytes)
-  not_large large bytes is few = rw (is ∙ few) refl
 
   -- its file was not read
   pub leads_not_read : (error : CopyError) (answer : Option (List ℕ)) → IsOfFile place name error → Fits most_bytes (answer_by_copy error) answer
@@ -108,8 +91,7 @@ module _ (old last : Copying) (contents : Contents) (levels : ℕ) (place : Plac
   leads_not_read error.TooLarge answer is fits =
       let size : most_bytes < length fits.0 = fits.2 in
       let more : nat_lt most_bytes (length fits.0) ≡ true = grind (arith, nat_tests, size) in
-      let found : found_by answer ≡ refused (old.copies + 1) spec.TooLarge =
-      ap found_by fits.1 ∙ too_large (nat_lt most_bytes (length fits.0)) fits.0 refl more in
+      let found : found_by answer ≡ refused (old.copies + 1) spec.TooLarge = rw (fits.1, more) refl in
       subst (λ found. Leads old found (Some error.TooLarge) last) (sym found)
       (leads_refusal old last (old.copies + 1) spec.TooLarge error.TooLarge refl)
   leads_not_read error.Fault answer is fits = λ done holds. tt
@@ -124,8 +106,7 @@ module _ (old last : Copying) (contents : Contents) (levels : ℕ) (place : Plac
   stops_not_read error.TooLarge answer same is fits =
       let size : most_bytes < length fits.0 = fits.2 in
       let more : nat_lt most_bytes (length fits.0) ≡ true = grind (arith, nat_tests, size) in
-      let found : found_by answer ≡ refused (old.copies + 1) spec.TooLarge =
-      ap found_by fits.1 ∙ too_large (nat_lt most_bytes (length fits.0)) fits.0 refl more in
+      let found : found_by answer ≡ refused (old.copies + 1) spec.TooLarge = rw (fits.1, more) refl in
       subst (λ found. Stops old found (Some error.TooLarge) last) (sym found)
       (stops_refusal old last (old.copies + 1) spec.TooLarge error.TooLarge same)
   stops_not_read error.Fault answer same is fits = tt
@@ -138,8 +119,7 @@ module _ (old last : Copying) (contents : Contents) (levels : ℕ) (place : Plac
       → Leads old (found_by answer) trouble last
   leads_read mid bytes answer trouble reads size same copies leads done holds =
       let few : nat_lt most_bytes (length bytes) ≡ false = grind (arith, nat_tests, size) in
-      let found : found_by answer ≡ lines_in (copy_line contents levels) (Some name) (old.copies + 1) (line_texts bytes) =
-      ap found_by reads ∙ not_large (nat_lt most_bytes (length bytes)) bytes refl few in
+      let found : found_by answer ≡ lines_in (copy_line contents levels) (Some name) (old.copies + 1) (line_texts bytes) = rw (reads, few) refl in
       let more = subst (λ copies. LeadsTo trouble done (lines_in (copy_line contents levels) (Some name) copies (line_texts bytes)) last) copies
       (leads done (same done holds)) in
       subst (λ found. LeadsTo trouble done found last) (sym found) more
@@ -151,8 +131,7 @@ module _ (old last : Copying) (contents : Contents) (levels : ℕ) (place : Plac
   stops_read mid bytes answer None reads size same copies stops = tt
   stops_read mid bytes answer (Some error) reads size same copies stops =
       let few : nat_lt most_bytes (length bytes) ≡ false = grind (arith, nat_tests, size) in
-      let found : found_by answer ≡ lines_in (copy_line contents levels) (Some name) (old.copies + 1) (line_texts bytes) =
-      ap found_by reads ∙ not_large (nat_lt most_bytes (length bytes)) bytes refl few in
+      let found : found_by answer ≡ lines_in (copy_line contents levels) (Some name) (old.copies + 1) (line_texts bytes) = rw (reads, few) refl in
       where_told _ _ error (λ told done holds.
       subst (λ found. Stopped done found last) (sym found)
       (subst (λ copies. Stopped done (lines_in (copy_line contents levels) (Some name) copies (line_texts bytes)) last) copies (told done (same done holds)))) stops
@@ -202,10 +181,8 @@ module _ (old : Copying) (levels : ℕ) (place : Place) (name : List ℕ) (some 
     }
 
     unheard : (error : CopyError) → EndsBy (Some error) (question (answer_by_copy error) ∷ [])
-    unheard (error.At file line cause) = tt
-    unheard error.TooLarge = tt
     unheard error.Fault = record { front = []; last = question Unanswered; are = refl; is = refl }
-    unheard error.Memory = tt
+    unheard _ = tt
 
     -- its file was not read
     pub copies_unread : (last : Copying) (t : ShelfState) (error : CopyError) → last.copies ≡ old.copies + 1

@@ -1,7 +1,6 @@
 -- What opening a file of the current folder tells, as of any shelf.
-use Rattle.std.proofs.Common.{◌≡◌, ◌≤◌, ℕ, List, Result, Ok, Err, refl, ap, ◌∙◌, arith}
+use Rattle.std.proofs.Common.{◌≤◌, ℕ, List, Result, Ok, Err, refl, ap, arith}
 use Rattle.std.specs.Prelude.{⊤, IfErr, OnErr, OnOk}
-use Rattle.count_defs.specs.Counts.{raised}
 use Rattle.bench_shelf.specs.declared.error.OpenError.{OpenError}
 use Rattle.bench_shelf.specs.declared.error.OpenError.TheVariants.{Failed, Missing}
 use Rattle.bench_shelf.specs.Opening.{Refuses, SameCounts, StartsAnew}
@@ -15,20 +14,6 @@ pub nothing_left : {A E : Type 0} (r : Result A E) → OnErr r ⊤
 nothing_left (Ok value) = tt
 nothing_left (Err error) = tt
 
-same_counts : (before after f : Folder) → after ≡ f → f.calls ≡ before.calls → f.taken ≡ before.taken
-    → f.empty ≡ before.empty → SameCounts (untold before).source (untold after).source
-same_counts before after f is calls taken empty =
-    record {
-      calls = ap (λ (g : Folder). g.calls) is ∙ calls;
-      taken = ap (λ (g : Folder). g.taken) is ∙ taken;
-      empty = ap (λ (g : Folder). g.empty) is ∙ empty;
-    }
-
-anew : (name : List ℕ) (before after f : Folder) → after ≡ f → f.opens ≡ raised before.opens 1 → f.given ≡ 0
-    → f.largest ≡ before.largest → StartsAnew (untold before) (untold after) name
-anew name before after f is opens given largest =
-    record { asked = refl; opens = ap (λ (g : Folder). g.opens) is ∙ opens; given = ap (λ (g : Folder). g.given) is ∙ given; largest = ap (λ (g : Folder). g.largest) is ∙ largest }
-
 module _ {A : Type 0} (before after : Folder) where
   pub tells_refused : (name : List ℕ) (r : Result A OpenError) → OpensFrom before r after
       → IfErr r (λ error. Refuses error (untold before) (untold after) name)
@@ -38,14 +23,14 @@ module _ {A : Type 0} (before after : Folder) where
 
   pub tells_counts : (r : Result A OpenError) → OpensFrom before r after
       → SameCounts (untold before).source (untold after).source
-  tells_counts (Ok value) opens = same_counts before after _ opens refl refl refl
-  tells_counts (Err Failed) opens = same_counts before after _ opens.1 refl refl refl
-  tells_counts (Err Missing) opens = same_counts before after _ opens.1 refl refl refl
+  tells_counts (Ok value) opens = rw opens (record { calls = refl; taken = refl; empty = refl })
+  tells_counts (Err Failed) opens = rw opens.1 (record { calls = refl; taken = refl; empty = refl })
+  tells_counts (Err Missing) opens = rw opens.1 (record { calls = refl; taken = refl; empty = refl })
 
   pub tells_anew : (name : List ℕ) (r : Result A OpenError) → OpensFrom before r after → StartsAnew (untold before) (untold after) name
-  tells_anew name (Ok value) opens = anew name before after _ opens refl refl refl
-  tells_anew name (Err Failed) opens = anew name before after _ opens.1 refl refl refl
-  tells_anew name (Err Missing) opens = anew name before after _ opens.1 refl refl refl
+  tells_anew name (Ok value) opens = rw opens (record { asked = refl; opens = refl; given = refl; largest = refl })
+  tells_anew name (Err Failed) opens = rw opens.1 (record { asked = refl; opens = refl; given = refl; largest = refl })
+  tells_anew name (Err Missing) opens = rw opens.1 (record { asked = refl; opens = refl; given = refl; largest = refl })
 
   pub tells_faults : (r : Result A OpenError) → OpensFrom before r after → before.faults ≤ after.faults
   tells_faults (Ok value) opens = let same = ap (λ (f : Folder). f.faults) opens in omega (arith, same)

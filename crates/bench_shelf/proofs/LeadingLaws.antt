@@ -1,5 +1,5 @@
 -- What lines lead to that are copied one after the other.
-use Rattle.std.proofs.Common.{◌≡◌, ℕ, ◌-◌, ◌<◌, List, [], ◌∷◌, ◌++◌, Some, None, Ok, Err, length, get_or, refl, sym, ap, ◌∙◌, arith, subst, append_assoc}
+use Rattle.std.proofs.Common.{◌≡◌, ℕ, ◌-◌, ◌<◌, List, [], ◌∷◌, ◌++◌, Some, None, Ok, Err, length, refl, sym, ap, ◌∙◌, arith, subst, append_assoc}
 use Rattle.std.proofs.Common.{append-nil}
 use Rattle.std.specs.Prelude.{Option, Result, map}
 use Rattle.std.proofs.lemmas.Option.{unwrap_or-slice_get}
@@ -28,10 +28,8 @@ place_kept : (first more : List PlacedLine) (number : ℕ) → number - 1 < leng
 place_kept first more number lt =
     let none : Place = record { file = None; line = number } in
     let size : number - 1 < length (places first) = omega (arith, length-map first (λ line. line.place), lt) in
-    unwrap_or-slice_get (places (first ++ more)) (number - 1) none
-    ∙ (ap (λ (all : List Place). get_or all (number - 1) none) (map_append (λ line. line.place) first more)
-    ∙ (get_or_append_left (places first) (places more) none (number - 1) size
-    ∙ sym (unwrap_or-slice_get (places first) (number - 1) none)))
+    rw (unwrap_or-slice_get (places (first ++ more)) (number - 1) none, unwrap_or-slice_get (places first) (number - 1) none)
+    (rw (map_append (λ line. line.place) first more) (get_or_append_left (places first) (places more) none (number - 1) size))
 
 -- the first checks refuse a line, whatever lines come behind it
 laid_stays : (first more : List PlacedLine) (ending : Ending) (refusal : CopyRefusal)
@@ -68,8 +66,7 @@ pub refuses_by : {A B : Type 0} (error : CopyError) (a : Result A CopyRefusal) (
     → ((refusal : CopyRefusal) → a ≡ Err refusal → b ≡ Err refusal) → CopyRefuses error a → CopyRefuses error b
 refuses_by (error.At file line cause) a b same refused = (refused.0, same _ refused.1)
 refuses_by error.TooLarge a b same refused = same _ refused
-refuses_by error.Fault a b same refused = tt
-refuses_by error.Memory a b same refused = tt
+refuses_by _ a b same refused = tt
 
 -- no lines
 pub leads_none : (old : Copying) → IsOpen old.builder → Leads old (nothing old.copies) None old

@@ -1,6 +1,6 @@
 -- Lines of a file that are taken one after the other.
-use Rattle.std.proofs.Common.{◌≡◌, ℕ, ◌+◌, ◌*◌, ◌≤◌, List, [], ◌∷◌, ◌++◌, Some, None, length, refl, sym, ap, ◌∙◌, subst, arith}
-use Rattle.std.specs.Prelude.{Option, is_some}
+use Rattle.std.proofs.Common.{rules, ◌≡◌, ℕ, ◌+◌, ◌*◌, ◌≤◌, List, [], ◌∷◌, ◌++◌, Some, None, length, refl, sym, ap, subst, arith}
+use Rattle.std.specs.Prelude.{Option}
 use Rattle.shelf_defs.specs.CopyLines.{Asked, Itself, asked}
 use Rattle.shelf_defs.specs.Files.{Contents}
 use Rattle.shelf_defs.specs.Copied.{Place, Copied, copy_line, lines_in, own_line, asked_line, one_line, most_bytes, most_copies}
@@ -17,7 +17,7 @@ use Rattle.source_defs.specs.Lines.{lines, part}
 use Rattle.source_defs.proofs.LaidLaws.{texts_of}
 use Rattle.shelf_defs.specs.Questions.{Question, Agrees}
 use Rattle.bench_shelf.specs.Leading.{Leads, Stops, IsHeld, HasRoom, Grows, count, AllGiven, EndsBy, Asking, Copies}
-use Rattle.bench_shelf.specs.Causes.{Later, TookNoMore}
+use Rattle.bench_shelf.specs.Causes.{Later}
 use Rattle.bench_shelf.proofs.CountLaws.{few_lines}
 use Rattle.bench_shelf.proofs.LeadingLaws.{leads_none, leads_then, leads_ended, leads_refused}
 use Rattle.bench_shelf.proofs.StoppingLaws.{stops_then, stops_refused}
@@ -80,20 +80,20 @@ pub record Follows (levels : ℕ) (file : Option (List ℕ)) (old : Copying) (al
 abbrev pub line_place : Option (List ℕ) → ℕ → Place
 line_place file number = record { file = file; line = number }
 
-module _ (levels : ℕ) (file : Option (List ℕ)) (a b : ShelfState) where
-  pub follows_first : (old : Copying) (all left : Numbered) → left ≡ all → b ≡ a → Follows levels file old all old left a b
-  follows_first old all left is same = subst (λ left. Follows levels file old all old left a b) (sym is) (subst (Follows levels file old all old all a) (sym same) (record {
-    questions = [];
-    asking = asking_none old old (lines_by levels file old.copies all) a refl;
-    given = tt;
-    leads = λ contents agrees error last leads. leads;
-    stops = λ contents agrees error last stops. stops;
-  }))
+pub follows_first : (levels : ℕ) (file : Option (List ℕ)) (a b : ShelfState) (old : Copying) (all left : Numbered) → left ≡ all → b ≡ a
+    → Follows levels file old all old left a b
+follows_first levels file a b old all left is same = rw (is, same) (record {
+  questions = [];
+  asking = asking_none old old (lines_by levels file old.copies all) a refl;
+  given = tt;
+  leads = λ contents agrees error last leads. leads;
+  stops = λ contents agrees error last stops. stops;
+})
 
+module _ {levels : ℕ} {file : Option (List ℕ)} {old now : Copying} {all left : Numbered} {a b : ShelfState} (follows : Follows levels file old all now left a b) where
   -- none is left
-  pub all_taken : (old now : Copying) (all left : Numbered) → left ≡ [] → IsOpen now.builder → Follows levels file old all now left a b
-      → Copies old now (lines_by levels file old.copies all) None a b
-  all_taken old now all left none going follows = record {
+  pub all_taken : left ≡ [] → IsOpen now.builder → Copies old now (lines_by levels file old.copies all) None a b
+  all_taken none going = record {
     questions = follows.questions;
     asking = follows.asking;
     ends = follows.given;
@@ -102,8 +102,7 @@ module _ (levels : ℕ) (file : Option (List ℕ)) (a b : ShelfState) where
     stops = λ contents agrees. tt;
   }
 
-  module _ (old now mid : Copying) (all rest left : Numbered) (number : ℕ) (text : List ℕ) (first : left ≡ (number, text) ∷ rest)
-      (follows : Follows levels file old all now left a b) (c : ShelfState) where
+  module _ {rest : Numbered} {number : ℕ} {text : List ℕ} (first : left ≡ (number, text) ∷ rest) where
     abbrev line : Contents → Copied
     line = line_by levels (line_place file number) now.copies text
 
@@ -115,76 +114,76 @@ module _ (levels : ℕ) (file : Option (List ℕ)) (a b : ShelfState) where
     from_first contents agrees error last leads =
         follows.leads contents agrees error last (subst (λ lines. Leads now (lines_by levels file now.copies lines contents) error last) (sym first) leads)
 
-    stops_first : (contents : Contents) → Agrees most_bytes contents old.copies follows.questions → (error : Option CopyError) (last : Copying)
-        → Stops now (lines_by levels file now.copies ((number, text) ∷ rest) contents) error last → Stops old (lines_by levels file old.copies all contents) error last
-    stops_first contents agrees error last stops =
-        follows.stops contents agrees error last (subst (λ lines. Stops now (lines_by levels file now.copies lines contents) error last) (sym first) stops)
+    -- where all lines stop, by where those behind the ones that were taken stop
+    stops_on : (contents : Contents) (questions : List Question) → Agrees most_bytes contents old.copies (follows.questions ++ questions)
+        → (end : Option CopyError) (last : Copying)
+        → (Agrees most_bytes contents now.copies questions → Stops now (lines_by levels file now.copies ((number, text) ∷ rest) contents) end last)
+        → Stops old (lines_by levels file old.copies all contents) end last
+    stops_on contents questions agrees end last more =
+        follows.stops contents (agrees_front most_bytes contents old.copies follows.questions questions agrees) end last
+        (subst (λ lines. Stops now (lines_by levels file now.copies lines contents) end last) (sym first)
+        (more (rw follows.asking.number (agrees_back most_bytes contents old.copies follows.questions questions agrees))))
 
-    -- what is asked by the next line
-    asking : (questions : List Question) → Asking now mid line questions b c → Asking old mid (lines_by levels file old.copies all) (follows.questions ++ questions) a c
-    asking questions one =
-        asking_then old now (lines_by levels file old.copies all) line follows.questions follows.asking.number
-        (λ contents agrees error leads. from_first contents agrees (Some error) old (leads_refused now now now (line contents) (next contents) error leads))
-        mid a b c questions follows.given follows.asking one
+    module _ {mid : Copying} {c : ShelfState} where
+      -- what is asked by the next line
+      asking : (questions : List Question) → Asking now mid line questions b c → Asking old mid (lines_by levels file old.copies all) (follows.questions ++ questions) a c
+      asking questions one =
+          asking_then old now (lines_by levels file old.copies all) line follows.questions follows.asking.number
+          (λ contents agrees error leads. from_first contents agrees (Some error) old (leads_refused now now now (line contents) (next contents) error leads))
+          mid a b c questions follows.given follows.asking one
 
-    line_agrees : (contents : Contents) (questions : List Question) → Agrees most_bytes contents old.copies (follows.questions ++ questions) → Agrees most_bytes contents now.copies questions
-    line_agrees contents questions agrees =
-        subst (λ n. Agrees most_bytes contents n questions) (sym follows.asking.number) (agrees_back most_bytes contents old.copies follows.questions questions agrees)
+      -- what all lines lead to, by what the next one leads to
+      goes_on : (error end : Option CopyError) (last : Copying) (contents : Contents) (one : Copies now mid line error b c)
+          → Agrees most_bytes contents old.copies (follows.questions ++ one.questions)
+          → (Leads now (line contents) error mid → Leads now (lines_by levels file now.copies ((number, text) ∷ rest) contents) end last)
+          → Leads old (lines_by levels file old.copies all contents) end last
+      goes_on error end last contents one agrees more =
+          from_first contents (agrees_front most_bytes contents old.copies follows.questions one.questions agrees) end last
+          (more (one.leads contents (rw follows.asking.number (agrees_back most_bytes contents old.copies follows.questions one.questions agrees))))
 
-    pub follows_more : IsOpen mid.builder → Copies now mid line None b c → Follows levels file old all mid rest a c
-    follows_more going one = record {
-      questions = follows.questions ++ one.questions;
-      asking = asking one.questions one.asking;
-      given = all_given follows.questions one.questions follows.given one.ends;
-      leads = λ contents agrees error last more.
-          from_first contents (agrees_front most_bytes contents old.copies follows.questions one.questions agrees) error last
-          (leads_then now mid last (line contents) (next contents) error going (one.leads contents (line_agrees contents one.questions agrees)) more);
-      stops = λ contents agrees error last more.
-          stops_first contents (agrees_front most_bytes contents old.copies follows.questions one.questions agrees) error last
-          (stops_then now mid last (line contents) (next contents) error going (one.leads contents (line_agrees contents one.questions agrees)) more);
-    }
+      pub follows_more : IsOpen mid.builder → Copies now mid line None b c → Follows levels file old all mid rest a c
+      follows_more going one = record {
+        questions = follows.questions ++ one.questions;
+        asking = asking one.questions one.asking;
+        given = all_given follows.questions one.questions follows.given one.ends;
+        leads = λ contents agrees error last more.
+            goes_on None error last contents one agrees (λ leads. leads_then now mid last (line contents) (next contents) error going leads more);
+        stops = λ contents agrees error last more.
+            stops_on contents one.questions agrees error last
+            (λ here. stops_then now mid last (line contents) (next contents) error going (one.leads contents here) more);
+      }
 
-    pub follows_end : (IsOpen mid.builder → ⊥) → Copies now mid line None b c → Copies old mid (lines_by levels file old.copies all) None a c
-    follows_end closed one = record {
-      questions = follows.questions ++ one.questions;
-      asking = asking one.questions one.asking;
-      ends = all_given follows.questions one.questions follows.given one.ends;
-      leads = λ contents agrees.
-          from_first contents (agrees_front most_bytes contents old.copies follows.questions one.questions agrees) None mid
-          (leads_ended now mid (line contents) (next contents) closed (one.leads contents (line_agrees contents one.questions agrees)));
-      stops = λ contents agrees. tt;
-    }
+      -- the next line is the last
+      ends : (error : Option CopyError) (one : Copies now mid line error b c) → EndsBy error (follows.questions ++ one.questions)
+          → ((contents : Contents) → Leads now (line contents) error mid → Leads now (lines_by levels file now.copies ((number, text) ∷ rest) contents) error mid)
+          → ((contents : Contents) → Stops now (line contents) error mid → Stops now (lines_by levels file now.copies ((number, text) ∷ rest) contents) error mid)
+          → Copies old mid (lines_by levels file old.copies all) error a c
+      ends error one given more halts = record {
+        questions = follows.questions ++ one.questions;
+        asking = asking one.questions one.asking;
+        ends = given;
+        leads = λ contents agrees. goes_on error error mid contents one agrees (more contents);
+        stops = λ contents agrees. stops_on contents one.questions agrees error mid (λ here. halts contents (one.stops contents here));
+      }
 
-    pub follows_refused : (error : CopyError) → Copies now mid line (Some error) b c → Copies old mid (lines_by levels file old.copies all) (Some error) a c
-    follows_refused error one = record {
-      questions = follows.questions ++ one.questions;
-      asking = asking one.questions one.asking;
-      ends = ends_then error follows.questions one.questions one.ends;
-      leads = λ contents agrees.
-          from_first contents (agrees_front most_bytes contents old.copies follows.questions one.questions agrees) (Some error) mid
-          (leads_refused now mid mid (line contents) (next contents) error (one.leads contents (line_agrees contents one.questions agrees)));
-      stops = λ contents agrees.
-          stops_first contents (agrees_front most_bytes contents old.copies follows.questions one.questions agrees) (Some error) mid
-          (stops_refused now mid (line contents) (next contents) error (one.stops contents (line_agrees contents one.questions agrees)));
-    }
+      pub follows_end : (IsOpen mid.builder → ⊥) → Copies now mid line None b c → Copies old mid (lines_by levels file old.copies all) None a c
+      follows_end closed one =
+          ends None one (all_given follows.questions one.questions follows.given one.ends)
+          (λ contents. leads_ended now mid (line contents) (next contents) closed) (λ contents stops. tt)
+
+      pub follows_refused : (error : CopyError) → Copies now mid line (Some error) b c → Copies old mid (lines_by levels file old.copies all) (Some error) a c
+      follows_refused error one =
+          ends (Some error) one (ends_then error follows.questions one.questions one.ends)
+          (λ contents. leads_refused now mid mid (line contents) (next contents) error) (λ contents. stops_refused now mid (line contents) (next contents) error)
 
 -- the text of the first of some lines, and those of the others
-pub first_text : (text : List ℕ) (left rest : List TextLine) (line : TextLine) (own : List ℕ) → left ≡ line ∷ rest → own ≡ part text line.span
+pub first_text : (text : List ℕ) {left rest : List TextLine} {line : TextLine} {own : List ℕ} → left ≡ line ∷ rest → own ≡ part text line.span
     → texts_of text left ≡ (line.number, own) ∷ texts_of text rest
-first_text text left rest line own steps is = ap (texts_of text) steps ∙ ap (λ found. (line.number, found) ∷ texts_of text rest) (sym is)
+first_text text steps is = rw (steps, is) refl
 
 -- what is later than a later shelf
 pub later_then : (a b c : ShelfState) → Later a b → Later b c → Later a c
-later_then a b c first then = record {
-  files = then.files ∙ first.files;
-  faults = omega (arith, first.faults, then.faults);
-  opens = omega (arith, first.opens, then.opens);
-  misses = omega (arith, first.misses, then.misses);
-  taken = omega (arith, first.taken, then.taken);
-  calls = omega (arith, first.calls, then.calls);
-  empty = omega (arith, first.empty, then.empty);
-  largest = omega (arith, first.largest, then.largest);
-}
+later_then a b c first then = grind (arith, first, then)
 
 -- the lines that were taken so far, and those that are left of a text
 pub record Counts (text : List ℕ) (old now : Copying) (left : List TextLine) : Type 0 where
@@ -209,40 +208,4 @@ pub counts_grow : (text : List ℕ) (old now : Copying) (left : List TextLine) �
 counts_grow text old now left counts = record { held = counts.held; copies = counts.copies; few = omega (arith, counts.few) }
 
 pub later_first : (a : ShelfState) → Later a a
-later_first a = record {
-  files = refl;
-  faults = omega arith;
-  opens = omega arith;
-  misses = omega arith;
-  taken = omega arith;
-  calls = omega arith;
-  empty = omega arith;
-  largest = omega arith;
-}
-
--- a line was taken: by itself, or as the lines of a file
-pub record TakesLine (levels : ℕ) (place : Place) (text : List ℕ) (now mid : Copying) (b c : ShelfState) : Type 0 where
-  pub copies : Copies now mid (line_by levels place now.copies text) None b c
-  pub later : Later b c
-  pub most : mid.copies ≤ most_copies
-  pub same : is_some mid.kept ≡ is_some now.kept
-  pub grows : Grows 1 now mid
-  pub within : TookNoMore most_bytes b c
-
-pub own_takes : (levels : ℕ) (place : Place) (text : List ℕ) (now mid : Copying) (b : ShelfState) → asked text ≡ Itself
-    → Leads now (own_line place now.copies text) None mid → Grows 1 now mid → mid.copies ≡ now.copies → now.copies ≤ most_copies
-    → is_some mid.kept ≡ is_some now.kept → TakesLine levels place text now mid b b
-own_takes levels place text now mid b own leads grows copies few same = record {
-  copies = own_copies levels b now mid place text None own copies tt leads tt;
-  later = later_first b;
-  most = omega (arith, copies, few);
-  same = same;
-  grows = grows;
-  within = omega arith;
-}
-
-pub takes_as : (levels : ℕ) (place there : Place) (text : List ℕ) (now mid same : Copying) (b c d : ShelfState) → there ≡ place → mid ≡ same → c ≡ d
-    → TakesLine levels there text now same b d → TakesLine levels place text now mid b c
-takes_as levels place there text now mid same b c d at is shelf takes =
-    subst (λ p. TakesLine levels p text now mid b c) at
-    (subst (λ m. TakesLine levels there text now m b c) (sym is) (subst (λ s. TakesLine levels there text now same b s) (sym shelf) takes))
+later_first a = search rules

@@ -11,20 +11,20 @@ use Rattle.asm_defs.specs.Locations.{Line}
 use Rattle.asm_defs.specs.FirstChecks.{check}
 use Rattle.asm_defs.specs.Modules.{module_behind, module_of_lines}
 use Rattle.shelf_defs.specs.Files.{Contents}
-use Rattle.shelf_defs.specs.Copied.{most_bytes, most_copies, copy_line, copied_by, PlacedLine, CopyRefusal, Ending, Open, Ended, Refused, Copied, lines_in}
+use Rattle.shelf_defs.specs.Copied.{most_bytes, most_copies, copy_line, copied_by, PlacedLine, CopyRefusal, Ending, Refused, Copied, lines_in}
 use Rattle.shelf_defs.specs.Assembly.{texts, in_place, unless_refused, laid_copied, module_of_copied, module_by}
 use Rattle.asm_core.proofs.EndedLines.{lines_make_texts}
 use Rattle.asm_core.specs.declared.lines.AsmLines.{AsmLines}
 use Rattle.bench_shelf.specs.declared.copying.Copying.{Copying}
 use Rattle.bench_shelf.specs.declared.copy_error.CopyError.{CopyError}
-use Rattle.bench_shelf.specs.declared.copy_error.CopyError.TheVariants.{At, TooLarge, Fault, Memory}
+use Rattle.bench_shelf.specs.declared.copy_error.CopyError.TheVariants.{At, Fault}
 use Rattle.bench_shelf.specs.declared.copy_error.CopyCause.TheVariants.{Missing}
 use Rattle.bench_shelf.specs.States.{ShelfState}
 use Rattle.bench_shelf.specs.Causes.{IsOfLine}
 use Rattle.bench_shelf.specs.CopyAnswers.{GivesCopied, CopyRefuses}
 use Rattle.bench_shelf.specs.Leading.{Holds, EndsAs, GoesOn, IsNextAfter, EndsBy, Copies}
 use Rattle.shelf_defs.specs.Questions.{Question, Agrees, IsNextCopied}
-use Rattle.bench_shelf.specs.Answered.{Answered, GivesBy, FaultEnds}
+use Rattle.bench_shelf.specs.Answered.{Answered, GivesBy}
 use Rattle.bench_shelf.specs.Dialogue.{CopyDialogue}
 use Rattle.bench_shelf.proofs.LeadingLaws.{refuses_by}
 use Rattle.bench_shelf.proofs.OneLines.{copied_one}
@@ -36,16 +36,12 @@ contents a b = a ≡ b
 -- none of the lines is refused
 going_by : (ending : Ending) (lines : List Line) (all : List PlacedLine) (builder : AsmLines) → EndsAs ending builder
     → contents (in_place all (module_behind lines)) (unless_refused ending lines >>= λ lines. in_place all (module_behind lines))
-going_by Open lines all builder ends = refl
-going_by Ended lines all builder ends = refl
 going_by (Refused refusal) lines all builder ends = absurd ends
+going_by _ lines all builder ends = refl
 
 module_is : (found : Copied) (new : Copying) → GoesOn [] found new → contents (in_place found.lines (module_of_lines (texts found.lines))) (module_of_copied found)
 module_is found new goes =
-    let laid_is = goes.holds.taken.laid in
-    ap (λ answer. in_place found.lines (answer >>= module_behind)) laid_is
-    ∙ (going_by found.ending goes.holds.taken.lines found.lines new.builder goes.ending
-    ∙ sym (ap (λ answer. in_place found.lines answer >>= unless_refused found.ending >>= λ lines. in_place found.lines (module_behind lines)) laid_is))
+    rw goes.holds.taken.laid (going_by found.ending goes.holds.taken.lines found.lines new.builder goes.ending)
 
 -- a module is that of the copied lines as one text
 module_by_lines : (found : Copied) (answer : Result (List Line) (Refusal AsmCause)) (module_ : object.Module)
@@ -59,9 +55,8 @@ module_by_lines found (Ok lines) module_ e = by_ending found.ending e
 
     by_ending : (ending : Ending) → contents (unless_refused ending lines >>= λ lines. in_place found.lines (module_behind lines)) (Ok module_)
         → module_behind lines ≡ Ok module_
-    by_ending Open f = by_behind (module_behind lines) f
-    by_ending Ended f = by_behind (module_behind lines) f
     by_ending (Refused refusal) f = cc f
+    by_ending _ f = by_behind (module_behind lines) f
 module_by_lines found (Err refusal) module_ e = cc e
 
 abbrev pub whole_by : ℕ → List ℕ → Contents → Copied
@@ -114,12 +109,9 @@ module _ (source : List ℕ) (old new : Copying) (before after : ShelfState) (no
     gives = λ contents agrees. by_answer answer contents (found.leads contents (agrees_first old contents found.questions first agrees) [] none) gives;
   }
     where
-      no_fault : (answer : Result Module CopyError) → IfErr answer IsOfLine → FaultEnds answer found.questions
-      no_fault (Ok value) causes = tt
-      no_fault (Err (At file line cause)) causes = tt
-      no_fault (Err TooLarge) causes = absurd causes
+      no_fault : (answer : Result Module CopyError) → IfErr answer IsOfLine → IfErr answer (λ error. EndsBy (Some error) found.questions)
       no_fault (Err Fault) causes = absurd causes
-      no_fault (Err Memory) causes = tt
+      no_fault _ causes = tt
 
       by_answer : (answer : Result Module CopyError) (contents : Contents) → GoesOn [] (whole_by old.copies source contents) new
           → ((done : List PlacedLine) → Holds done new → GivesCopied answer (in_place done (module_of_lines (texts done)))) → GivesBy answer found.questions source contents
@@ -153,14 +145,8 @@ module _ (source : List ℕ) (old new : Copying) (before after : ShelfState) (no
   answered_refused error found = record {
     questions = found.questions;
     dialogue = dialogue (Some error) found;
-    ends = fault error found.ends;
+    ends = found.ends;
     gives = λ contents agrees.
         subst (λ copies. CopyRefuses error (module_of_copied (whole_by copies source contents))) first
         (refusal_by (whole_by old.copies source contents) error (found.leads contents (agrees_first old contents found.questions first agrees) [] none));
   }
-    where
-      fault : (error : CopyError) → EndsBy (Some error) found.questions → FaultEnds (Err error) found.questions
-      fault (At file line cause) ends = tt
-      fault TooLarge ends = tt
-      fault Fault ends = ends
-      fault Memory ends = tt

@@ -38,19 +38,9 @@ places_next old mid new last longer place was next same first count is =
     let file = last.file in
     let line = last.line in
     let more : suc last.count ≡ last.count + 1 = omega arith in
-    let place_is : record { file = file; line = line + last.count } ≡ defined_place place =
-    ap (λ (found : Option (List ℕ)). record { file = found; line = line + last.count }) next.file
-    ∙ ap (λ n. record { file = place.file; line = n }) next.line in
     let run_is : run_places longer ≡ run_places last ++ defined_place place ∷ [] =
-    ap (λ (found : Option (List ℕ)). places_from found longer.line longer.count) same
-    ∙ ap (λ n. places_from file n longer.count) first
-    ∙ (ap (λ n. places_from file line n) (count ∙ sym more)
-    ∙ (from_more file line last.count ∙ ap (λ (found : spec.Place). run_places last ++ found ∷ []) place_is)) in
-    ap places_of is
-    ∙ (of_last mid longer
-    ∙ (ap (λ places. places_of mid ++ places) run_is
-    ∙ (sym (append_assoc (places_of mid) (run_places last) (defined_place place ∷ []))
-    ∙ ap (λ places. places ++ defined_place place ∷ []) (sym (of_last mid last) ∙ sym (ap places_of was)))))
+    rw (same, first, count ∙ sym more, from_more file line last.count, next.file, next.line) refl in
+    rw (is, was, of_last mid longer, of_last mid last, run_is, append_assoc (places_of mid) (run_places last) (defined_place place ∷ [])) refl
 
 -- the last run is one place longer
 pub places_grown : (runs : List Run) (at : ℕ) (last longer : Run) (place : Place) → at + 1 ≡ length runs → last ≡ get_or runs at last
@@ -90,13 +80,10 @@ pub at_here : (none : spec.Place) (runs : List Run) (at left line : ℕ) (run : 
     → line ≡ run.line + left → record { file = run.file; line = line } ≡ place_at none (drop at runs) left
 at_here none runs at left line run lt is inside line_is =
     let rest : drop at runs ≡ run ∷ drop (at + 1) runs = drop_more runs at run lt ∙ ap (λ (found : Run). found ∷ drop (at + 1) runs) (sym is) in
-    ap (λ n. record { file = run.file; line = n }) line_is
-    ∙ (sym (ap (λ found. unwrap_or found none) (get_in run.file run.line run.count left (places_of (drop (at + 1) runs)) inside))
-    ∙ sym (ap (λ found. place_at none found left) rest))
+    rw (line_is, rest, get_in run.file run.line run.count left (places_of (drop (at + 1) runs)) inside) refl
 
 pub at_behind : (none : spec.Place) (runs : List Run) (at left : ℕ) (run : Run) → at < length runs → run ≡ get_or runs at run → run.count ≤ left
     → place_at none (drop (at + 1) runs) (left - run.count) ≡ place_at none (drop at runs) left
 at_behind none runs at left run lt is past =
     let rest : drop at runs ≡ run ∷ drop (at + 1) runs = drop_more runs at run lt ∙ ap (λ (found : Run). found ∷ drop (at + 1) runs) (sym is) in
-    sym (ap (λ found. unwrap_or found none) (get_behind run.file run.line run.count left (places_of (drop (at + 1) runs)) past))
-    ∙ sym (ap (λ found. place_at none found left) rest)
+    rw (rest, get_behind run.file run.line run.count left (places_of (drop (at + 1) runs)) past) refl

@@ -4,7 +4,7 @@ use Rattle.std.specs.Prelude.{Result, IfErr}
 use Rattle.bench_io.proofs.Taking.{rose_since}
 use Rattle.shelf_defs.specs.Copied.{most_bytes}
 use Rattle.bench_shelf.specs.States.{ShelfState}
-use Rattle.bench_shelf.specs.declared.copy_error.CopyCause.TheVariants.{Asm, BadCopy, TooDeep, TooMany, Missing}
+use Rattle.bench_shelf.specs.declared.copy_error.CopyCause.TheVariants.{Missing}
 use Rattle.bench_shelf.specs.declared.copy_error.CopyError.{CopyError}
 use Rattle.bench_shelf.specs.declared.copy_error.CopyError.TheVariants.{At, TooLarge, Fault, Memory}
 use Rattle.bench_shelf.specs.Causes.{Later, ShelfCauses, TookNoMore}
@@ -12,12 +12,9 @@ use Rattle.bench_shelf.proofs.Keeping.{within_then}
 
 module _ (a b c : ShelfState) (later : Later a b) (within : TookNoMore most_bytes a b) where
   pub causes_since : (error : CopyError) → ShelfCauses error b c → ShelfCauses error a c
-  causes_since (At file line (Asm cause)) causes = (causes.0, within_then most_bytes a b c within causes.1)
-  causes_since (At file line BadCopy) causes = (tt, within_then most_bytes a b c within causes.1)
-  causes_since (At file line TooDeep) causes = (tt, within_then most_bytes a b c within causes.1)
-  causes_since (At file line TooMany) causes = (tt, within_then most_bytes a b c within causes.1)
   causes_since (At file line (Missing name)) causes =
       (rose_since _ _ _ later.misses causes.0, within_then most_bytes a b c within causes.1)
+  causes_since (At file line _) causes = (causes.0, within_then most_bytes a b c within causes.1)
   causes_since TooLarge causes =
       record { given = causes.given; largest = causes.largest; taken = omega (arith, later.taken, causes.taken) }
   causes_since Fault causes = (rose_since _ _ _ later.faults causes.0, within_then most_bytes a b c within causes.1)

@@ -1,7 +1,8 @@
 -- A line that is taken behind others.
-use Rattle.std.proofs.Common.{◌≡◌, ℕ, ◌+◌, ◌-◌, Bool, true, false, ◌||◌, List, [], ◌∷◌, ◌++◌, None, Ok, Err, length, get_or, refl, sym, ap, ◌∙◌, arith, subst, inr}
-use Rattle.std.specs.Prelude.{⊤, Result, if◌then◌else◌, Option, Some, map}
+use Rattle.std.proofs.Common.{◌≡◌, ℕ, ◌+◌, ◌-◌, Bool, true, false, ◌||◌, List, [], ◌∷◌, ◌++◌, None, Ok, Err, length, refl, sym, ap, ◌∙◌, arith, subst, inr}
 use Rattle.std.proofs.Common.{Vec, Global}
+use Rattle.std.specs.Prelude.{⊤, Result, if◌then◌else◌, Option, Some, map}
+use Rattle.std.proofs.Math.Bool.{or-false}
 use Rattle.std.proofs.Math.Seq.{get_or-append_seam}
 use Rattle.std.proofs.lemmas.Option.{unwrap_or-slice_get}
 use Rattle.std.proofs.lemmas.List.{length-map}
@@ -18,8 +19,8 @@ use Rattle.asm_defs.specs.FirstChecks.{check, checked, known_of, line_of}
 use Rattle.asm_defs.proofs.CheckLaws.{bound, checked_said}
 use Rattle.shelf_defs.specs.CopyLines.{says_end, ends_source}
 use Rattle.shelf_defs.specs.Copied as spec
-use Rattle.shelf_defs.specs.Copied.{Place, PlacedLine, Ending, Open, Ended, own_line, prepend}
-use Rattle.shelf_defs.specs.Assembly.{texts, places, place_of, in_place, unless_refused, laid_copied}
+use Rattle.shelf_defs.specs.Copied.{Place, PlacedLine, Open, Ended, own_line, prepend}
+use Rattle.shelf_defs.specs.Assembly.{texts, places, place_of, laid_copied}
 use Rattle.asm_checks.specs.Answers.{Causes}
 use Rattle.asm_core.specs.Building.{HasTaken, IsOpen}
 use Rattle.asm_core.specs.Finishing.{RefusesAt}
@@ -40,28 +41,10 @@ use Rattle.bench_shelf.proofs.LeadingLaws.{map_append}
 -- a refusal of the assembler is the definitions' own
 pub refusal_is : {B : Type 0} (line : ℕ) (refused : AsmCause) (defined : Result B (Refusal AsmCause)) → RefusesAt (asm.At line refused) defined
     → Causes {B = ⊤} refused (Err refused) × (defined ≡ Err (record { line = line; cause = refused }))
-refusal_is line (cause.Text error) defined refuses = (refl, refuses)
-refusal_is line (cause.Expr expr.BadToken) defined refuses = (refl, refuses)
-refusal_is line (cause.Expr expr.UnknownName) defined refuses = (refl, refuses)
-refusal_is line (cause.Expr expr.BadRelocation) defined refuses = (refl, refuses)
-refusal_is line (cause.Expr expr.TooLarge) defined refuses = (refl, refuses)
-refusal_is line (cause.Expr expr.DivideByZero) defined refuses = (refl, refuses)
-refusal_is line (cause.Form form.UnknownOperation) defined refuses = (refl, refuses)
-refusal_is line (cause.Form form.OperandCount) defined refuses = (refl, refuses)
-refusal_is line (cause.Form form.BadOperand) defined refuses = (refl, refuses)
-refusal_is line (cause.Form form.JumpTooFar) defined refuses = (refl, refuses)
-refusal_is line (cause.Form (form.Expr expr.BadToken)) defined refuses = (refl, refuses)
-refusal_is line (cause.Form (form.Expr expr.UnknownName)) defined refuses = (refl, refuses)
-refusal_is line (cause.Form (form.Expr expr.BadRelocation)) defined refuses = (refl, refuses)
-refusal_is line (cause.Form (form.Expr expr.TooLarge)) defined refuses = (refl, refuses)
-refusal_is line (cause.Form (form.Expr expr.DivideByZero)) defined refuses = (refl, refuses)
-refusal_is line cause.DuplicateLabel defined refuses = (refl, refuses)
-refusal_is line cause.BadDirective defined refuses = (refl, refuses)
-refusal_is line cause.Overflow defined refuses = (refl, refuses)
-refusal_is line cause.Overlap defined refuses = (refl, refuses)
 refusal_is line (cause.Expr expr.Memory) defined refuses = absurd refuses
 refusal_is line (cause.Form form.Memory) defined refuses = absurd refuses
 refusal_is line (cause.Form (form.Expr expr.Memory)) defined refuses = absurd refuses
+refusal_is line _ defined refuses = (refl, refuses)
 
 -- what the first checks let through ends the source where it says so
 last_is : (before : List Line) (number : ℕ) (text : List ℕ) (line : Line) → check before number text ≡ Ok line → line.last ≡ ends_source text
@@ -78,10 +61,6 @@ at_line_ok number (Err refused) found e = cc e
 at_line_err : {A : Type 0} (number : ℕ) (answer : Result A AsmCause) (refusal : Refusal AsmCause) → at_line number answer ≡ Err refusal → refusal.line ≡ number
 at_line_err number (Ok value) refusal e = cc e
 at_line_err number (Err refused) refusal e = let same : record { line = number; cause = refused } ≡ refusal = cc e in sym (ap (λ (r : Refusal AsmCause). r.line) same)
-
-open_false : (b : Bool) → (b || false) ≡ b
-open_false true = refl
-open_false false = refl
 
 err_came : {A B : Type 0} (answer : Result A (Refusal AsmCause)) (make : A → B) (refusal : Refusal AsmCause)
     → (answer >>= λ value. Ok (make value)) ≡ Err refusal → answer ≡ Err refusal
@@ -127,7 +106,7 @@ module _ (done : List PlacedLine) (place : Place) (text : List ℕ) where
         at_line_ok (1 + length (texts done)) (check taken.lines (1 + length (texts done)) text) a.0 a.1 in
         let lines_are : a.0 ∷ taken.lines ≡ behind.lines = cc a.2 in
         let last : has_ended behind.lines ≡ ends_source text =
-        sym (ap has_ended lines_are) ∙ (ap (λ b. a.0.last || b) still ∙ (open_false a.0.last ∙ last_is taken.lines _ text a.0 found)) in
+        sym (ap has_ended lines_are) ∙ (ap (λ b. a.0.last || b) still ∙ (or-false a.0.last ∙ last_is taken.lines _ text a.0 found)) in
         ends_by new (ends_source text) (behind.behind.ended ∙ last)
 
     -- or it is refused
@@ -142,18 +121,13 @@ module _ (done : List PlacedLine) (place : Place) (text : List ℕ) where
     last_place =
         let at : 1 + length (texts done) - 1 ≡ length (places done) = omega (arith, size) in
         let none : Place = record { file = None; line = 1 + length (texts done) } in
-        unwrap_or-slice_get (places all) (1 + length (texts done) - 1) none
-        ∙ (ap (λ n. get_or (places all) n none) at
-        ∙ (ap (λ (found : List Place). get_or found (length (places done)) none) (map_append (λ line. line.place) done more)
-        ∙ get_or-append_seam (places done) place [] none))
+        rw (unwrap_or-slice_get (places all) (1 + length (texts done) - 1) none, at, map_append (λ line. line.place) done more)
+        (get_or-append_seam (places done) place [] none)
 
     laid_refused : (copies : ℕ) (refusal : Refusal AsmCause) → laid check (numbered 1 (texts done ++ text ∷ [])) ≡ Err refusal
         → laid_copied (prepend done (own_line place copies text)) ≡ Err (spec.At place (spec.Asm refusal.cause))
     laid_refused copies refusal e =
-        let ending : Ending = if ends_source text then Ended else Open in
-        ap (λ found. in_place all (laid check (numbered 1 found)) >>= λ lines. unless_refused ending lines) texts_are
-        ∙ (ap (λ answer. in_place all answer >>= λ lines. unless_refused ending lines) e
-        ∙ ap (λ place. Err (spec.At place (spec.Asm refusal.cause))) (ap (place_of (places all)) (refused_last refusal e) ∙ last_place))
+        rw (texts_are, e, refused_last refusal e, last_place) refl
 
 -- the line is kept with the others
 kept_more : (done : List PlacedLine) (lines next : List Line) (place : KeptPlace) (text : List ℕ) (here : Location) (old new : Option (Vec KeptLine Global))

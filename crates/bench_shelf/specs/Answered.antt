@@ -1,5 +1,5 @@
 -- The result of a source with the files that it copies, by the answers of a shelf.
-use Rattle.std.specs.Prelude.{◌≡◌, ⊤, ℕ, List, length, Result, Ok, Err}
+use Rattle.std.specs.Prelude.{◌≡◌, ℕ, List, length, Some, Result, Ok, Err, IfErr}
 use Rattle.source_defs.specs.EndedLines.{text_of}
 use Rattle.asm_defs.specs.Modules.{module_of_source, module_of_lines}
 use Rattle.object_defs.specs.Modules as object
@@ -8,10 +8,10 @@ use Rattle.object_tags.specs.declared.parts.Module.{Module}
 use Rattle.shelf_defs.specs.Files.{Contents}
 use Rattle.shelf_defs.specs.Copied.{most_bytes, copied_by}
 use Rattle.shelf_defs.specs.Assembly.{texts, module_by}
-use Rattle.shelf_defs.specs.Questions.{Unanswered, Question, Agrees, EndsWith}
+use Rattle.shelf_defs.specs.Questions.{Question, Agrees}
 use Rattle.bench_shelf.specs.States.{ShelfState}
 use Rattle.bench_shelf.specs.declared.copy_error.CopyError.{CopyError}
-use Rattle.bench_shelf.specs.declared.copy_error.CopyError.TheVariants.{At, TooLarge, Fault, Memory}
+use Rattle.bench_shelf.specs.Leading.{EndsBy}
 use Rattle.bench_shelf.specs.CopyAnswers.{GivesCopied}
 use Rattle.bench_shelf.specs.Dialogue.{CopyDialogue}
 
@@ -27,18 +27,10 @@ GivesBy (Err error) questions source contents = GivesCopied (Err error) (module_
 abbrev pub IsOfLines : object.Module → Type 0
 IsOfLines found = (lines : List (List ℕ)) × (module_of_lines lines ≡ Ok found)
 
--- the shelf failed at the file that was asked for last
-abbrev pub FaultEnds : Result Module CopyError → List Question → Type 0
-FaultEnds (Ok found) questions = ⊤
-FaultEnds (Err (At file line cause)) questions = ⊤
-FaultEnds (Err TooLarge) questions = ⊤
-FaultEnds (Err Fault) questions = EndsWith Unanswered questions
-FaultEnds (Err Memory) questions = ⊤
-
 -- There are questions and answers such that the result is that of the definitions by these answers, whatever else the
--- shelf would have answered.
+-- shelf would have answered. Where the shelf failed, it did at the file that was asked for last.
 pub record Answered (before after : ShelfState) (source : List ℕ) (result : Result Module CopyError) : Type 0 where
   pub questions : List Question
   pub dialogue : CopyDialogue before after source questions
-  pub ends : FaultEnds result questions
+  pub ends : IfErr result (λ error. EndsBy (Some error) questions)
   pub gives : (contents : Contents) → Agrees most_bytes contents 0 questions → GivesBy result questions source contents

@@ -11,7 +11,7 @@ ghost use Rattle.bench_shelf.specs.Causes.{Later, ShelfCauses, TookNoMore};
 
 use crate::copied_file::read_copied;
 use crate::copy_error::{CopyCause, CopyError};
-use crate::copy_line::{Asked, asked_by, copies_nothing};
+use crate::copy_line::{Asked, asked_by};
 use crate::copying::Copying;
 use crate::file_name::FileName;
 use crate::place::{Place, place_in};
@@ -50,16 +50,9 @@ impl Copying {
     {
         for line in lines(text) {
             let own = part(text, line.span);
-            if copies_nothing(own) {
-                match self.take(file, line.number, own) {
-                    Ok(()) => {}
-                    Err(failure) => return Err(place_in(file, line.number).failed(failure)),
-                }
-            } else {
-                match self.copy_asked(shelf, levels, place_in(file, line.number), own) {
-                    Ok(()) => {}
-                    Err(error) => return Err(error),
-                }
+            match self.copy_asked(shelf, levels, place_in(file, line.number), own) {
+                Ok(()) => {}
+                Err(error) => return Err(error),
             }
             if self.builder.is_ended() {
                 return Ok(());

@@ -19,7 +19,7 @@ pub(crate) enum Asked {
 
 /// Whether the operation of a line is another than COPY, or it has none, so that it stands for itself.
 #[tactic(auto, using(crate::proofs::CopyWords::no_copy))]
-pub(crate) fn copies_nothing(line: &[u8]) -> bool
+fn copies_nothing(line: &[u8]) -> bool
     ensures { IsTrue result → spec.asked line.now ≡ spec.Itself }
 {
     !is_operation(line, b"COPY")
@@ -31,6 +31,9 @@ pub(crate) fn copies_nothing(line: &[u8]) -> bool
 pub(crate) fn asked_by(line: &[u8]) -> Asked
     ensures { defined_asked result ≡ spec.asked line.now }
 {
+    if copies_nothing(line) {
+        return Asked::Itself;
+    }
     let Ok(found) = fields(line) else {
         return Asked::Itself;
     };

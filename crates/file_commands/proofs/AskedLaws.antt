@@ -15,7 +15,7 @@ use Rattle.bench_shelf.specs.Leading.{IsGiven, AllGiven}
 use Rattle.bench_shelf.proofs.AskingLaws.{agrees_front}
 use Rattle.bench_shelf.proofs.AskedLaws.{some_contents}
 use Rattle.report_defs.specs.Report.{largest_input}
-use Rattle.file_report_defs.specs.LinkedFiles.{FilesRefusal, TooLarge, bytes_of, read_by, read_files}
+use Rattle.report_defs.specs.LinkedFiles.{FilesRefusal, TooLarge, bytes_of, read_by, read_files}
 use Rattle.file_commands.specs.Reading.{LinkDialogue, Reads}
 use Rattle.file_commands.proofs.ReadingLaws.{fits}
 

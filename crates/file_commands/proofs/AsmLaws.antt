@@ -18,7 +18,7 @@ use Rattle.bench_shelf.specs.declared.copy_error.CopyError.TheVariants.{At, TooL
 use Rattle.report_defs.specs.declared.status.Status.TheVariants.{Done}
 use Rattle.report_defs.specs.TextLines.{text_lines}
 use Rattle.report_defs.specs.Report.{Whole}
-use Rattle.file_report_defs.specs.Reports.{copy_report}
+use Rattle.report_defs.specs.FileReports.{copy_report}
 use Rattle.reports.specs.declared.unreported.Unreported.{Unreported}
 use Rattle.reports.specs.Answers.{Reported, error_answer}
 use Rattle.file_commands.specs.Copying.{copy_refusal}

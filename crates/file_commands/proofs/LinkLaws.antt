@@ -8,9 +8,9 @@ use Rattle.bench_shelf.specs.States.{ShelfState}
 use Rattle.bench_shelf.specs.Causes.{TookNoMore}
 use Rattle.report_defs.specs.declared.status.Status.{Status}
 use Rattle.report_defs.specs.Report.{Report, largest_input}
-use Rattle.file_report_defs.specs.LinkedFiles as spec
-use Rattle.file_report_defs.specs.LinkedFiles.{FilesRefusal, modules_of, as_linked, linked_texts}
-use Rattle.file_report_defs.specs.Reports.{files_report}
+use Rattle.report_defs.specs.LinkedFiles as spec
+use Rattle.report_defs.specs.LinkedFiles.{FilesRefusal, modules_of, as_linked, linked_texts}
+use Rattle.report_defs.specs.FileReports.{files_report}
 use Rattle.file_commands.specs.declared.file_text.FileText.{FileText}
 use Rattle.file_commands.specs.declared.error.ReadingError.{ReadingError}
 use Rattle.file_commands.specs.declared.error.ReadingError.TheVariants.{Missing, TooLarge, Fault, Memory}

@@ -6,7 +6,7 @@ use Rattle.source_defs.specs.Refusals.{◌>>=◌}
 use Rattle.object_defs.specs.Modules.{Module}
 use Rattle.object_defs.specs.Reading.{read}
 use Rattle.asm_defs.proofs.CheckLaws.{bound}
-use Rattle.file_report_defs.specs.LinkedFiles.{FilesRefusal, in_file, modules_of}
+use Rattle.report_defs.specs.LinkedFiles.{FilesRefusal, in_file, modules_of}
 use Rattle.file_commands.specs.declared.file_text.FileText.{FileText}
 use Rattle.file_commands.specs.Reading.{defined_text, defined_texts}
 use Rattle.file_commands.specs.Modules.{ReportsRefused}

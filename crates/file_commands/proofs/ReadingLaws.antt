@@ -15,8 +15,8 @@ use Rattle.bench_shelf.specs.Leading.{AllGiven}
 use Rattle.bench_shelf.proofs.Keeping.{within_then}
 use Rattle.bench_shelf.proofs.AskingLaws.{agrees_front, agrees_back, shown_then, shown_one, shown_none, reads_none, reads_then, none_follow, turns_then}
 use Rattle.report_defs.specs.Report.{largest_input}
-use Rattle.file_report_defs.specs.LinkedFiles as spec
-use Rattle.file_report_defs.specs.LinkedFiles.{FilesRefusal, TooLarge, bytes_of, read_by}
+use Rattle.report_defs.specs.LinkedFiles as spec
+use Rattle.report_defs.specs.LinkedFiles.{FilesRefusal, TooLarge, bytes_of, read_by}
 use Rattle.file_commands.specs.declared.file_text.FileText.{FileText}
 use Rattle.file_commands.specs.declared.error.ReadingError.{ReadingError}
 use Rattle.file_commands.specs.declared.error.ReadingError.TheVariants as unread

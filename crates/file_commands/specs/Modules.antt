@@ -1,8 +1,8 @@
 -- The modules of files, and why there are none.
 use Rattle.std.specs.Prelude.{◌≡◌, Result, Ok, Err}
 use Rattle.report_defs.specs.Report.{Report}
-use Rattle.file_report_defs.specs.LinkedFiles.{FilesRefusal}
-use Rattle.file_report_defs.specs.Reports.{files_report}
+use Rattle.report_defs.specs.LinkedFiles.{FilesRefusal}
+use Rattle.report_defs.specs.FileReports.{files_report}
 use Rattle.reports.specs.declared.unreported.Unreported.{Unreported}
 use Rattle.reports.specs.Answers.{WantsMemory, Reported, error_answer}
 

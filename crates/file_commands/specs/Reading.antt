@@ -10,8 +10,8 @@ use Rattle.bench_shelf.specs.Dialogue.{Dialogue}
 use Rattle.report_defs.specs.declared.status.Status.{Status}
 use Rattle.report_defs.specs.declared.status.Status.TheVariants as status
 use Rattle.report_defs.specs.Report.{largest_input}
-use Rattle.file_report_defs.specs.LinkedFiles as spec
-use Rattle.file_report_defs.specs.LinkedFiles.{FilesRefusal, read_by}
+use Rattle.report_defs.specs.LinkedFiles as spec
+use Rattle.report_defs.specs.LinkedFiles.{FilesRefusal, read_by}
 use Rattle.file_commands.specs.declared.file_text.FileText.{FileText}
 use Rattle.file_commands.specs.declared.error.ReadingError.{ReadingError}
 use Rattle.file_commands.specs.declared.error.ReadingError.TheVariants.{Missing, TooLarge, Fault, Memory}

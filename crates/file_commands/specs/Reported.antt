@@ -18,9 +18,9 @@ use Rattle.bench_shelf.specs.Dialogue.{CopyDialogue}
 use Rattle.report_defs.specs.declared.status.Status.{Status}
 use Rattle.report_defs.specs.declared.status.Status.TheVariants as status
 use Rattle.report_defs.specs.Report.{Report, largest_input}
-use Rattle.file_report_defs.specs.LinkedFiles.{FilesRefusal, Missing, TooLarge, InFile, Unlinked}
-use Rattle.file_report_defs.specs.LinkedFiles.{read_by, linked_texts}
-use Rattle.file_report_defs.specs.Reports.{copy_report, files_report}
+use Rattle.report_defs.specs.LinkedFiles.{FilesRefusal, Missing, TooLarge, InFile, Unlinked}
+use Rattle.report_defs.specs.LinkedFiles.{read_by, linked_texts}
+use Rattle.report_defs.specs.FileReports.{copy_report, files_report}
 use Rattle.file_commands.specs.Reading.{LinkDialogue, EndsMissing}
 
 -- the shelf failed at the file that was asked for last, and has counted it

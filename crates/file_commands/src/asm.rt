@@ -7,7 +7,7 @@ ghost use Rattle.object_tags.specs.Seen.{defined_module};
 ghost use Rattle.bench_shelf.specs.Causes.{Later};
 ghost use Rattle.bench_shelf.specs.Answered.{IsOfLines};
 ghost use Rattle.report_defs.specs.Report.{largest_input};
-ghost use Rattle.file_report_defs.specs.Reports.{copy_report};
+ghost use Rattle.report_defs.specs.FileReports.{copy_report};
 ghost use Rattle.file_commands.specs.Copying.{copy_refusal};
 ghost use Rattle.file_commands.specs.Reported.{CopyReported, CopyFails};
 ghost use Rattle.reports.specs.Answers.{answer, Reported, error_answer};

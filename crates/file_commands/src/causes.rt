@@ -3,7 +3,7 @@
 ghost use Rattle.std.specs.Prelude.{◌≡◌, ◌≤◌, length, Some};
 ghost use Rattle.arrayvec.specs.ArrayVec.{array_vec_len};
 ghost use Rattle.bench_shelf.specs.CopyAnswers.{defined_cause};
-ghost use Rattle.file_report_defs.specs.FileLines as spec;
+ghost use Rattle.report_defs.specs.FileLines as spec;
 ghost use Rattle.report_defs.specs.FaultLine as faults;
 ghost use Rattle.report_defs.specs.ObjectFaults as objects;
 

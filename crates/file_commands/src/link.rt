@@ -3,9 +3,9 @@
 ghost use Rattle.std.specs.Prelude.{◌≡◌, ◌≤◌, length, Err};
 ghost use Rattle.source_defs.specs.Refusals.{seen};
 ghost use Rattle.bench_shelf.specs.Causes.{Later};
-ghost use Rattle.file_report_defs.specs.Words.{most_files};
-ghost use Rattle.file_report_defs.specs.LinkedFiles.{linked_texts};
-ghost use Rattle.file_report_defs.specs.Reports.{files_report};
+ghost use Rattle.report_defs.specs.ProgramCommands.{most_files};
+ghost use Rattle.report_defs.specs.LinkedFiles.{linked_texts};
+ghost use Rattle.report_defs.specs.FileReports.{files_report};
 ghost use Rattle.file_commands.specs.Reading.{defined_texts, refusal_of};
 ghost use Rattle.file_commands.specs.Reported.{LinkReported, LinkFails};
 ghost use Rattle.reports.specs.Answers.{answer, WantsMemory, Reported, error_answer};

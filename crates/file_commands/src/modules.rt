@@ -3,7 +3,7 @@
 ghost use Rattle.std.specs.Prelude.{◌≡◌, ◌≤◌, ◌*◌, length, vec_len, IfOk};
 ghost use Rattle.object_tags.specs.Answers.{defined_modules};
 ghost use Rattle.object_defs.specs.Reading.{read};
-ghost use Rattle.file_report_defs.specs.LinkedFiles as spec;
+ghost use Rattle.report_defs.specs.LinkedFiles as spec;
 ghost use Rattle.file_commands.specs.Reading.{defined_texts};
 ghost use Rattle.file_commands.specs.Modules.{GivesModules};
 

@@ -8,8 +8,7 @@ use Rattle.gpl_source_defs.specs.declared.causes.GplCause.{GplCause}
 use Rattle.gpl_source_defs.specs.Programs.{Program, program_of_source}
 use Rattle.gpl_step_defs.specs.State.{start}
 use Rattle.gpl_step_defs.specs.Run.{run}
-use Rattle.report_defs.specs.declared.command.Command.{Command}
-use Rattle.report_defs.specs.declared.command.Command.TheVariants.{Asm, Gasm, Dis, Gdis, Link, Exec, Interp, Run, Trace, Demo}
+use Rattle.report_defs.specs.declared.command.Command.TheVariants.{Trace}
 use Rattle.report_defs.specs.declared.fault.Fault.TheVariants.{TooLarge}
 use Rattle.report_defs.specs.declared.status.Status.TheVariants.{Done}
 use Rattle.report_defs.specs.Program.{program_status}
@@ -58,12 +57,4 @@ accepted Accepted input report within on = by (nat_lt largest_input (length inpu
 pub fronts_begin_reports : FrontsBeginReports
 fronts_begin_reports (Trace limit) input front report p q =
     begins_program changes_text limit (program_of_source input) front report p.1 (accepted (AcceptedReport (Trace limit)) input report p.0 q)
-fronts_begin_reports Asm input front report p q = absurd p
-fronts_begin_reports Gasm input front report p q = absurd p
-fronts_begin_reports (Dis at) input front report p q = absurd p
-fronts_begin_reports (Gdis at) input front report p q = absurd p
-fronts_begin_reports Link input front report p q = absurd p
-fronts_begin_reports (Exec limit) input front report p q = absurd p
-fronts_begin_reports Interp input front report p q = absurd p
-fronts_begin_reports (Run limit) input front report p q = absurd p
-fronts_begin_reports (Demo number) input front report p q = absurd p
+fronts_begin_reports _ input front report p q = absurd p

@@ -5,3 +5,4 @@ pub mod ListedBytes
 pub mod ListedWords
 pub mod EnteredWords
 pub mod Fronts
+pub mod ListedFiles

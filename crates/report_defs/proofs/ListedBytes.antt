@@ -1,6 +1,6 @@
 -- What gdis writes of an input is short, and gasm reports that input of it.
-use Rattle.std.proofs.Common.{◌≡◌, ℕ, ◌+◌, ◌-◌, ◌*◌, ◌<◌, ◌≤◌, Bool, true, false, List, [], ◌∷◌, length, refl, sym, subst, arith}
-use Rattle.std.specs.Prelude.{MatchBool, nat_lt, if◌then◌else◌}
+use Rattle.std.proofs.Common.{◌≡◌, ℕ, ◌+◌, ◌-◌, ◌*◌, ◌<◌, ◌≤◌, false, List, [], ◌∷◌, length, refl, sym, subst, arith}
+use Rattle.std.specs.Prelude.{nat_lt}
 use Rattle.std.specs.List.{concat}
 use Rattle.std.specs.FinMap.{empty}
 use Rattle.std.proofs.lemmas.Bool.Decides.{nat_tests}
@@ -9,34 +9,14 @@ use Rattle.gpl_defs.specs.Image.{placed, written_bytes}
 use Rattle.gpl_defs.proofs.ImageLaws.{high_of-empty, low_of-empty}
 use Rattle.gpl_source_defs.specs.Programs.{program_of_source}
 use Rattle.gpl_listing_defs.proofs.LengthLaws.{listings_are_short}
-use Rattle.report_defs.specs.declared.command.Command.TheVariants.{Gasm, Gdis}
-use Rattle.report_defs.specs.declared.fault.Fault.TheVariants.{TooLarge, PastEnd}
+use Rattle.report_defs.specs.declared.command.Command.TheVariants.{Gasm}
 use Rattle.report_defs.specs.declared.status.Status.TheVariants.{Done}
 use Rattle.report_defs.specs.GromListing.{grom_bytes, image_listing}
-use Rattle.report_defs.specs.Report.{Whole, Faulty, largest_input, one_piece, gasm_report, gdis_report, ReportOn}
+use Rattle.report_defs.specs.Report.{Whole, largest_input, one_piece, gasm_report, ReportOn}
 use Rattle.report_defs.specs.Laws.{ListedBytesComeBack, listed_text}
 use Rattle.report_defs.proofs.ListedInputs.{low_placed, high_all, bytes_placed, all_fit, placed_fit, empty_fits}
 use Rattle.report_defs.proofs.ListedInputs.{listed_inputs_come_back}
-
--- bytes whose listing was written
-record Listed (at : ℕ) (input : List ℕ) (pieces : List (List ℕ)) : Type 0 where
-  within : at + length input ≤ 65536
-  pieces_are : pieces ≡ image_listing (placed empty at input)
-
-listed : (at : ℕ) (input : List ℕ) (pieces : List (List ℕ)) → ReportOn (Gdis at) input (Whole Done pieces) →
-    Listed at input pieces
-listed at input pieces reports = by (nat_lt largest_input (length input)) reports
-  where
-    inside : (past : Bool) → nat_lt 65536 (at + length input) ≡ past →
-        Whole Done pieces ≡ (if past then Faulty PastEnd else Whole Done (image_listing (placed empty at input))) →
-        Listed at input pieces
-    inside true is same = absurd (cc same)
-    inside false is same = record { within = grind (arith, nat_tests, is); pieces_are = cc same }
-
-    by : (large : Bool) → MatchBool large (Whole Done pieces ≡ Faulty TooLarge)
-        (Whole Done pieces ≡ gdis_report at input) → Listed at input pieces
-    by true same = absurd (cc same)
-    by false same = inside (nat_lt 65536 (at + length input)) refl same
+use Rattle.report_defs.proofs.ListedWords.{listed}
 
 -- the bytes of the image of an input are the input
 written : (input : List ℕ) (at : ℕ) → at + length input ≤ 65536 → written_bytes (placed empty at input) ≡ input
@@ -68,7 +48,7 @@ reported at input holds below within le =
 
 pub listed_bytes_come_back : ListedBytesComeBack
 listed_bytes_come_back at input pieces holds below reports =
-    let is = listed at input pieces reports in
+    let is = listed at input (image_listing (placed empty at input)) pieces reports in
     subst (λ pieces. (length (concat pieces) ≤ 16 * length input + 299)
     × (length (concat pieces) ≤ largest_input → ReportOn Gasm (concat pieces) (Whole Done (one_piece input))))
     (sym is.pieces_are)

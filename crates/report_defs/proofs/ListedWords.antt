@@ -9,30 +9,31 @@ use Rattle.word_listings.specs.Listing.{memory_listing}
 use Rattle.word_listings.specs.Law.{StandEven, listed_module}
 use Rattle.word_listings.proofs.ListingLaw.{words_fit, word_listings_come_back}
 use Rattle.word_listings.proofs.ShortLaw.{word_listings_are_short}
-use Rattle.report_defs.specs.declared.command.Command.TheVariants.{Asm, Dis}
+use Rattle.report_defs.specs.declared.command.Command.TheVariants.{Asm}
 use Rattle.report_defs.specs.declared.fault.Fault.TheVariants.{TooLarge, PastEnd}
 use Rattle.report_defs.specs.declared.status.Status.TheVariants.{Done}
-use Rattle.report_defs.specs.Report.{Whole, Faulty, largest_input, asm_report, dis_report, ReportOn}
+use Rattle.report_defs.specs.Report.{Whole, Faulty, largest_input, asm_report, OnInput, ReportOn}
 use Rattle.report_defs.specs.Laws.{ListedWordsComeBack}
 
--- bytes whose listing was written
-pub record Listed (at : ℕ) (input : List ℕ) (pieces : List (List ℕ)) : Type 0 where
+-- bytes whose listing was written, of dis or of gdis
+pub record Listed (at : ℕ) (input : List ℕ) (lines pieces : List (List ℕ)) : Type 0 where
   pub within : at + length input ≤ 65536
-  pub pieces_are : pieces ≡ memory_listing at input
+  pub pieces_are : pieces ≡ lines
 
-pub listed : (at : ℕ) (input : List ℕ) (pieces : List (List ℕ)) → ReportOn (Dis at) input (Whole Done pieces) → Listed at input pieces
-listed at input pieces reports = by (nat_lt largest_input (length input)) reports
+pub listed : (at : ℕ) (input : List ℕ) (lines pieces : List (List ℕ))
+    → OnInput (λ input report. report ≡ (if nat_lt 65536 (at + length input) then Faulty PastEnd else Whole Done lines)) input (Whole Done pieces)
+    → Listed at input lines pieces
+listed at input lines pieces reports = by (nat_lt largest_input (length input)) (nat_lt 65536 (at + length input)) refl reports
   where
-    inside : (past : Bool) → nat_lt 65536 (at + length input) ≡ past → Whole Done pieces ≡ (if past then Faulty PastEnd else Whole Done (memory_listing at input)) → Listed at input pieces
-    inside true is same = absurd (cc same)
-    inside false is same = record { within = grind (arith, nat_tests, is); pieces_are = cc same }
+    by : (large past : Bool) → nat_lt 65536 (at + length input) ≡ past
+        → MatchBool large (Whole Done pieces ≡ Faulty TooLarge) (Whole Done pieces ≡ (if past then Faulty PastEnd else Whole Done lines))
+        → Listed at input lines pieces
+    by true past is same = absurd (cc same)
+    by false true is same = absurd (cc same)
+    by false false is same = record { within = grind (arith, nat_tests, is); pieces_are = cc same }
 
-    by : (large : Bool) → MatchBool large (Whole Done pieces ≡ Faulty TooLarge) (Whole Done pieces ≡ dis_report at input) → Listed at input pieces
-    by true same = absurd (cc same)
-    by false same = inside (nat_lt 65536 (at + length input)) refl same
-
-pub stand_even : (at : ℕ) (input : List ℕ) (pieces : List (List ℕ)) → HoldsBytes (length input) input → at % 2 ≡ 0 → at < 65536 → Listed at input pieces → StandEven at input
-stand_even at input pieces holds even below is = record { holds = holds; even = even; below = below; within = is.within }
+pub stand_even : (at : ℕ) (input : List ℕ) → HoldsBytes (length input) input → at % 2 ≡ 0 → at < 65536 → at + length input ≤ 65536 → StandEven at input
+stand_even at input holds even below within = record { holds = holds; even = even; below = below; within = within }
 
 pub not_large : (at : ℕ) (input : List ℕ) → StandEven at input → nat_lt largest_input (length (concat (memory_listing at input))) ≡ false
 not_large at input stands =
@@ -44,8 +45,8 @@ not_large at input stands =
 
 pub listed_words_come_back : ListedWordsComeBack
 listed_words_come_back at input pieces holds even below reports =
-    let is = listed at input pieces reports in
-    let stands = stand_even at input pieces holds even below is in
+    let is = listed at input (memory_listing at input) pieces reports in
+    let stands = stand_even at input holds even below is.within in
     let again : asm_report (listed_module at input None) ≡ asm_report (module_of_source (concat (memory_listing at input))) =
     ap asm_report (sym (word_listings_come_back at input stands)) in
     subst (λ pieces. ReportOn Asm (concat pieces) (asm_report (listed_module at input None))) (sym is.pieces_are)

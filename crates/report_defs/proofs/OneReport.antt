@@ -1,4 +1,4 @@
--- There is one report on each command and input.
+-- There is one report on each command and input, and with files.
 use Rattle.std.proofs.Common.{◌≡◌, ℕ, List, length, refl, sym, ap, ◌∙◌, subst, arith, Option, Some, None, Bool, true, false}
 use Rattle.std.specs.Prelude.{MatchBool, nat_lt, Result, Ok, Err}
 use Rattle.std.proofs.lemmas.Bool.Decides.{nat_tests}
@@ -13,7 +13,7 @@ use Rattle.console_defs.specs.Machine.{MachineState, new_machine}
 use Rattle.console_defs.specs.Runs.{IsRun, end_at, after}
 use Rattle.console_defs.specs.declared.run_end.RunEnd.{RunEnd}
 use Rattle.report_defs.specs.declared.command.Command.{Command}
-use Rattle.report_defs.specs.declared.command.Command.TheVariants.{Asm, Gasm, Dis, Gdis, Link, Exec, Interp, Run, Trace, Demo}
+use Rattle.report_defs.specs.declared.command.Command.TheVariants.{Exec, Interp, Run, Trace, Demo}
 use Rattle.report_defs.specs.Exec.{IsStart, Executes, exec_lines, end_status}
 use Rattle.report_defs.specs.declared.fault.Fault.TheVariants.{TooLarge}
 use Rattle.report_defs.specs.declared.status.Status.TheVariants.{Done}
@@ -33,7 +33,13 @@ use Rattle.gpl_step_defs.specs.Run.{run}
 use Rattle.interp_defs.specs.Programs.{RunsProgram}
 use Rattle.interp_defs.proofs.OneBoot.{same_list, one_zeros, one_vdp, same_memory}
 use Rattle.interp_defs.proofs.OneMachine.{one_machine_is_left}
-use Rattle.report_defs.specs.Laws.{OneReport}
+use Rattle.watch_defs.specs.declared.item.Item.{Item}
+use Rattle.watch_defs.specs.declared.found.Found.{Found}
+use Rattle.watch_defs.specs.Hits as hits
+use Rattle.report_defs.specs.Watching.{ReportsWatch, steps_to, watch_report}
+use Rattle.report_defs.specs.ProgramCommands.{AsmFiles, LinkFiles, Watch, OverFiles, Plain}
+use Rattle.report_defs.specs.FileReports.{AsmReport}
+use Rattle.report_defs.specs.Laws.{OneReport, OneReportWith}
 
 -- one memory is a new one
 one_new : (a b : Memory) (vdp_a vdp_b : VdpState) (grom_a grom_b : GromState) → vdp_a ≡ vdp_b → grom_a ≡ grom_b → IsNewMemory a vdp_a grom_a → IsNewMemory b vdp_b grom_b → a ≡ b
@@ -60,24 +66,19 @@ one_start linked a b p q =
     ∙ ap (λ memory. new_machine memory 0x83E0 linked.entry) (one_memory linked p.image q.image a.cpu.memory b.cpu.memory image p.machine.memory q.machine.memory)
     ∙ sym q.machine.machine
 
-some_apart : (e : RunEnd) (end : Option RunEnd) → end ≡ Some e → end ≡ None → ⊥
-some_apart e end is none = absurd (cc)
-
-some_one : (e f : RunEnd) → Some e ≡ Some f → e ≡ f
-some_one e f is = cc
-
 -- a run ends at one number, and by one end
 one_number : (stop : Option ℕ) (limit m n : ℕ) (x y z : MachineState) (e f : RunEnd) → IsRun stop limit m x e y → IsRun stop limit n x f z → m ≡ n
 one_number stop limit m n x y z e f p q = by (nat_lt m n) refl (nat_lt n m) refl
   where
     by : (below : Bool) → nat_lt m n ≡ below → (above : Bool) → nat_lt n m ≡ above → m ≡ n
-    by true b above a = absurd (some_apart e _ p.ends (q.first m (grind (arith, nat_tests))))
-    by false b true a = absurd (some_apart f _ q.ends (p.first n (grind (arith, nat_tests))))
+    by true b above a = let none = q.first m (grind (arith, nat_tests)) in absurd (cc (p.ends, none))
+    by false b true a = let none = p.first n (grind (arith, nat_tests)) in absurd (cc (q.ends, none))
     by false b false a = grind (arith, nat_tests)
 
 same_run : (stop : Option ℕ) (limit m n : ℕ) (x y z : MachineState) (e f : RunEnd) → m ≡ n → IsRun stop limit m x e y → IsRun stop limit n x f z → (e ≡ f) × (y ≡ z)
 same_run stop limit m n x y z e f same p q =
-    (some_one e f (sym p.ends ∙ ap (λ made. end_at stop limit made x) same ∙ q.ends), p.left ∙ ap (λ made. after made x) same ∙ sym q.left)
+    let is : Some e ≡ Some f = sym p.ends ∙ ap (λ made. end_at stop limit made x) same ∙ q.ends in
+    (cc is, p.left ∙ ap (λ made. after made x) same ∙ sym q.left)
 
 -- one end and one machine come of a program
 one_execution : (limit : ℕ) (linked : LinkedMemory) (e f : RunEnd) (left right : MachineState) → Executes limit linked e left → Executes limit linked f right → (e ≡ f) × (left ≡ right)
@@ -137,11 +138,6 @@ one_assembled Reports one (Ok program) first second p q = one_entered Reports on
 one_assembled Reports one (Err refused) first second p q = p ∙ sym q
 
 one_accepted : (command : Command) (input : List ℕ) (first second : Report) → AcceptedReport command input first → AcceptedReport command input second → first ≡ second
-one_accepted Asm input first second p q = p ∙ sym q
-one_accepted Gasm input first second p q = p ∙ sym q
-one_accepted (Dis at) input first second p q = p ∙ sym q
-one_accepted (Gdis at) input first second p q = p ∙ sym q
-one_accepted Link input first second p q = p ∙ sym q
 one_accepted (Exec limit) input first second p q = one_exec limit (linked_input input) first second p q
 one_accepted Interp input first second p q = one_interpreter_report first second p q
 one_accepted (Run limit) input first second p q =
@@ -151,7 +147,38 @@ one_accepted (Trace limit) input first second p q =
 one_accepted (Demo number) input first second p q =
     one_assembled (ReportsProgram (demo_lines number) most_steps) (one_program (demo_lines number) most_steps)
     (program_of_source (demo_text number)) first second p q
+one_accepted _ input first second p q = p ∙ sym q
 
 pub one_report : OneReport
 one_report command input first second p q =
     one_by (nat_lt largest_input (length input)) (Faulty TooLarge) first second (AcceptedReport command input) (one_accepted command input) p q
+
+-- ---- the reports with files
+
+one_watched : (limit : ℕ) (items : List Item) (image : Image) (entry : ℕ) → One (ReportsWatch limit items image entry)
+one_watched limit items image entry first second p q =
+    let bytes : p.bytes ≡ q.bytes = one_bytes image p.bytes q.bytes p.of_image q.of_image in
+    let found : p.found ≡ q.found =
+    p.is_found ∙ ap (λ (b : List ℕ). hits.found items limit (start b entry)) bytes ∙ sym q.is_found in
+    let same : RunsProgram q.bytes entry (steps_to p.found limit) p.left =
+    subst (λ (b : List ℕ). RunsProgram b entry (steps_to p.found limit) p.left) bytes p.runs in
+    let runs : RunsProgram q.bytes entry (steps_to q.found limit) p.left =
+    subst (λ (f : Found). RunsProgram q.bytes entry (steps_to f limit) p.left) found same in
+    let left : p.left ≡ q.left =
+    one_machine_is_left q.bytes entry (steps_to q.found limit) p.left q.left runs q.runs in
+    p.is
+    ∙ ap (λ (b : List ℕ). watch_report p.found limit (start b entry) p.left) bytes
+    ∙ ap (λ (f : Found). watch_report f limit (start q.bytes entry) p.left) found
+    ∙ ap (λ (x : MachineState). watch_report q.found limit (start q.bytes entry) x) left
+    ∙ sym q.is
+
+pub one_report_with : OneReportWith
+one_report_with (OverFiles AsmFiles) input files first second p q =
+    one_by (nat_lt largest_input (length input)) (Faulty TooLarge) first second (AsmReport files input)
+    (λ a b e f. e ∙ sym f) p q
+one_report_with (OverFiles (LinkFiles names)) input files first second p q = p ∙ sym q
+one_report_with (OverFiles (Watch limit items)) input files first second p q =
+    one_by (nat_lt largest_input (length input)) (Faulty TooLarge) first second
+    (ProgramReport (ReportsWatch limit items) (program_of_source input))
+    (one_assembled (ReportsWatch limit items) (one_watched limit items) (program_of_source input)) p q
+one_report_with (Plain command) input files first second p q = one_report command input first second p q

@@ -9,6 +9,7 @@ use Rattle.gpl_defs.specs.Image.{placed}
 use Rattle.gpl_source_defs.specs.Programs.{program_of_source}
 use Rattle.link_defs.specs.Causes.{LinkCause}
 use Rattle.link_defs.specs.LinkedMemory.{LinkedMemory}
+use Rattle.shelf_defs.specs.Files.{Files}
 use Rattle.word_listings.specs.Modules.{padded_words}
 use Rattle.word_listings.specs.Law.{StandEven, listed_module, entered_listing}
 use Rattle.word_listings.specs.Linking.{first_outside, GivesWords}
@@ -20,14 +21,21 @@ use Rattle.report_defs.specs.GromListing.{image_listing}
 use Rattle.report_defs.specs.ObjectFaults.{link_line}
 use Rattle.report_defs.specs.ObjectInput.{told}
 use Rattle.report_defs.specs.Report.{Report, Whole, Faulty, Rejected, asm_report, link_report, one_piece}
-use Rattle.report_defs.specs.Report.{largest_input, ReportOn}
-use Rattle.report_defs.specs.Report.{FrontOn}
+use Rattle.report_defs.specs.Report.{largest_input, ReportOn, FrontOn}
+use Rattle.report_defs.specs.ProgramCommands.{AsmFiles, ProgramCommand, OverFiles, Plain}
+use Rattle.report_defs.specs.FileReports.{ReportWith}
 
 -- the law, which is proved: there is at most one report on each command and input
 abbrev pub OneReport : Type 0
 OneReport =
     (command : Command) (input : List ℕ) (first second : Report)
     → ReportOn command input first → ReportOn command input second → first ≡ second
+
+-- the law, which is proved: there is at most one report on each command, input and files
+abbrev pub OneReportWith : Type 0
+OneReportWith =
+    (command : ProgramCommand) (input : List ℕ) (files : Files) (first second : Report)
+    → ReportWith command input files first → ReportWith command input files second → first ≡ second
 
 -- One report begins another: its pieces are the first of the other's. The report of an input that is refused begins
 -- itself alone.
@@ -75,6 +83,16 @@ ListedWordsComeBack =
     → HoldsBytes (length input) input → at % 2 ≡ 0 → at < 65536
     → ReportOn (Dis at) input (Whole Done pieces)
     → ReportOn Asm (concat pieces) (asm_report (listed_module at input None))
+
+-- The law, which is proved: the report of asm on what dis writes of an input, whatever files there are, is the object
+-- text of the module that has its words at their addresses and nothing else; or the refusal of the first of its jumps
+-- that wraps around the ends of memory. A listing copies no file.
+abbrev pub ListedWordsComeBackWith : Type 0
+ListedWordsComeBackWith =
+    (at : ℕ) (input : List ℕ) (pieces : List (List ℕ)) (files : Files)
+    → HoldsBytes (length input) input → at % 2 ≡ 0 → at < 65536
+    → ReportWith (Plain (Dis at)) input files (Whole Done pieces)
+    → ReportWith (OverFiles AsmFiles) (concat pieces) files (asm_report (listed_module at input None))
 
 -- The law, which is proved: where an entry is written behind END of what dis writes of an input, the report of asm is
 -- the object text of the same module with that entry; or the same refusal.

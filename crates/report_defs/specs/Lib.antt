@@ -14,4 +14,9 @@ pub mod ObjectFaults
 pub mod ObjectInput
 pub mod MemoryListing
 pub mod Report
+pub mod ProgramCommands
+pub mod FileLines
+pub mod LinkedFiles
+pub mod Watching
+pub mod FileReports
 pub mod Laws

@@ -37,32 +37,6 @@ pub first_within : (text : List ℕ) → length (first_line text) ≤ length tex
 first_within [] = omega arith
 first_within (byte ∷ bytes) = within_by byte bytes (is_line_feed byte) refl (first_within bytes)
 
-passed_more : (n : ℕ) (text : List ℕ) → n < length text → is_line_feed (get_or text n 0) ≡ false → take n text ++ first_line (drop n text) ≡ take (suc n) text ++ first_line (drop (suc n) text)
-passed_more n [] lt none = absurd (omega arith)
-passed_more zero (byte ∷ bytes) lt none = rw none refl
-passed_more (suc n) (byte ∷ bytes) lt none = ap (λ t. byte ∷ t) (passed_more n bytes (omega arith) none)
-
--- no line feed among the first bytes: the first line is these and that of the others
-pub passed : (n : ℕ) (text : List ℕ) → n < length text → is_line_feed (get_or text n 0) ≡ false → first_line text ≡ take n text ++ first_line (drop n text) → first_line text ≡ take (n + 1) text ++ first_line (drop (n + 1) text)
-passed n text lt none found = rw add-one (found ∙ passed_more n text lt none)
-
-ended_by : (n : ℕ) (text : List ℕ) → n < length text → is_line_feed (get_or text n 0) ≡ true → take n text ++ first_line (drop n text) ≡ take (suc n) text
-ended_by n [] lt feed = absurd (omega arith)
-ended_by zero (byte ∷ bytes) lt feed = rw feed refl
-ended_by (suc n) (byte ∷ bytes) lt feed = ap (λ t. byte ∷ t) (ended_by n bytes (omega arith) feed)
-
--- a line feed ends it
-pub ended : (n : ℕ) (text : List ℕ) → n < length text → is_line_feed (get_or text n 0) ≡ true → first_line text ≡ take n text ++ first_line (drop n text) → take (n + 1) text ≡ first_line text
-ended n text lt feed found = rw add-one (sym (found ∙ ended_by n text lt feed))
-
-all_passed : (text : List ℕ) → take (length text) text ++ first_line (drop (length text) text) ≡ text
-all_passed [] = refl
-all_passed (byte ∷ bytes) = ap (λ t. byte ∷ t) (all_passed bytes)
-
--- without a line feed it is the whole text
-pub whole : (n : ℕ) (text : List ℕ) → n ≡ length text → first_line text ≡ take n text ++ first_line (drop n text) → text ≡ first_line text
-whole n text end found = sym (found ∙ (ap (λ k. take k text ++ first_line (drop k text)) end ∙ all_passed text))
-
 -- the lines behind the first are shorter
 pub fewer : (text others : List ℕ) → 0 < length text → others ≡ drop (length (first_line text)) text → length others < length text
 fewer text others some is =
@@ -87,8 +61,3 @@ put_missed text rest a b c some put missed =
     rw all
     (missed_more a b c put.lines (first_line rest ∷ text_lines (drop (length (first_line rest)) rest)) put.wrote
     (missed_early b c (first_line rest ∷ []) (text_lines (drop (length (first_line rest)) rest)) missed))
-
-pub put_all : (text rest : List ℕ) (a b : SinkState) → rest ≡ [] → Put text rest a b → Wrote a b (text_lines text)
-put_all text rest a b none put =
-    let all = put.left ∙ (ap (λ rest. put.lines ++ text_lines rest) none ∙ append-nil put.lines) in
-    rw all put.wrote

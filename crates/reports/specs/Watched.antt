@@ -6,7 +6,7 @@ use Rattle.watch_defs.specs.declared.found.Found.TheVariants as found
 use Rattle.report_defs.specs.declared.status.Status.{Status}
 use Rattle.report_defs.specs.declared.status.Status.TheVariants.{Done}
 use Rattle.report_defs.specs.Program.{program_status, stop_lines, state_lines}
-use Rattle.file_report_defs.specs.Watching.{hit_line, no_hit_line}
+use Rattle.report_defs.specs.Watching.{hit_line, no_hit_line}
 
 -- what is said of what was found
 abbrev pub found_line : Found → List ℕ

@@ -2,7 +2,7 @@
 
 ghost use Rattle.std.specs.Prelude.{◌≡◌, ◌≤◌, ◌+◌, ◌++◌};
 ghost use Rattle.arrayvec.specs.ArrayVec.{array_vec_len};
-ghost use Rattle.file_report_defs.specs.Watching as spec;
+ghost use Rattle.report_defs.specs.Watching as spec;
 
 use asm_text::byte_digits;
 use report_lines::{Line, append, append_count, append_word};
@@ -44,7 +44,7 @@ fn append_change(line: &mut Line, change: Option<(u16, u8)>)
 }
 
 /// The line of a run in which nothing was found.
-#[tactic(auto, unfolding(file_report_defs::specs::Watching::no_hit_line))]
+#[tactic(auto, unfolding(report_defs::specs::Watching::no_hit_line))]
 pub(crate) fn no_hit_line() -> &'static [u8]
     ensures { result.now ≡ spec.no_hit_line }
 {

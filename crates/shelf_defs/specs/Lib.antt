@@ -2,6 +2,5 @@ pub mod Files
 pub mod CopyLines
 pub mod Copied
 pub mod Assembly
-pub mod Alone
 pub mod Questions
 pub mod Amounts

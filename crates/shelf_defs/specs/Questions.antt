@@ -64,8 +64,3 @@ pub record EndsWith (answer : Answer) (questions : List Question) : Type 0 where
   pub last : Question
   pub are : questions ≡ front ++ last ∷ []
   pub is : last.answer ≡ answer
-
--- a source with these files is not refused for a missing one
-abbrev pub MissesNone : Files → List ℕ → Type 0
-MissesNone files source =
-    (place : Place) (name : List ℕ) → module_of_files files source ≡ Err (At place (Missing name)) → ⊥

@@ -19,7 +19,7 @@ use Rattle.gpl_watch.specs.Watches.{Watches}
 use Rattle.report_defs.specs.declared.status.Status.TheVariants.{Done}
 use Rattle.report_defs.specs.Program.{state_lines, stop_lines, program_status}
 use Rattle.report_defs.specs.Report.{Whole}
-use Rattle.file_report_defs.specs.Watching.{hit_line, no_hit_line, steps_to, watch_report}
+use Rattle.report_defs.specs.Watching.{hit_line, no_hit_line, steps_to, watch_report}
 use Rattle.reports.specs.Watched.{watched_status, watched_lines}
 use Rattle.watch_command.specs.Ran.{WatchesProgram}
 

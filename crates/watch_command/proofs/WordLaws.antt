@@ -3,7 +3,7 @@ use Rattle.std.proofs.Common.{◌≡◌, List, [], ◌∷◌, ◌++◌, Option, 
 use Rattle.std.proofs.Common.{refl, sym, ap, ◌∙◌, append_assoc}
 use Rattle.std.specs.Prelude.{ℕ, option_map, option_and_then}
 use Rattle.watch_defs.specs.declared.item.Item.{Item}
-use Rattle.file_report_defs.specs.Words.{item_word, item_words}
+use Rattle.report_defs.specs.ProgramCommands.{item_word, item_words}
 
 -- The words that are left say what follows these items.
 abbrev pub Said : List Item → List (List ℕ) → Option (List Item) → Type 0

@@ -6,7 +6,7 @@ use Rattle.gpl_step_defs.specs.Run.{run}
 use Rattle.interp_defs.specs.Programs.{RunsProgram}
 use Rattle.watch_defs.specs.declared.item.Item.{Item}
 use Rattle.watch_defs.specs.Hits as hits
-use Rattle.file_report_defs.specs.Watching.{steps_to, watch_report}
+use Rattle.report_defs.specs.Watching.{steps_to, watch_report}
 use Rattle.reports.specs.declared.watched.Watched.{Watched}
 use Rattle.reports.specs.declared.report.Report.TheVariants as made
 use Rattle.reports.specs.Made.{defined_report}

@@ -2,7 +2,7 @@
 
 ghost use Rattle.std.specs.Prelude.{◌≡◌, ◌≤◌, take, drop, option_map, IfSome};
 ghost use Rattle.report_defs.specs.Commands.{address_word};
-ghost use Rattle.file_report_defs.specs.Words as spec;
+ghost use Rattle.report_defs.specs.ProgramCommands as spec;
 ghost use Rattle.watch_defs.specs.Items.{IsItem};
 ghost use Rattle.watch_defs.specs.declared.item.Item.TheVariants.{Pc};
 

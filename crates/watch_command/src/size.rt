@@ -1,7 +1,7 @@
 //! The sizes of ranges.
 
 ghost use Rattle.std.specs.Prelude.{◌≡◌, ◌≤◌, IfSome};
-ghost use Rattle.file_report_defs.specs.Words.{size_word};
+ghost use Rattle.report_defs.specs.ProgramCommands.{size_word};
 
 use command_words::number_word;
 

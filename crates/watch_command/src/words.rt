@@ -1,7 +1,7 @@
 //! The words of `watch`.
 
 ghost use Rattle.std.specs.Prelude.{◌≡◌, ◌≤◌, ◌<◌, ◌∷◌, length, map, option_map, IfSome};
-ghost use Rattle.file_report_defs.specs.Words as spec;
+ghost use Rattle.report_defs.specs.ProgramCommands as spec;
 ghost use Rattle.report_defs.specs.Commands.{most_steps};
 ghost use Rattle.watch_defs.specs.Items.{IsItem};
 

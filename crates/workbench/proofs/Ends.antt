@@ -20,12 +20,12 @@ use Rattle.watch_defs.specs.declared.found.Found.TheVariants as found
 use Rattle.watch_defs.specs.declared.item.Item.{Item}
 use Rattle.shelf_defs.specs.Copied as copied
 use Rattle.shelf_defs.specs.Copied.{CopyRefusal}
-use Rattle.file_report_defs.specs.LinkedFiles as linked
-use Rattle.file_report_defs.specs.LinkedFiles.{FilesRefusal, linked_texts}
-use Rattle.file_report_defs.specs.Reports.{copy_report, files_report}
-use Rattle.file_report_defs.specs.Watching.{ReportsWatch, watch_report}
-use Rattle.file_report_defs.specs.Whole.{WatchReport}
-use Rattle.file_report_defs.specs.Words.{FileCommand, AsmFiles, LinkFiles, Watch, ProgramCommand, OverFiles, Plain}
+use Rattle.report_defs.specs.LinkedFiles as linked
+use Rattle.report_defs.specs.LinkedFiles.{FilesRefusal, linked_texts}
+use Rattle.report_defs.specs.FileReports.{copy_report, files_report}
+use Rattle.report_defs.specs.Watching.{ReportsWatch, watch_report}
+use Rattle.report_defs.specs.FileReports.{WatchReport}
+use Rattle.report_defs.specs.ProgramCommands.{FileCommand, AsmFiles, LinkFiles, Watch, ProgramCommand, OverFiles, Plain}
 use Rattle.report_defs.specs.Report.{Report, Faulty, ProgramReport, largest_input}
 use Rattle.bench_shelf.specs.States.{ShelfState}
 use Rattle.file_commands.specs.Reported.{CopyReported, CopyFails}

@@ -9,12 +9,12 @@ use Rattle.watch_defs.proofs.FirstHits.{hits_are_first}
 use Rattle.watch_defs.proofs.Changes.{ranges_hold_by_their_bytes}
 use Rattle.report_defs.specs.declared.fault.Fault.TheVariants.{TooLarge}
 use Rattle.report_defs.specs.Report.{Report, Faulty, OnInput, largest_input}
-use Rattle.file_report_defs.specs.LinkedFiles.{linked_texts, read_files}
-use Rattle.file_report_defs.specs.Reports.{copy_report, files_report}
-use Rattle.file_report_defs.specs.Words.{AsmFiles, LinkFiles, Watch, ProgramCommand, OverFiles, Plain}
-use Rattle.file_report_defs.specs.Whole.{AsmReport, WatchReport, ReportWith}
-use Rattle.file_report_defs.proofs.OneReport.{one_report_with}
-use Rattle.file_report_defs.proofs.ListedFiles.{listed_words_come_back_with}
+use Rattle.report_defs.specs.LinkedFiles.{linked_texts, read_files}
+use Rattle.report_defs.specs.FileReports.{copy_report, files_report}
+use Rattle.report_defs.specs.ProgramCommands.{AsmFiles, LinkFiles, Watch, ProgramCommand, OverFiles, Plain}
+use Rattle.report_defs.specs.FileReports.{AsmReport, WatchReport, ReportWith}
+use Rattle.report_defs.proofs.OneReport.{one_report_with}
+use Rattle.report_defs.proofs.ListedFiles.{listed_words_come_back_with}
 use Rattle.bench_shelf.specs.States.{ShelfState}
 use Rattle.bench_shelf.proofs.FilesLaws.{module_of_shown}
 use Rattle.file_commands.specs.Reported.{CopyReported}

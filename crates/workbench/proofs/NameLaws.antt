@@ -5,7 +5,7 @@ use Rattle.std.specs.Prelude.{◌&&◌, nat_le, if◌then◌else◌}
 use Rattle.std.proofs.lemmas.Bool.Decides.{nat_tests}
 use Rattle.std.specs.List.{list_all}
 use Rattle.shelf_defs.specs.Files.{is_file_name}
-use Rattle.file_report_defs.specs.Words.{are_file_names, input_command, program_command}
+use Rattle.report_defs.specs.ProgramCommands.{are_file_names, input_command, program_command}
 
 abbrev pub texts : List (Vec ℕ Global) → List (List ℕ)
 texts words = map (λ (word : Vec ℕ Global). word.items) words

@@ -8,7 +8,7 @@ use Rattle.report_defs.specs.declared.fault.Fault.TheVariants.{TooLarge}
 use Rattle.report_defs.specs.declared.status.Status.{Status}
 use Rattle.report_defs.specs.declared.status.Status.TheVariants as status
 use Rattle.report_defs.specs.Report.{Report, Faulty, largest_input}
-use Rattle.file_report_defs.specs.Words.{AsmFiles, LinkFiles, Watch, ProgramCommand, OverFiles, Plain}
+use Rattle.report_defs.specs.ProgramCommands.{AsmFiles, LinkFiles, Watch, ProgramCommand, OverFiles, Plain}
 use Rattle.file_commands.specs.Reported.{CopyReported}
 use Rattle.reports.specs.Run.{Run, EndsSaid, EndsBy}
 use Rattle.workbench.specs.FileProgram.{Reading, Reports, Begins, Leaves, file_program, TakesOfShelf}

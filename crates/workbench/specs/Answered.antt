@@ -3,7 +3,7 @@ use Rattle.std.specs.Prelude.{Result}
 use Rattle.report_defs.specs.declared.status.Status.{Status}
 use Rattle.report_defs.specs.declared.status.Status.TheVariants as status
 use Rattle.report_defs.specs.Report.{Report}
-use Rattle.file_report_defs.specs.Words.{FileCommand, OverFiles}
+use Rattle.report_defs.specs.ProgramCommands.{FileCommand, OverFiles}
 use Rattle.reports.specs.Answers.{Reported}
 use Rattle.workbench.specs.FileProgram.{Reading, Reports, Leaves, ReadFails}
 

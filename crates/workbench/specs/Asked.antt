@@ -1,6 +1,6 @@
 -- What the words ask for, as the definitions see it.
 use Rattle.std.specs.Prelude.{⊤}
-use Rattle.file_report_defs.specs.Words as spec
+use Rattle.report_defs.specs.ProgramCommands as spec
 use Rattle.report_defs.specs.Commands.{KeepsLimit}
 use Rattle.workbench.specs.declared.command.FileCommand.{FileCommand}
 use Rattle.workbench.specs.declared.command.FileCommand.TheVariants.{AsmFiles, LinkFiles, Watch}

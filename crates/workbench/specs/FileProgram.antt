@@ -6,8 +6,9 @@ use Rattle.bench_io.specs.Stream.{SourceState}
 use Rattle.bench_io.specs.ReadAll.{ReadWhole}
 use Rattle.report_defs.specs.declared.fault.Fault.TheVariants.{TooLarge}
 use Rattle.report_defs.specs.Report.{Report, Faulty, OnInput, largest_input}
-use Rattle.file_report_defs.specs.Words.{AsmFiles, LinkFiles, Watch, ProgramCommand, OverFiles, Plain, program_usage}
-use Rattle.file_report_defs.specs.Whole.{WatchReport, ReportWith}
+use Rattle.report_defs.specs.ProgramCommands.{AsmFiles, LinkFiles, Watch, ProgramCommand}
+use Rattle.report_defs.specs.ProgramCommands.{OverFiles, Plain, program_usage}
+use Rattle.report_defs.specs.FileReports.{WatchReport, ReportWith}
 use Rattle.shelf_defs.specs.Files.{Files}
 use Rattle.shelf_defs.specs.Copied.{most_bytes, most_copies}
 use Rattle.shelf_defs.specs.Questions.{Question}

@@ -1,7 +1,7 @@
 -- What holds of all runs of the program with files.
 use Rattle.watch_defs.specs.Laws.{HitsAreFirst}
 use Rattle.watch_defs.specs.RangeLaw.{RangesHoldByTheirBytes}
-use Rattle.file_report_defs.specs.Laws.{ListedWordsComeBackWith}
+use Rattle.report_defs.specs.Laws.{ListedWordsComeBackWith}
 use Rattle.reports.specs.RunLaws.{LawsOfProgram}
 use Rattle.bench_commands.specs.Laws.{LawsOfRuns}
 use Rattle.workbench.specs.FileProgram.{file_program}

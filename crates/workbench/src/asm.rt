@@ -1,7 +1,7 @@
 //! `asm`: the object text of an assembler source with the files that it copies.
 
 ghost use Rattle.bench_shelf.specs.Causes.{Later};
-ghost use Rattle.file_report_defs.specs.Words.{AsmFiles};
+ghost use Rattle.report_defs.specs.ProgramCommands.{AsmFiles};
 ghost use Rattle.reports.specs.Answers.{answer};
 ghost use Rattle.workbench.specs.Answered.{AnswersWith};
 

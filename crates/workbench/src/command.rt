@@ -2,7 +2,7 @@
 
 ghost use Rattle.std.specs.Prelude.{◌≡◌, ◌∷◌, map, option_map, IfSome};
 ghost use Rattle.report_defs.specs.Commands.{same_word};
-ghost use Rattle.file_report_defs.specs.Words as spec;
+ghost use Rattle.report_defs.specs.ProgramCommands as spec;
 ghost use Rattle.workbench.specs.Asked.{defined_command, defined_over, IsWithin};
 
 use crate::names::{FileNames, MOST_FILES};

@@ -1,7 +1,7 @@
 //! The program, over any input, shelf and outputs.
 
 ghost use Rattle.bench_shelf.specs.Causes.{Later};
-ghost use Rattle.file_report_defs.specs.Words.{program_command};
+ghost use Rattle.report_defs.specs.ProgramCommands.{program_command};
 ghost use Rattle.reports.specs.Run.{EndsBy};
 ghost use Rattle.workbench.specs.FileProgram.{TakesOfShelf, file_program};
 ghost use Rattle.workbench.specs.Laws.{LawsOfFileRuns};

@@ -1,10 +1,10 @@
 //! How the program is called.
 
 ghost use Rattle.std.specs.Prelude.{◌≡◌};
-ghost use Rattle.file_report_defs.specs.Words.{program_usage};
+ghost use Rattle.report_defs.specs.ProgramCommands.{program_usage};
 
 /// How the program is called.
-#[tactic(auto, unfolding(file_report_defs::specs::Words::program_usage))]
+#[tactic(auto, unfolding(report_defs::specs::ProgramCommands::program_usage))]
 pub(crate) fn usage() -> &'static [u8]
     ensures { result.now ≡ program_usage }
 {

@@ -2,8 +2,8 @@
 
 ghost use Rattle.std.specs.Prelude.{◌≤◌, length};
 ghost use Rattle.report_defs.specs.Report.{largest_input};
-ghost use Rattle.file_report_defs.specs.Whole as whole;
-ghost use Rattle.file_report_defs.specs.Words as spec;
+ghost use Rattle.report_defs.specs.FileReports as whole;
+ghost use Rattle.report_defs.specs.ProgramCommands as spec;
 ghost use Rattle.bench_shelf.specs.States.{ShelfState};
 ghost use Rattle.reports.specs.Answers.{answer, WantsMemory, Reported};
 ghost use Rattle.workbench.specs.Answered.{AnswersWith};

@@ -1,4 +1,4 @@
-use Rattle.std.proofs.Common.{◌≡◌, ◌≤◌, ◌+◌, [], length, take, drop, ◌++◌, ap, ◌∙◌, refl, arith, rules, length-append, length-take}
+use Rattle.std.proofs.Common.{◌≡◌, ◌≤◌, [], length, take, drop, ◌++◌, ap, ◌∙◌, refl, arith, rules, length-append, length-take}
 use Rattle.std.proofs.lemmas.Result.{err_from_is_err_and}
 use Rattle.std.proofs.lemmas.List.{take-append-le}
 use Rattle.bench_io.proofs.Taking.{took_then, took_more, took_last, largest_last, rose_since, few_calls}
@@ -11,13 +11,10 @@ loop-bytes-preserved g c =
     let piece = take-append-le count c.take_once.new.buffer (drop c.min-room.result c.loop-bytes.buffer) le in
     let items = c.in_ok-extend_from_slice.ensures.items ∙ ap (λ x. c.loop-bytes.bytes.items ++ x) piece in
     let len : length (take count c.take_once.new.buffer) ≡ count = simp length-take (omega arith) in
-    let size : length c.extend_from_slice.new.self.items ≡ length c.loop-bytes.bytes.items + count =
-    ap length items
-    ∙ (length-append c.loop-bytes.bytes.items (take count c.take_once.new.buffer)
-    ∙ ap (λ n. length c.loop-bytes.bytes.items + n) len) in
+    let size = length-append c.loop-bytes.bytes.items (take count c.take_once.new.buffer) in
     record {
       took = rw items (took_more _ _ _ _ _ _ (omega arith) c.loop-bytes.invariant.took c.in_ok-count.ensures.took);
-      within = omega (arith, c.loop-bytes.bytes.ok.0);
+      within = omega (arith, ap length items, size, len, c.loop-bytes.bytes.ok.0);
       piece = search rules;
       kept = c.take_once.ensures.kept ∙ c.loop-bytes.invariant.kept;
     }
@@ -47,20 +44,20 @@ pub returns-then-limit-len-clause-err : goal.returns-then-limit-len-clause-err
 returns-then-limit-len-clause-err g c =
     let count = c.in_ok-count.count in
     let le : count ≤ length c.take_once.new.buffer = omega (arith, c.in_ok-count.ensures.within, c.take_once.auto.buffer) in
-    let len : length (take count c.take_once.new.buffer) ≡ count = simp length-take (omega arith) in
-    let room : length c.loop-bytes.bytes.items + count ≡ c.args.limit + 1 = omega (
-      arith,
-      c.in_ok-count.ensures.within,
-      length-take c.min-room.result c.loop-bytes.buffer,
-      c.if-limit-len.true,
-      c.len.ensures,
-      c.len-in-loop-bytes.ensures,
-      c.min-room.ensures,
-      c.loop-bytes.bytes.ok.0,
-    ) in (
+    let len : length (take count c.take_once.new.buffer) ≡ count = simp length-take (omega arith) in (
       c.loop-bytes.bytes.items ++ take count c.take_once.new.buffer,
-      length-append c.loop-bytes.bytes.items (take count c.take_once.new.buffer)
-          ∙ (ap (λ n. length c.loop-bytes.bytes.items + n) len ∙ room),
+      omega (
+        arith,
+        length-append c.loop-bytes.bytes.items (take count c.take_once.new.buffer),
+        len,
+        c.in_ok-count.ensures.within,
+        length-take c.min-room.result c.loop-bytes.buffer,
+        c.if-limit-len.true,
+        c.len.ensures,
+        c.len-in-loop-bytes.ensures,
+        c.min-room.ensures,
+        c.loop-bytes.bytes.ok.0,
+      ),
       took_more _ _ _ _ _ _ (omega arith) c.loop-bytes.invariant.took c.in_ok-count.ensures.took,
       largest_last _ _ _ _ _ _ c.loop-bytes.invariant.took c.in_ok-count.ensures.given,
     )

@@ -3,7 +3,7 @@ use Rattle.source_defs.specs.Refusals.{Refusal}
 use Rattle.object_defs.specs.declared.causes.TagCause.{TagCause}
 use Rattle.object_defs.specs.Reading.{read}
 use Rattle.report_defs.specs.Report.{Rejected}
-use Rattle.file_report_defs.specs.LinkedFiles.{InFile, in_file}
+use Rattle.report_defs.specs.LinkedFiles.{InFile, in_file}
 use Rattle.std.proofs.lemmas.List.{length-map}
 use Rattle.object_tags.specs.Seen.{defined_module}
 use Rattle.object_tags.specs.Answers.{defined_modules}

@@ -1,6 +1,6 @@
 use Rattle.std.proofs.Common.{◌≡◌, ◌≤◌, ◌*◌, length, take, Ok}
 use Rattle.object_tags.specs.Answers.{defined_modules}
-use Rattle.file_report_defs.specs.LinkedFiles.{modules_of}
+use Rattle.report_defs.specs.LinkedFiles.{modules_of}
 use Rattle.file_commands.specs.Reading.{defined_texts}
 use Rattle.file_commands.proofs.modules.modules_of.Given as goal
 

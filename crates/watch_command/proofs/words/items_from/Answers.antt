@@ -3,7 +3,7 @@ use Rattle.std.proofs.Common.{length-append, subst, arith}
 use Rattle.std.specs.Prelude.{Option, Some, option_map}
 use Rattle.std.proofs.lemmas.List.{drop_more}
 use Rattle.watch_defs.specs.declared.item.Item.{Item}
-use Rattle.file_report_defs.specs.Words.{item_word, item_words}
+use Rattle.report_defs.specs.ProgramCommands.{item_word, item_words}
 use Rattle.watch_command.proofs.WordLaws.{Said, said_more}
 use Rattle.watch_command.proofs.words.items_from.Goals as goal
 

@@ -1,6 +1,6 @@
 use Rattle.std.proofs.Common.{◌≡◌, ◌+◌, ◌∷◌, length, drop, map}
 use Rattle.std.specs.Prelude.{option_map}
-use Rattle.file_report_defs.specs.Words.{item_words}
+use Rattle.report_defs.specs.ProgramCommands.{item_words}
 use Rattle.watch_command.proofs.WordLaws.{Said}
 use Rattle.watch_command.proofs.words.items_from.Given as goal
 

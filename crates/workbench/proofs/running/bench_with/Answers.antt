@@ -1,5 +1,5 @@
 use Rattle.std.proofs.Common.{Option, Some, None, subst}
-use Rattle.file_report_defs.specs.Words.{ProgramCommand, OverFiles}
+use Rattle.report_defs.specs.ProgramCommands.{ProgramCommand, OverFiles}
 use Rattle.reports.specs.Answers.{answer}
 use Rattle.reports.specs.Run.{Run, EndsSaid}
 use Rattle.workbench.specs.Asked.{defined_over}

@@ -1,4 +1,4 @@
-use Rattle.std.proofs.Common.{ℕ, ◌<◌, ◌∷◌, Some, None, refl, sym, ap, ◌∙◌, subst, arith}
+use Rattle.std.proofs.Common.{◌<◌, None, refl, sym, ap, ◌∙◌, subst, arith}
 use Rattle.source_defs.specs.Lines.{LinesLieInside}
 use Rattle.source_defs.specs.Layout.{line_texts}
 use Rattle.source_defs.proofs.LaidLaws.{texts_of}
@@ -6,16 +6,14 @@ use Rattle.shelf_defs.specs.CopyLines.{File, Bad}
 use Rattle.shelf_defs.specs.Copied as spec
 use Rattle.shelf_defs.specs.Copied.{most_bytes}
 use Rattle.bench_shelf.specs.declared.copy_error.CopyCause.TheVariants as cause
-use Rattle.bench_shelf.specs.Leading.{Copies}
-use Rattle.bench_shelf.specs.CopyAnswers.{defined_place, failed_at, place_in}
+use Rattle.bench_shelf.specs.CopyAnswers.{defined_place}
 use Rattle.bench_shelf.proofs.CountLaws.{file_room}
 use Rattle.bench_shelf.proofs.FileLaws.{refuses_none, deep_copies, many_copies, copies_unread, copies_read}
 use Rattle.bench_shelf.proofs.SinceLaws.{causes_since, each_since}
 use Rattle.bench_shelf.proofs.Keeping.{within_then}
-use Rattle.bench_shelf.proofs.LoopLaws.{first_text, line_by, own_copies, own_refuses, asked_copies, own_takes, takes_as, TakesLine, line_place, all_taken, follows_first, follows_more, follows_end, follows_refused, later_first, later_then, counts_first, counts_more, counts_grow}
+use Rattle.bench_shelf.proofs.LoopLaws.{first_text, own_copies, own_refuses, asked_copies, all_taken, follows_first, follows_more, follows_end}
+use Rattle.bench_shelf.proofs.LoopLaws.{follows_refused, later_first, later_then, counts_first, counts_more, counts_grow}
 use Rattle.bench_shelf.proofs.copying.Copying.+copying.Goals as goal
-use Rattle.bench_shelf.proofs.copying.Copying.+copying.Given.{Over}
-use Rattle.bench_shelf.proofs.copying.Copying.+copying.Goals.{copy_lines-After-is_ended, copy_lines-After-failed, copy_lines-then-copies_nothing+in-Ok, copy_lines-else-copies_nothing+in-Ok-copy_asked}
 
 pub copy_asked-returns-in-Ok-clause-copies : goal.copy_asked-returns-in-Ok-clause-copies
 copy_asked-returns-in-Ok-clause-copies g t c =
@@ -85,125 +83,50 @@ copy_lines-loop-line-init g t c =
 pub copy_lines-returns-clause-copies : goal.copy_lines-returns-clause-copies
 copy_lines-returns-clause-copies g t c =
     let i = c.loop-line.invariant in
-    let text = c.args.text.now in
-    all_taken c.args.levels c.args.file.now _ _ c.args.self.now c.loop-line.self (line_texts text) (texts_of text c.loop-line.line-iterator)
-    (ap (texts_of text) c.in-None.ensures.steps.0) i.going i.follows
+    all_taken i.follows (ap (texts_of c.args.text.now) c.in-None.ensures.steps.0) i.going
 
 pub copy_lines-returns-clause-grows : goal.copy_lines-returns-clause-grows
 copy_lines-returns-clause-grows g t c = counts_grow _ _ _ _ c.loop-line.invariant.counts
 
 -- a line of a file is refused
-pub copy_lines-returns-in-Err-copy_asked-clause-copies : goal.copy_lines-returns-in-Err-copy_asked-clause-copies
-copy_lines-returns-in-Err-copy_asked-clause-copies g t c =
-    let i = c.loop-line.invariant in
-    let text = c.args.text.now in
-    let line = c.in-Some.line in
-    let next = c.next.new.self in
-    let own = c.part-own.result.now in
-    let now = c.loop-line.self in
-    let last = c.copy_asked.new.self in
-    let first = first_text text _ next line own c.in-Some.ensures.steps c.part-own.ensures in
-    let error = c.in-Err-copy_asked.error in
-    let state = g.F.Shelf.shelf in
-    follows_refused c.args.levels c.args.file.now _ _ c.args.self.now now last (line_texts text) (texts_of text next) _ line.number own first i.follows _ error
-    (subst (λ at. Copies now last (line_by c.args.levels (defined_place at) now.copies own) (Some error) (state c.loop-line.shelf) (state c.copy_asked.new.shelf))
-    c.place_in-else-copies_nothing.ensures c.in-Err-copy_asked.ensures.copies)
+pub copy_lines-returns-in-Err-clause-copies : goal.copy_lines-returns-in-Err-clause-copies
+copy_lines-returns-in-Err-clause-copies g t c =
+    follows_refused c.loop-line.invariant.follows (first_text c.args.text.now c.in-Some.ensures.steps c.part-own.ensures) c.in-Err.error
+    (rw c.place_in.ensures at c.in-Err.ensures.copies)
 
-pub copy_lines-returns-in-Err-copy_asked-clause-causes : goal.copy_lines-returns-in-Err-copy_asked-clause-causes
-copy_lines-returns-in-Err-copy_asked-clause-causes g t c =
-    causes_since _ _ _ c.loop-line.invariant.later c.loop-line.invariant.within c.in-Err-copy_asked.error c.in-Err-copy_asked.ensures.causes
+pub copy_lines-returns-in-Err-clause-causes : goal.copy_lines-returns-in-Err-clause-causes
+copy_lines-returns-in-Err-clause-causes g t c =
+    causes_since _ _ _ c.loop-line.invariant.later c.loop-line.invariant.within c.in-Err.error c.in-Err.ensures.causes
 
--- a line was taken on either way
-taken_line : (g : Over) (t : ℕ) (c : copy_lines-After-is_ended g t)
-    → TakesLine c.args.levels (line_place c.args.file.now c.in-Some.line.number) c.part-own.result.now c.loop-line.self c.if-copies_nothing.self
-    (g.F.Shelf.shelf c.loop-line.shelf) (g.F.Shelf.shelf c.if-copies_nothing.shelf)
-taken_line g t c =
-    let i = c.loop-line.invariant in
-    let state = g.F.Shelf.shelf in
-    let place = line_place c.args.file.now c.in-Some.line.number in
-    let own = c.part-own.result.now in
-    let now = c.loop-line.self in
-    let mid = c.if-copies_nothing.self in
-    elim c.if-copies_nothing.branch [
-      | copy_lines-then-copies_nothing+in-Ok w ↦
-          takes_as c.args.levels place place own now mid w.take.new.self _ _ _ refl w.self-is (ap state w.shelf-is)
-          (own_takes c.args.levels place own now w.take.new.self _ (w.if-copies_nothing.ensures refl) w.in-Ok.ensures.leads w.in-Ok.ensures.grows
-          w.take.ensures.copies i.most w.take.ensures.same)
-      | copy_lines-else-copies_nothing+in-Ok-copy_asked w ↦
-          takes_as c.args.levels place _ own now mid w.copy_asked.new.self _ _ _ (ap defined_place w.place_in-else-copies_nothing.ensures) w.self-is
-          (ap state w.shelf-is) (record {
-            copies = w.in-Ok-copy_asked.ensures.copies;
-            later = w.copy_asked.ensures.later;
-            most = w.copy_asked.ensures.most;
-            same = w.copy_asked.ensures.same;
-            grows = w.in-Ok-copy_asked.ensures.grows;
-            within = w.in-Ok-copy_asked.ensures.within;
-          })
-    ]
-
+-- or it was taken
 pub copy_lines-returns-then-is_ended-clause-copies : goal.copy_lines-returns-then-is_ended-clause-copies
 copy_lines-returns-then-is_ended-clause-copies g t c =
-    let i = c.loop-line.invariant in
-    let text = c.args.text.now in
-    let line = c.in-Some.line in
-    let next = c.next.new.self in
-    let own = c.part-own.result.now in
-    let first = first_text text _ next line own c.in-Some.ensures.steps c.part-own.ensures in
-    let taken = taken_line g t (goal.at.copy_lines-returns-then-is_ended-clause-copies g t c).After-is_ended in
-    follows_end c.args.levels c.args.file.now _ _ c.args.self.now c.loop-line.self c.if-copies_nothing.self (line_texts text) (texts_of text next) _ line.number own
-    first i.follows _ (λ going. (cc (c.is_ended.ensures.open.1 going, c.if-is_ended.true))) taken.copies
-
-pub copy_lines-returns-then-is_ended-clause-most : goal.copy_lines-returns-then-is_ended-clause-most
-copy_lines-returns-then-is_ended-clause-most g t c = (taken_line g t (goal.at.copy_lines-returns-then-is_ended-clause-most g t c).After-is_ended).most
+    follows_end c.loop-line.invariant.follows (first_text c.args.text.now c.in-Some.ensures.steps c.part-own.ensures)
+    (λ going. (cc (c.is_ended.ensures.open.1 going, c.if-is_ended.true))) (rw c.place_in.ensures at c.in-Ok.ensures.copies)
 
 pub copy_lines-returns-then-is_ended-clause-grows : goal.copy_lines-returns-then-is_ended-clause-grows
 copy_lines-returns-then-is_ended-clause-grows g t c =
-    let i = c.loop-line.invariant in
-    let taken = taken_line g t (goal.at.copy_lines-returns-then-is_ended-clause-grows g t c).After-is_ended in
-    counts_grow _ _ _ _ (counts_more _ _ _ _ _ _ _ i.counts c.in-Some.ensures.steps taken.grows)
+    counts_grow _ _ _ _ (counts_more _ _ _ _ _ _ _ c.loop-line.invariant.counts c.in-Some.ensures.steps c.in-Ok.ensures.grows)
 
 pub copy_lines-loop-line-preserved : goal.copy_lines-loop-line-preserved
 copy_lines-loop-line-preserved g t c =
     let i = c.loop-line.invariant in
     let state = g.F.Shelf.shelf in
     let text = c.args.text.now in
-    let line = c.in-Some.line in
-    let next = c.next.new.self in
-    let own = c.part-own.result.now in
-    let first = first_text text _ next line own c.in-Some.ensures.steps c.part-own.ensures in
-    let taken = taken_line g t (goal.at.copy_lines-loop-line-preserved g t c).After-is_ended in
-    let inside : LinesLieInside text (line ∷ next) = subst (LinesLieInside text) c.in-Some.ensures.steps i.inside in
+    let inside = subst (LinesLieInside text) c.in-Some.ensures.steps i.inside in
     let going = c.is_ended.ensures.open.0 c.if-is_ended.false in
     record {
       next = tt;
       finite = tt;
       going = going;
-      later = later_then _ _ _ i.later taken.later;
-      most = taken.most;
-      same = taken.same ∙ i.same;
-      counts = counts_more _ _ _ _ _ _ _ i.counts c.in-Some.ensures.steps taken.grows;
+      later = later_then _ _ _ i.later c.copy_asked.ensures.later;
+      most = c.copy_asked.ensures.most;
+      same = c.copy_asked.ensures.same ∙ i.same;
+      counts = counts_more _ _ _ _ _ _ _ i.counts c.in-Some.ensures.steps c.in-Ok.ensures.grows;
       inside = inside.1;
-      follows = follows_more c.args.levels c.args.file.now _ _ c.args.self.now c.loop-line.self c.if-copies_nothing.self (line_texts text) (texts_of text next) _
-          line.number own first i.follows _ going taken.copies;
-      within = within_then most_bytes (state c.args.shelf.now) (state c.loop-line.shelf) (state c.if-copies_nothing.shelf) i.within taken.within;
+      follows = follows_more i.follows (first_text text c.in-Some.ensures.steps c.part-own.ensures) going (rw c.place_in.ensures at c.in-Ok.ensures.copies);
+      within = within_then most_bytes (state c.args.shelf.now) (state c.loop-line.shelf) (state c.copy_asked.new.shelf) i.within c.in-Ok.ensures.within;
     }
-
--- a line that stands for itself was refused
-pub copy_lines-returns-in-Err-clause-copies : goal.copy_lines-returns-in-Err-clause-copies
-copy_lines-returns-in-Err-clause-copies g t c =
-    let i = c.loop-line.invariant in
-    let text = c.args.text.now in
-    let line = c.in-Some.line in
-    let next = c.next.new.self in
-    let own = c.part-own.result.now in
-    let now = c.loop-line.self in
-    let first = first_text text _ next line own c.in-Some.ensures.steps c.part-own.ensures in
-    let after = (goal.at.copy_lines-returns-in-Err-clause-copies g t c).After-failed in
-    follows_refused c.args.levels c.args.file.now _ _ c.args.self.now now c.take.new.self (line_texts text) (texts_of text next) _ line.number own first i.follows
-    _ c.failed.result (own_refuses c.args.levels _ now c.take.new.self (line_place c.args.file.now line.number) own
-    (place_in c.args.file.now line.number) after.in-Err.failure c.failed.result
-    (sym (after.failed.ensures ∙ ap (λ at. failed_at at after.in-Err.failure) after.place_in.ensures)) (after.if-copies_nothing.ensures refl)
-    c.take.ensures.copies after.in-Err.ensures.leads after.in-Err.ensures.stops)
 
 pub copy_file-copy_lines-requires : goal.copy_file-copy_lines-requires
 copy_file-copy_lines-requires g t c κs lives =

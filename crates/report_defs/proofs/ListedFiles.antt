@@ -29,10 +29,10 @@ use Rattle.word_listings.proofs.Going.{texts_from}
 use Rattle.word_listings.proofs.OwnLines.{OwnLine, AreOwn, own_end, own_front, front_texts}
 use Rattle.report_defs.specs.Report.{asm_report}
 use Rattle.report_defs.proofs.ListedWords.{listed as written_listing, stand_even, not_large}
-use Rattle.file_report_defs.specs.Reports.{copy_report}
-use Rattle.file_report_defs.specs.Words.{AsmFiles, OverFiles}
-use Rattle.file_report_defs.specs.Whole.{ReportWith}
-use Rattle.file_report_defs.specs.Laws.{ListedWordsComeBackWith}
+use Rattle.report_defs.specs.FileReports.{copy_report}
+use Rattle.report_defs.specs.ProgramCommands.{AsmFiles, OverFiles}
+use Rattle.report_defs.specs.FileReports.{ReportWith}
+use Rattle.report_defs.specs.Laws.{ListedWordsComeBackWith}
 
 -- ---- a line that stands for itself
 
@@ -157,7 +157,7 @@ report_at at input files stands =
 
 pub listed_words_come_back_with : ListedWordsComeBackWith
 listed_words_come_back_with at input pieces files holds even below reports =
-    let is = written_listing at input pieces reports in
-    let stands = stand_even at input pieces holds even below is in
+    let is = written_listing at input (memory_listing at input) pieces reports in
+    let stands = stand_even at input holds even below is.within in
     subst (λ pieces. ReportWith (OverFiles AsmFiles) (concat pieces) files (asm_report (listed_module at input None))) (sym is.pieces_are)
     (rw (not_large at input stands) (report_at at input files stands))

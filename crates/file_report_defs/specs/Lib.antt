@@ -1,7 +1,0 @@
-pub mod Words
-pub mod FileLines
-pub mod LinkedFiles
-pub mod Watching
-pub mod Reports
-pub mod Whole
-pub mod Laws
