@@ -1,5 +1,5 @@
 -- How many lines are taken, and how many bytes of files.
-use Rattle.std.proofs.Common.{◌≡◌, ℕ, ◌-◌, ◌≤◌, List, [], ◌∷◌, ◌++◌, length, drop, refl, sym, ap, ◌∙◌, arith}
+use Rattle.std.proofs.Common.{◌≡◌, ℕ, ◌+◌, ◌-◌, ◌<◌, ◌≤◌, Vec, Global, List, [], ◌∷◌, ◌++◌, length, drop, refl, sym, ap, ◌∙◌, arith}
 use Rattle.std.proofs.Common.{length-append, length-take, length-drop}
 use Rattle.std.specs.List.{AllByRecursion, flat_map}
 use Rattle.std.proofs.lemmas.List.{length-map}
@@ -7,7 +7,12 @@ use Rattle.source_defs.specs.declared.text.Line.{Line as TextLine}
 use Rattle.source_defs.specs.Lines.{part, lines}
 use Rattle.source_defs.specs.LineLaw.{IsLine, ending}
 use Rattle.source_defs.proofs.LineLaws.{lines_are_lines}
+use Rattle.std.specs.Prelude.{Option}
+use Rattle.shelf_defs.specs.Copied.{most_bytes}
+use Rattle.asm_core.specs.declared.lines.AsmLines.{AsmLines}
 use Rattle.asm_core.specs.Building.{CanCount}
+use Rattle.bench_shelf.specs.declared.run.Run.{Run}
+use Rattle.bench_shelf.specs.declared.kept_line.KeptLine.{KeptLine}
 use Rattle.bench_shelf.specs.declared.copying.Copying.{Copying}
 use Rattle.bench_shelf.specs.Leading.{IsHeld, HasRoom, count}
 
@@ -58,3 +63,15 @@ pub few_lines : (text : List ℕ) → length (lines text) ≤ length text
 few_lines text =
     let law = lines_are_lines text in
     omega (arith, few_of text (lines text) law.each, ap length law.joined)
+
+-- the lines of a file that is copied can be counted
+pub file_room : (alloc : Global) (builder : AsmLines) (runs : Vec Run Global) (kept : Option (Vec KeptLine Global)) (copies : ℕ) (bytes text : List ℕ)
+    → HasRoom 1 (record { alloc = alloc; builder = builder; runs = runs; kept = kept; copies = copies }) → copies < 64 → text ≡ bytes → length bytes ≤ most_bytes
+    → HasRoom (length text) (record { alloc = alloc; builder = builder; runs = runs; kept = kept; copies = copies + 1 })
+file_room alloc builder runs kept copies bytes text room few is size =
+    let holds = room.held.1 in
+    record {
+      held = (room.held.0, record { taken = holds.taken; places = holds.places; kept = holds.kept });
+      copies = omega (arith, few);
+      room = omega (arith, room.room, few, ap length is, size);
+    }

@@ -18,9 +18,10 @@ use Rattle.bench_shelf.specs.declared.copy_error.CopyCause.{CopyCause}
 use Rattle.bench_shelf.specs.declared.copy_error.CopyCause.TheVariants as cause
 use Rattle.bench_shelf.specs.CopyAnswers.{CopyRefuses, IsNoMemory, defined_cause, defined_place, refused_at}
 use Rattle.shelf_defs.specs.Questions.{Answer, Bytes, Unanswered, Question, Agrees, Fits}
-use Rattle.bench_shelf.specs.Leading.{Holds, Leads, LeadsTo, Copies, Asking, EndsBy}
+use Rattle.bench_shelf.specs.Leading.{Holds, Leads, LeadsTo, Stops, Stopped, Copies, Asking, EndsBy}
 use Rattle.bench_shelf.specs.Causes.{AsksOne, answer_by_copy, IsOfFile}
 use Rattle.bench_shelf.specs.States.{ShelfState}
+use Rattle.bench_shelf.proofs.StoppingLaws.{where_told, stops_refusal}
 use Rattle.bench_shelf.proofs.AskingLaws.{agrees_front, none_follow, shown_one, asking_then, ends_then, asking_none}
 
 -- what is refused behind lines that were taken
@@ -35,9 +36,15 @@ leads_refusal old last copies refusal error refuses done holds =
 
 -- a COPY line for which no file is asked
 asks_none : (old : Copying) (found : Contents → Copied) (error : CopyError) (s : ShelfState) → EndsBy (Some error) []
-    → ((contents : Contents) → Leads old (found contents) (Some error) old) → Copies old old found (Some error) s s
-asks_none old found error s ends leads =
-    record { questions = []; asking = asking_none old old found s refl; ends = ends; leads = λ contents agrees. leads contents }
+    → ((contents : Contents) → Leads old (found contents) (Some error) old) → ((contents : Contents) → Stops old (found contents) (Some error) old)
+    → Copies old old found (Some error) s s
+asks_none old found error s ends leads stops = record {
+  questions = [];
+  asking = asking_none old old found s refl;
+  ends = ends;
+  leads = λ contents agrees. leads contents;
+  stops = λ contents agrees. stops contents;
+}
 
 -- which is told at the place of the line
 pub refuses_none : (old : Copying) (found : Contents → Copied) (place : Place) (refusal : spec.Cause) (kept : CopyCause) (error : CopyError) (s : ShelfState)
@@ -48,7 +55,10 @@ refuses_none old found place refusal kept error s same memory is refuses =
     (asks_none old found (refused_at place kept) s tt (λ contents.
     subst (λ found. Leads old found (Some (refused_at place kept)) old) (sym (refuses contents))
     (leads_refusal old old old.copies (spec.At (defined_place place) refusal) (refused_at place kept)
-    (memory, ap (λ refusal. Err (spec.At (defined_place place) refusal)) (sym same)))))
+    (memory, ap (λ refusal. Err (spec.At (defined_place place) refusal)) (sym same))))
+    (λ contents.
+    subst (λ found. Stops old found (Some (refused_at place kept)) old) (sym (refuses contents))
+    (stops_refusal old old old.copies (spec.At (defined_place place) refusal) (refused_at place kept) (λ done holds. holds))))
 
 module _ (contents : Contents) (place : spec.Place) (copies : ℕ) (name : List ℕ) where
   -- a COPY line that may be followed
@@ -87,6 +97,21 @@ module _ (old last : Copying) (contents : Contents) (levels : ℕ) (place : Plac
   leads_not_read error.Fault answer is fits = λ done holds. tt
   leads_not_read error.Memory answer is fits = λ done holds. tt
 
+  pub stops_not_read : (error : CopyError) (answer : Option (List ℕ)) → ((done : List PlacedLine) → Holds done old → Holds done last)
+      → IsOfFile place name error → Fits most_bytes (answer_by_copy error) answer → Stops old (found_by answer) (Some error) last
+  stops_not_read (error.At file line refusal) answer same is fits =
+      let found : found_by answer ≡ refused (old.copies + 1) (spec.At (defined_place place) (spec.Missing name)) = ap found_by fits in
+      subst (λ found. Stops old found (Some (error.At file line refusal)) last) (sym found)
+      (stops_refusal old last (old.copies + 1) (spec.At (defined_place place) (spec.Missing name)) (error.At file line refusal) same)
+  stops_not_read error.TooLarge answer same is fits =
+      let size : most_bytes < length fits.0 = fits.2 in
+      let more : nat_lt most_bytes (length fits.0) ≡ true = grind (arith, nat_tests, size) in
+      let found : found_by answer ≡ refused (old.copies + 1) spec.TooLarge = rw (fits.1, more) refl in
+      subst (λ found. Stops old found (Some error.TooLarge) last) (sym found)
+      (stops_refusal old last (old.copies + 1) spec.TooLarge error.TooLarge same)
+  stops_not_read error.Fault answer same is fits = tt
+  stops_not_read error.Memory answer same is fits = tt
+
   -- or it was, and its lines are taken
   pub leads_read : (mid : Copying) (bytes : List ℕ) (answer : Option (List ℕ)) (trouble : Option CopyError) → answer ≡ Some bytes → length bytes ≤ most_bytes
       → ((done : List PlacedLine) → Holds done old → Holds done mid) → mid.copies ≡ old.copies + 1
@@ -98,6 +123,18 @@ module _ (old last : Copying) (contents : Contents) (levels : ℕ) (place : Plac
       let more = subst (λ copies. LeadsTo trouble done (lines_in (copy_line contents levels) (Some name) copies (line_texts bytes)) last) copies
       (leads done (same done holds)) in
       subst (λ found. LeadsTo trouble done found last) (sym found) more
+
+  pub stops_read : (mid : Copying) (bytes : List ℕ) (answer : Option (List ℕ)) (trouble : Option CopyError) → answer ≡ Some bytes → length bytes ≤ most_bytes
+      → ((done : List PlacedLine) → Holds done old → Holds done mid) → mid.copies ≡ old.copies + 1
+      → Stops mid (lines_in (copy_line contents levels) (Some name) mid.copies (line_texts bytes)) trouble last
+      → Stops old (found_by answer) trouble last
+  stops_read mid bytes answer None reads size same copies stops = tt
+  stops_read mid bytes answer (Some error) reads size same copies stops =
+      let few : nat_lt most_bytes (length bytes) ≡ false = grind (arith, nat_tests, size) in
+      let found : found_by answer ≡ lines_in (copy_line contents levels) (Some name) (old.copies + 1) (line_texts bytes) = rw (reads, few) refl in
+      where_told _ _ error (λ told done holds.
+      subst (λ found. Stopped done found last) (sym found)
+      (subst (λ copies. Stopped done (lines_in (copy_line contents levels) (Some name) copies (line_texts bytes)) last) copies (told done (same done holds)))) stops
 
 -- A COPY line, by what is heard of its file.
 module _ (old : Copying) (levels : ℕ) (place : Place) (name : List ℕ) (some : 0 < levels) (s : ShelfState) where
@@ -120,6 +157,10 @@ module _ (old : Copying) (levels : ℕ) (place : Place) (name : List ℕ) (some 
     not_read : (contents : Contents) (error : CopyError) (last : Copying) → IsOfFile place name error → Fits most_bytes (answer_by_copy error) (contents old.copies name)
         → Leads old (line_by contents) (Some error) last
     not_read contents error last is fits = by_more contents (Some error) last (leads_not_read old last contents (levels - 1) place name error (contents old.copies name) is fits)
+
+    stops_more : (contents : Contents) (error : Option CopyError) (last : Copying)
+        → Stops old (found_by old last contents (levels - 1) place name (contents old.copies name)) error last → Stops old (line_by contents) error last
+    stops_more contents error last stops = subst (λ found. Stops old found error last) (sym (copy_more contents (defined_place place) old.copies name levels some few)) stops
 
     asking_first : (mid : Copying) (t : ShelfState) (answer : Answer) → mid.copies ≡ old.copies + 1 → AsksOne most_bytes name answer s t
         → Asking old mid line_by (question answer ∷ []) s t
@@ -145,12 +186,15 @@ module _ (old : Copying) (levels : ℕ) (place : Place) (name : List ℕ) (some 
 
     -- its file was not read
     pub copies_unread : (last : Copying) (t : ShelfState) (error : CopyError) → last.copies ≡ old.copies + 1
-        → AsksOne most_bytes name (answer_by_copy error) s t → IsOfFile place name error → Copies old last line_by (Some error) s t
-    copies_unread last t error copies asks is = record {
+        → AsksOne most_bytes name (answer_by_copy error) s t → IsOfFile place name error → ((done : List PlacedLine) → Holds done old → Holds done last)
+        → Copies old last line_by (Some error) s t
+    copies_unread last t error copies asks is same = record {
       questions = question (answer_by_copy error) ∷ [];
       asking = asking_first last t (answer_by_copy error) copies asks;
       ends = unheard error;
       leads = λ contents agrees. not_read contents error last is agrees.0;
+      stops = λ contents agrees.
+          stops_more contents (Some error) last (stops_not_read old last contents (levels - 1) place name error (contents old.copies name) same is agrees.0);
     }
 
     ends_by : (bytes : List ℕ) (trouble : Option CopyError) (questions : List Question) → EndsBy trouble questions → EndsBy trouble (question (Bytes bytes) ∷ [] ++ questions)
@@ -177,6 +221,9 @@ module _ (old : Copying) (levels : ℕ) (place : Place) (name : List ℕ) (some 
         ends = ends_by bytes trouble found.questions found.ends;
         leads = λ contents agrees. on contents (agrees_front most_bytes contents old.copies (question (Bytes bytes) ∷ []) found.questions agrees) trouble last
             (found.leads contents (subst (λ n. Agrees most_bytes contents n found.questions) (sym copies) agrees.1));
+        stops = λ contents agrees.
+            stops_more contents trouble last (stops_read old last contents (levels - 1) place name mid bytes (contents old.copies name) trouble agrees.0 size holds
+            copies (found.stops contents (subst (λ n. Agrees most_bytes contents n found.questions) (sym copies) agrees.1)));
       }
 
       pub copies_read : (text : List ℕ) (trouble : Option CopyError) → text ≡ bytes → Copies mid last (inner text) trouble t u

@@ -2,6 +2,7 @@ pub mod Keeping
 pub mod Names
 pub mod LaidLonger
 pub mod LeadingLaws
+pub mod StoppingLaws
 pub mod Reading
 pub mod TakingLaws
 pub mod AmountLaws
@@ -17,3 +18,4 @@ pub mod SinceLaws
 pub mod RunLaws
 pub mod FolderLaws
 pub mod CopyWords
+pub mod ListedLaws

@@ -59,7 +59,7 @@ module_by_lines found (Ok lines) module_ e = by_ending found.ending e
     by_ending _ f = by_behind (module_behind lines) f
 module_by_lines found (Err refusal) module_ e = cc e
 
-abbrev whole_by : ℕ → List ℕ → Contents → Copied
+abbrev pub whole_by : ℕ → List ℕ → Contents → Copied
 whole_by copies source contents = lines_in (copy_line contents 4) None copies (line_texts source)
 
 -- a refusal of a line is that of the module
@@ -68,7 +68,7 @@ refusal_by found error refuses =
     refuses_by error (laid_copied found) (module_of_copied found)
     (λ refusal e. ap (λ answer. answer >>= λ lines. in_place found.lines (module_behind lines)) e) refuses
 
-agrees_first : (old : Copying) (contents : Contents) (questions : List Question) → old.copies ≡ 0 → Agrees most_bytes contents 0 questions → Agrees most_bytes contents old.copies questions
+pub agrees_first : (old : Copying) (contents : Contents) (questions : List Question) → old.copies ≡ 0 → Agrees most_bytes contents 0 questions → Agrees most_bytes contents old.copies questions
 agrees_first old contents questions first agrees = subst (λ n. Agrees most_bytes contents n questions) (sym first) agrees
 
 -- what a source asks for next, its lines do
@@ -91,7 +91,7 @@ module _ (source : List ℕ) (old new : Copying) (before after : ShelfState) (no
   asked_number : (error : Option CopyError) (found : Found error) → new.copies ≡ length found.questions
   asked_number error found = omega (arith, first, found.asking.number)
 
-  dialogue : (error : Option CopyError) (found : Found error) → CopyDialogue before after source found.questions
+  pub dialogue : (error : Option CopyError) (found : Found error) → CopyDialogue before after source found.questions
   dialogue error found = record {
     turns = turns_as (IsNextAfter old (whole_by old.copies source)) (IsNextCopied source) (next_asked old source none first) [] found.questions found.asking.turns;
     few = omega (arith, asked_number error found, most);

@@ -1,6 +1,7 @@
 -- A line that is taken behind others.
-use Rattle.std.proofs.Common.{◌≡◌, ℕ, ◌+◌, ◌-◌, Bool, true, false, ◌||◌, List, [], ◌∷◌, ◌++◌, None, Ok, Err, length, refl, sym, ap, ◌∙◌, arith, subst}
-use Rattle.std.specs.Prelude.{⊤, Result, if◌then◌else◌}
+use Rattle.std.proofs.Common.{◌≡◌, ℕ, ◌+◌, ◌-◌, Bool, true, false, ◌||◌, List, [], ◌∷◌, ◌++◌, None, Ok, Err, length, refl, sym, ap, ◌∙◌, arith, subst, inr}
+use Rattle.std.proofs.Common.{Vec, Global}
+use Rattle.std.specs.Prelude.{⊤, Result, if◌then◌else◌, Option, Some, map}
 use Rattle.std.proofs.Math.Bool.{or-false}
 use Rattle.std.proofs.Math.Seq.{get_or-append_seam}
 use Rattle.std.proofs.lemmas.Option.{unwrap_or-slice_get}
@@ -12,12 +13,13 @@ use Rattle.source_defs.proofs.LaidLaws.{laid_more, last_line}
 use Rattle.instruction_defs.specs.declared.causes.FormError.TheVariants as form
 use Rattle.asm_defs.specs.declared.causes.AsmCause.{AsmCause}
 use Rattle.asm_defs.specs.declared.causes.AsmCause.TheVariants as cause
-use Rattle.asm_defs.specs.Locations.{Line}
+use Rattle.asm_defs.specs.declared.location.Location.{Location}
+use Rattle.asm_defs.specs.Locations.{Line, location}
 use Rattle.asm_defs.specs.FirstChecks.{check, checked, known_of, line_of}
 use Rattle.asm_defs.proofs.CheckLaws.{bound, checked_said}
 use Rattle.shelf_defs.specs.CopyLines.{says_end, ends_source}
 use Rattle.shelf_defs.specs.Copied as spec
-use Rattle.shelf_defs.specs.Copied.{Place, PlacedLine, Ending, Open, Ended, own_line, prepend}
+use Rattle.shelf_defs.specs.Copied.{Place, PlacedLine, Open, Ended, own_line, prepend}
 use Rattle.shelf_defs.specs.Assembly.{texts, places, place_of, laid_copied}
 use Rattle.asm_checks.specs.Answers.{Causes}
 use Rattle.asm_core.specs.Building.{HasTaken, IsOpen}
@@ -25,11 +27,15 @@ use Rattle.asm_core.specs.Finishing.{RefusesAt}
 use Rattle.asm_core.specs.declared.lines.AsmLines.{AsmLines}
 use Rattle.asm_core.specs.declared.error.AsmError.TheVariants as asm
 use Rattle.bench_shelf.specs.declared.place.Place.{Place as KeptPlace}
+use Rattle.bench_shelf.specs.declared.run.Run.{Run}
 use Rattle.bench_shelf.specs.declared.copying.Copying.{Copying}
 use Rattle.bench_shelf.specs.declared.copy_error.CopyCause.TheVariants.{Asm}
 use Rattle.bench_shelf.specs.CopyAnswers.{defined_place, refused_at, CopyRefuses}
 use Rattle.bench_shelf.specs.Runs.{places_of}
-use Rattle.bench_shelf.specs.Leading.{Holds, EndsAs, GoesOn}
+use Rattle.bench_shelf.specs.declared.kept_line.KeptLine.{KeptLine}
+use Rattle.bench_shelf.specs.Kept.{defined_kept, IsKept, KeepsLine}
+use Rattle.asm_list_defs.specs.Listed.{heres}
+use Rattle.bench_shelf.specs.Leading.{Holds, EndsAs, GoesOn, Stopped}
 use Rattle.bench_shelf.proofs.LeadingLaws.{map_append}
 
 -- a refusal of the assembler is the definitions' own
@@ -83,6 +89,15 @@ module _ (done : List PlacedLine) (place : Place) (text : List ℕ) where
     ends_by new true is = λ still_open. (cc (is, still_open))
     ends_by new false is = is
 
+    -- the lines behind it
+    pub heres_more : (new : AsmLines) (behind : HasTaken (texts done ++ text ∷ []) new)
+        → heres behind.lines ≡ heres taken.lines ++ location taken.lines ∷ []
+    heres_more new behind =
+        let e : last_line check text taken.lines (1 + length (texts done)) ≡ Ok behind.lines = sym whole_is ∙ behind.laid in
+        let a = bound (at_line (1 + length (texts done)) (check taken.lines (1 + length (texts done)) text)) _ behind.lines e in
+        let lines_are : a.0 ∷ taken.lines ≡ behind.lines = cc a.2 in
+        sym (ap heres lines_are)
+
     pub taken_ends : (new : AsmLines) → HasTaken (texts done ++ text ∷ []) new → EndsAs (if ends_source text then Ended else Open) new
     taken_ends new behind =
         let e : last_line check text taken.lines (1 + length (texts done)) ≡ Ok behind.lines = sym whole_is ∙ behind.laid in
@@ -95,7 +110,7 @@ module _ (done : List PlacedLine) (place : Place) (text : List ℕ) where
         ends_by new (ends_source text) (behind.behind.ended ∙ last)
 
     -- or it is refused
-    refused_last : (refusal : Refusal AsmCause) → laid check (numbered 1 (texts done ++ text ∷ [])) ≡ Err refusal → refusal.line ≡ 1 + length (texts done)
+    pub refused_last : (refusal : Refusal AsmCause) → laid check (numbered 1 (texts done ++ text ∷ [])) ≡ Err refusal → refusal.line ≡ 1 + length (texts done)
     refused_last refusal e =
         at_line_err _ (check taken.lines (1 + length (texts done)) text) refusal (err_came _ (λ line. line ∷ taken.lines) refusal (sym whole_is ∙ e))
 
@@ -114,13 +129,38 @@ module _ (done : List PlacedLine) (place : Place) (text : List ℕ) where
     laid_refused copies refusal e =
         rw (texts_are, e, refused_last refusal e, last_place) refl
 
+-- the line is kept with the others
+kept_more : (done : List PlacedLine) (lines next : List Line) (place : KeptPlace) (text : List ℕ) (here : Location) (old new : Option (Vec KeptLine Global))
+    → heres next ≡ heres lines ++ here ∷ [] → IsKept done lines old → KeepsLine old place here text new
+    → IsKept (done ++ record { place = defined_place place; text = text } ∷ []) next new
+kept_more done lines next place text here None None same kept keeps = tt
+kept_more done lines next place text here None (Some new) same kept keeps = absurd keeps
+kept_more done lines next place text here (Some old) None same kept keeps = absurd keeps
+kept_more done lines next place text here (Some old) (Some new) same kept keeps = record {
+  are = ap (map defined_kept) keeps.are
+      ∙ (map_append defined_kept old.items (keeps.line ∷ [])
+      ∙ (ap (λ (front : List PlacedLine). front ++ defined_kept keeps.line ∷ []) kept.are ∙ ap (λ (line : PlacedLine). done ++ line ∷ []) keeps.is));
+  heres = ap (map (λ line. line.here)) keeps.are
+      ∙ (map_append (λ line. line.here) old.items (keeps.line ∷ [])
+      ∙ (ap (λ (front : List Location). front ++ keeps.line.here ∷ []) kept.heres
+      ∙ (ap (λ (at : Location). heres lines ++ at ∷ []) keeps.here ∙ sym same)));
+}
+
 -- a line that stands for itself and is taken
 pub own_taken : (old new : Copying) (place : KeptPlace) (text : List ℕ) (done : List PlacedLine) → IsOpen old.builder → Holds done old
     → HasTaken (texts done ++ text ∷ []) new.builder → places_of new.runs.items ≡ places_of old.runs.items ++ defined_place place ∷ [] → new.copies ≡ old.copies
+    → ((taken : HasTaken (texts done) old.builder) → KeepsLine old.kept place (location taken.lines) text new.kept)
     → GoesOn done (own_line (defined_place place) old.copies text) new
-own_taken old new place text done going holds taken kept copies = record {
+own_taken old new place text done going holds taken kept copies keeps = record {
   holds = record {
-    taken = subst (λ found. HasTaken found new.builder) (sym (texts_are done (defined_place place) text)) taken;
+    taken = record {
+      lines = taken.lines;
+      laid = ap (λ found. laid check (numbered 1 found)) (texts_are done (defined_place place) text) ∙ taken.laid;
+      all = taken.all ∙ sym (ap length (texts_are done (defined_place place) text));
+      behind = taken.behind;
+    };
+    kept = kept_more done holds.taken.lines taken.lines place text (location holds.taken.lines) old.kept new.kept
+        (heres_more done (defined_place place) text old.builder holds.taken going new.builder taken) holds.kept (keeps holds.taken);
     places = kept
         ∙ (ap (λ (found : List Place). found ++ defined_place place ∷ []) holds.places
         ∙ sym (map_append (λ line. line.place) done (record { place = defined_place place; text = text } ∷ [])));
@@ -137,3 +177,30 @@ pub own_refused : (old : Copying) (place : KeptPlace) (text : List ℕ) (done : 
 own_refused old place text done number refused going holds refuses =
     let is = refusal_is number refused _ refuses in
     (is.0, laid_refused done (defined_place place) text old.builder holds.taken going old.copies (record { line = number; cause = refused }) is.1)
+
+-- where the taking stops then
+pub own_stops : (old new : Copying) (place : KeptPlace) (text : List ℕ) (done : List PlacedLine) (number : ℕ) (refused : AsmCause)
+    → IsOpen old.builder → Holds done old → RefusesAt (asm.At number refused) (laid check (numbered 1 (texts done ++ text ∷ [])))
+    → HasTaken (texts done) new.builder
+    → new.runs ≡ old.runs → new.kept ≡ old.kept → Stopped done (own_line (defined_place place) old.copies text) new
+own_stops old new place text done number refused going holds refuses taken runs kept =
+    let is = refusal_is number refused _ refuses in
+    let lines : holds.taken.lines ≡ taken.lines = cc (sym holds.taken.laid ∙ taken.laid) in
+    record {
+      taken = done;
+      holds = record {
+        taken = taken;
+        places = ap (λ (runs : Vec Run Global). places_of runs.items) runs ∙ holds.places;
+        kept = subst (λ (found : Option (Vec KeptLine Global)). IsKept done taken.lines found) (sym kept)
+            (subst (λ (found : List Line). IsKept done found old.kept) lines holds.kept);
+      };
+      halts = inr (record {
+        line = record { place = defined_place place; text = text };
+        rest = [];
+        are = refl;
+        refusal = record { line = number; cause = refused };
+        number = refused_last done (defined_place place) text old.builder holds.taken going (record { line = number; cause = refused }) is.1
+            ∙ ap (λ n. 1 + n) (length-map done (λ line. line.text));
+        is = ap (λ found. laid check (numbered 1 found)) (texts_are done (defined_place place) text) ∙ is.1;
+      });
+    }

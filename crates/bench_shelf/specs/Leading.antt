@@ -1,11 +1,15 @@
 -- What copying some lines leads to.
 use Rattle.std.specs.Prelude.{◌≡◌, ⊤, ℕ, ◌+◌, ◌-◌, ◌*◌, ◌^◌, ◌≤◌, List, [], ◌∷◌, ◌++◌, length}
-use Rattle.std.specs.Prelude.{Option, Some, None, Result, Ok, Err, IfSome}
+use Rattle.std.specs.Prelude.{Option, Some, None, Result, Ok, Err, IfSome, ◌⊎◌}
 use Rattle.shelf_defs.specs.Files.{Contents, of_files}
 use Rattle.shelf_defs.specs.Copied as spec
 use Rattle.shelf_defs.specs.Copied.{PlacedLine, Ending, Open, Ended, Refused, Copied, prepend, most_copies, most_bytes}
 use Rattle.shelf_defs.specs.Assembly.{texts, places, laid_copied}
 use Rattle.shelf_defs.specs.Questions.{Answer, Bytes, Unanswered, Question, Agrees, InTurn, EndsWith}
+use Rattle.source_defs.specs.Refusals.{Refusal}
+use Rattle.source_defs.specs.Layout.{laid, numbered}
+use Rattle.asm_defs.specs.declared.causes.AsmCause.{AsmCause}
+use Rattle.asm_defs.specs.FirstChecks.{check}
 use Rattle.asm_core.specs.Building.{HasTaken, IsOpen}
 use Rattle.asm_core.specs.declared.lines.AsmLines.{AsmLines}
 use Rattle.bench_shelf.specs.declared.copying.Copying.{Copying}
@@ -16,13 +20,15 @@ use Rattle.asm_checks.specs.declared.failure.Failure.{Failure}
 use Rattle.bench_shelf.specs.declared.place.Place.{Place}
 use Rattle.bench_shelf.specs.CopyAnswers.{CopyRefuses, failed_at}
 use Rattle.bench_shelf.specs.Runs.{places_of}
+use Rattle.bench_shelf.specs.Kept.{IsKept}
 use Rattle.bench_shelf.specs.States.{ShelfState}
 use Rattle.bench_shelf.specs.Causes.{ReadsOnce}
 
--- these lines were taken, and their places are kept
+-- these lines were taken, and their places are kept; so are the lines, where they are kept
 pub record Holds (done : List PlacedLine) (state : Copying) : Type 0 where
   pub taken : HasTaken (texts done) state.builder
   pub places : places_of state.runs.items ≡ places done
+  pub kept : IsKept done taken.lines state.kept
 
 -- whether a line ended the source
 abbrev pub EndsAs : Ending → AsmLines → Type 0
@@ -54,6 +60,44 @@ LeadsTo (Some error) done found new = CopyRefuses error (laid_copied (prepend do
 -- the same, whatever lines were taken before
 abbrev pub Leads : Copying → Copied → Option CopyError → Copying → Type 0
 Leads old found error new = (done : List PlacedLine) → Holds done old → LeadsTo error done found new
+
+-- what stands behind lines is refused
+abbrev pub IsRefusal : Ending → Type 0
+IsRefusal Open = ⊥
+IsRefusal Ended = ⊥
+IsRefusal (Refused refusal) = ⊤
+
+-- the first checks refuse the next of some lines behind those that were taken
+pub record RefusesNext (all taken : List PlacedLine) : Type 0 where
+  pub line : PlacedLine
+  pub rest : List PlacedLine
+  pub are : all ≡ taken ++ line ∷ rest
+  pub refusal : Refusal AsmCause
+  pub number : refusal.line ≡ 1 + length taken
+  pub is : laid check (numbered 1 (texts (taken ++ line ∷ []))) ≡ Err refusal
+
+-- the lines that were taken are all up to the refusal: of what stands behind them, or of the next line
+abbrev pub Halts : List PlacedLine → Ending → List PlacedLine → Type 0
+Halts all ending taken = ((all ≡ taken) × IsRefusal ending) ⊎ RefusesNext all taken
+
+-- the lines up to a refusal were taken, and no others
+pub record Stopped (done : List PlacedLine) (found : Copied) (new : Copying) : Type 0 where
+  pub taken : List PlacedLine
+  pub holds : Holds taken new
+  pub halts : Halts (done ++ found.lines) found.ending taken
+
+-- of an error that the definitions tell
+abbrev pub WhereTold : CopyError → Type 0 → Type 0
+WhereTold (At file line cause) P = P
+WhereTold TooLarge P = P
+WhereTold Fault P = ⊤
+WhereTold Memory P = ⊤
+
+-- where lines stop of which one is refused
+abbrev pub Stops : Copying → Copied → Option CopyError → Copying → Type 0
+Stops old found None new = ⊤
+Stops old found (Some error) new =
+    WhereTold error ((done : List PlacedLine) → Holds done old → Stopped done found new)
 
 -- After the lines that were taken and these answers this file is the next: if no file had the name, that would be the
 -- refusal.
@@ -97,6 +141,8 @@ pub record Copies (old new : Copying) (found : Contents → Copied) (error : Opt
   pub ends : EndsBy error questions
   pub leads : (contents : Contents) → Agrees most_bytes contents old.copies questions
       → Leads old (found contents) error new
+  pub stops : (contents : Contents) → Agrees most_bytes contents old.copies questions
+      → Stops old (found contents) error new
 
 -- how many lines were taken
 abbrev pub count : Copying → ℕ

@@ -5,8 +5,11 @@ pub mod MemoryShelf
 pub mod FolderShelf
 pub mod Asking
 pub mod CopyAnswers
+pub mod Kept
 pub mod Leading
 pub mod Causes
 pub mod Dialogue
 pub mod Runs
 pub mod Answered
+pub mod Listed
+pub mod RefusedLines

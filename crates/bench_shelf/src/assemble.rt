@@ -14,7 +14,7 @@ use object_tags::Module;
 use std::alloc::Global;
 
 /// How deep files are copied.
-const DEEPEST: u32 = 4;
+pub(crate) const DEEPEST: u32 = 4;
 
 /// Assembles a source of at most 1,048,576 bytes with the files of a shelf that it copies. By the answers of the
 /// shelf, the module is that of the copied lines as one text, each line ended by a carriage return and a line feed.

@@ -1,6 +1,6 @@
 //! Lines with the lines of the files that they copy.
 
-ghost use Rattle.std.specs.Prelude.{◌≤◌, OnOk, IfErr, length};
+ghost use Rattle.std.specs.Prelude.{◌≡◌, ◌≤◌, OnOk, IfErr, length, is_some};
 ghost use Rattle.source_defs.specs.Layout.{line_texts};
 ghost use Rattle.shelf_defs.specs.Copied as spec;
 ghost use Rattle.shelf_defs.specs.Copied.{most_bytes, most_copies};
@@ -46,6 +46,7 @@ impl Copying {
         ensures later { Later (F.shelf shelf.old) (F.shelf shelf.new) }
         ensures grows { OnOk result (Grows (length text.now) self.old self.new) }
         ensures most { self.new.copies ≤ most_copies }
+        ensures same { is_some self.new.kept ≡ is_some self.old.kept }
     {
         for line in lines(text) {
             let own = part(text, line.span);
@@ -79,6 +80,7 @@ impl Copying {
         ensures later { Later (F.shelf shelf.old) (F.shelf shelf.new) }
         ensures grows { OnOk result (Grows 1 self.old self.new) }
         ensures most { self.new.copies ≤ most_copies }
+        ensures same { is_some self.new.kept ≡ is_some self.old.kept }
     {
         match asked_by(text) {
             Asked::Itself => match self.take(&place.file, place.line, text) {
@@ -109,6 +111,7 @@ impl Copying {
         ensures later { Later (F.shelf shelf.old) (F.shelf shelf.new) }
         ensures grows { OnOk result (Grows 1 self.old self.new) }
         ensures most { self.new.copies ≤ most_copies }
+        ensures same { is_some self.new.kept ≡ is_some self.old.kept }
     {
         if levels == 0 {
             return Err(place.refused(CopyCause::TooDeep));

@@ -1,5 +1,6 @@
 //! What was taken so far of a source with the files that it copies.
 
+use crate::kept_line::KeptLine;
 use crate::run::Run;
 use asm_core::AsmLines;
 use std::alloc::Global;
@@ -11,6 +12,8 @@ pub(crate) struct Copying {
     pub(crate) builder: AsmLines,
     // The places of the lines that the builder has taken, by runs of lines of one file.
     pub(crate) runs: Vec<Run>,
+    // The lines themselves, where they are kept for a listing.
+    pub(crate) kept: Option<Vec<KeptLine>>,
     // How many COPY lines were met.
     pub(crate) copies: u32,
 }

@@ -1,17 +1,18 @@
 //! Lines that stand for themselves.
 
-ghost use Rattle.std.specs.Prelude.{◌≡◌, List, [], OnOk, IfErr, length};
+ghost use Rattle.std.specs.Prelude.{◌≡◌, List, [], OnOk, IfErr, length, is_some, true};
 ghost use Rattle.shelf_defs.specs.Copied.{PlacedLine, own_line};
 ghost use Rattle.shelf_defs.specs.Assembly.{texts, in_place};
 ghost use Rattle.asm_defs.specs.Modules.{module_of_lines};
 ghost use Rattle.asm_core.specs.Building.{IsOpen};
 ghost use Rattle.bench_shelf.specs.CopyAnswers.{defined_place, failed_at, place_in, GivesCopied};
-ghost use Rattle.bench_shelf.specs.Leading.{Holds, IsHeld, Leads, HasRoom, Grows, count, trouble_at};
+ghost use Rattle.bench_shelf.specs.Leading.{Holds, IsHeld, Leads, Stops, HasRoom, Grows, count, trouble_at};
 ghost use Rattle.bench_shelf.specs.Causes.{IsOfLine};
 
 use crate::copy_error::{CopyCause, CopyError};
 use crate::copying::Copying;
 use crate::file_name::FileName;
+use crate::keep_line::keep_line;
 use crate::runs::{note_place, place_of};
 use asm_checks::Failure;
 use asm_core::{AsmError, AsmLines};
@@ -30,8 +31,22 @@ impl Copying {
             alloc,
             builder: AsmLines::new(alloc),
             runs: Vec::new(alloc),
+            kept: None,
             copies: 0,
         }
+    }
+
+    /// No line was taken, and those that are will be kept.
+    pub(crate) fn keeping(alloc: Global) -> Copying
+        ensures none { Holds [] result }
+        ensures going { IsOpen result.builder }
+        ensures copies { result.copies ≡ 0 }
+        ensures count { count result ≡ 0 }
+        ensures keeps { is_some result.kept ≡ true }
+    {
+        let mut copying = Copying::new(alloc);
+        copying.kept = Some(Vec::new(alloc));
+        copying
     }
 
     /// Takes a line of a file, or of the source itself, that stands for itself, and notes its place.
@@ -46,16 +61,24 @@ impl Copying {
         requires room { HasRoom 1 self.old }
         ensures leads { Leads self.old (own_line (defined_place (place_in file.now line)) self.old.copies text.now)
             (trouble_at (place_in file.now line) result) self.new }
+        ensures stops { Stops self.old (own_line (defined_place (place_in file.now line)) self.old.copies text.now)
+            (trouble_at (place_in file.now line) result) self.new }
+        ensures same { is_some self.new.kept ≡ is_some self.old.kept }
         ensures grows { OnOk result (Grows 1 self.old self.new) }
         ensures copies { self.new.copies ≡ self.old.copies }
         ensures causes { IfErr result (λ failure. IsOfLine (failed_at (place_in file.now line) failure)) }
     {
+        let here = self.builder.location();
         match self.builder.line(text) {
             Ok(()) => {}
             Err(AsmError::At { cause, .. }) => return Err(Failure::Refused(cause)),
             Err(AsmError::Memory) => return Err(Failure::Memory),
         }
         match note_place(&mut self.runs, file, line) {
+            Ok(()) => {}
+            Err(_) => return Err(Failure::Memory),
+        }
+        match keep_line(self.alloc, &mut self.kept, file, line, here, text) {
             Ok(()) => Ok(()),
             Err(_) => Err(Failure::Memory),
         }

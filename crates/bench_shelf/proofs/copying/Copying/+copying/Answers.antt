@@ -7,6 +7,7 @@ use Rattle.shelf_defs.specs.Copied as spec
 use Rattle.shelf_defs.specs.Copied.{most_bytes}
 use Rattle.bench_shelf.specs.declared.copy_error.CopyCause.TheVariants as cause
 use Rattle.bench_shelf.specs.CopyAnswers.{defined_place}
+use Rattle.bench_shelf.proofs.CountLaws.{file_room}
 use Rattle.bench_shelf.proofs.FileLaws.{refuses_none, deep_copies, many_copies, copies_unread, copies_read}
 use Rattle.bench_shelf.proofs.SinceLaws.{causes_since, each_since}
 use Rattle.bench_shelf.proofs.Keeping.{within_then}
@@ -17,12 +18,12 @@ use Rattle.bench_shelf.proofs.copying.Copying.+copying.Goals as goal
 pub copy_asked-returns-in-Ok-clause-copies : goal.copy_asked-returns-in-Ok-clause-copies
 copy_asked-returns-in-Ok-clause-copies g t c =
     own_copies c.args.levels _ c.args.self.now c.take.new.self (defined_place c.args.place) c.args.text.now None (sym c.in-Itself.ensures) c.take.ensures.copies tt
-    c.in-Ok.ensures.leads
+    c.in-Ok.ensures.leads tt
 
 pub copy_asked-returns-in-Err-clause-copies : goal.copy_asked-returns-in-Err-clause-copies
 copy_asked-returns-in-Err-clause-copies g t c =
     own_refuses c.args.levels _ c.args.self.now c.take.new.self (defined_place c.args.place) c.args.text.now c.args.place c.in-Err.failure c.failed.result
-    (sym c.failed.ensures) (sym c.in-Itself.ensures) c.take.ensures.copies c.in-Err.ensures.leads
+    (sym c.failed.ensures) (sym c.in-Itself.ensures) c.take.ensures.copies c.in-Err.ensures.leads c.in-Err.ensures.stops
 
 pub copy_asked-returns-in-File-clause-copies : goal.copy_asked-returns-in-File-clause-copies
 copy_asked-returns-in-File-clause-copies g t c =
@@ -47,13 +48,13 @@ pub copy_file-returns-in-Err-clause-copies : goal.copy_file-returns-in-Err-claus
 copy_file-returns-in-Err-clause-copies g t c =
     let some : 0 < c.args.levels = omega (arith, c.if-levels-eq0.false) in
     copies_unread c.args.self.now c.args.levels c.args.place c.args.name some _ c.if-self-ge-MOST_COPIES.false _ _ c.in-Err.error refl
-    c.in-Err.ensures.refused c.in-Err.ensures.place
+    c.in-Err.ensures.refused c.in-Err.ensures.place (λ done holds. record { taken = holds.taken; places = holds.places; kept = holds.kept })
 
 pub copy_file-returns-clause-copies : goal.copy_file-returns-clause-copies
 copy_file-returns-clause-copies g t c =
     let some : 0 < c.args.levels = omega (arith, c.if-levels-eq0.false) in
     copies_read c.args.self.now c.args.levels c.args.place c.args.name some _ c.if-self-ge-MOST_COPIES.false _ c.copy_lines.new.self _ _ c.in-Ok.bytes.items refl
-    c.in-Ok.ensures.given c.in-Ok.ensures.size (λ done holds. record { taken = holds.taken; places = holds.places }) _ _
+    c.in-Ok.ensures.given c.in-Ok.ensures.size (λ done holds. record { taken = holds.taken; places = holds.places; kept = holds.kept }) _ _
     c.as_slice.ensures.value c.copy_lines.ensures.copies
 
 pub copy_file-returns-clause-causes : goal.copy_file-returns-clause-causes
@@ -72,6 +73,7 @@ copy_lines-loop-line-init g t c =
       going = c.requires.going;
       later = later_first _;
       most = c.requires.room.copies;
+      same = refl;
       counts = counts_first text old _ c.requires.room all;
       inside = subst (LinesLieInside text) (sym gives) c.lines-line-items.ensures.inside;
       follows = follows_first c.args.levels c.args.file.now _ _ old (line_texts text) _ (ap (texts_of text) all) refl;
@@ -119,8 +121,23 @@ copy_lines-loop-line-preserved g t c =
       going = going;
       later = later_then _ _ _ i.later c.copy_asked.ensures.later;
       most = c.copy_asked.ensures.most;
+      same = c.copy_asked.ensures.same ∙ i.same;
       counts = counts_more _ _ _ _ _ _ _ i.counts c.in-Some.ensures.steps c.in-Ok.ensures.grows;
       inside = inside.1;
       follows = follows_more i.follows (first_text text c.in-Some.ensures.steps c.part-own.ensures) going (rw c.place_in.ensures at c.in-Ok.ensures.copies);
       within = within_then most_bytes (state c.args.shelf.now) (state c.loop-line.shelf) (state c.copy_asked.new.shelf) i.within c.in-Ok.ensures.within;
     }
+
+pub copy_file-copy_lines-requires : goal.copy_file-copy_lines-requires
+copy_file-copy_lines-requires g t c κs lives =
+    let old = c.args.self.now in (
+      omega (arith, c.if-levels-eq0.false),
+      (
+        λ a found. lives a found,
+        (
+          c.requires.going,
+          file_room old.alloc old.builder old.runs old.kept old.copies c.in-Ok.bytes.items c.as_slice.result.now c.requires.room
+              c.if-self-ge-MOST_COPIES.false c.as_slice.ensures.value c.in-Ok.ensures.size,
+        ),
+      ),
+    )

@@ -1,4 +1,5 @@
-use Rattle.std.proofs.Common.{◌+◌, ◌*◌, ◌≤◌}
+use Rattle.std.proofs.Common.{◌≡◌, ◌+◌, ◌*◌, ◌≤◌}
+use Rattle.std.specs.Prelude.{is_some}
 use Rattle.source_defs.specs.Lines.{LinesLieInside}
 use Rattle.source_defs.specs.Layout.{line_texts}
 use Rattle.source_defs.proofs.LaidLaws.{texts_of}
@@ -28,6 +29,7 @@ invariant-copy_lines-loop-line g l =
       going : IsOpen l.self.builder;
       later : Later (state l.fn.shelf) (state l.shelf);
       most : l.self.copies ≤ most_copies;
+      same : is_some l.self.kept ≡ is_some l.fn.self.kept;
       counts : Counts l.text l.fn.self l.self l.line-iterator;
       inside : LinesLieInside l.text l.line-iterator;
       follows : Follows l.levels l.file l.fn.self (line_texts l.text) l.self (texts_of l.text l.line-iterator) (state l.fn.shelf) (state l.shelf);

@@ -1,0 +1,259 @@
+-- The lines of a source as a listing needs them.
+use Rattle.std.proofs.Common.{◌≡◌, ℕ, ◌-◌, ◌≤◌, List, [], ◌∷◌, ◌++◌, Some, None, Ok, Err, length, take, refl, sym, ap, ◌∙◌, subst, arith, append_assoc, Vec, Global, inl, inr}
+use Rattle.std.specs.Prelude.{Option, Result, IfErr}
+use Rattle.std.proofs.lemmas.List.{length-map}
+use Rattle.source_defs.specs.Refusals.{Refusal, ◌>>=◌}
+use Rattle.source_defs.specs.Layout.{laid, numbered, settled}
+use Rattle.object_defs.specs.Modules as object
+use Rattle.asm_defs.specs.declared.causes.AsmCause.{AsmCause}
+use Rattle.asm_defs.specs.Locations.{Line}
+use Rattle.asm_defs.specs.FirstChecks.{check, names}
+use Rattle.asm_defs.specs.Memory.{Settled}
+use Rattle.asm_defs.specs.Modules.{settle, module_by, module_behind, module_of_lines}
+use Rattle.shelf_defs.specs.Copied.{most_bytes, most_copies, PlacedLine, Ending, Open, Ended, Refused, Copied}
+use Rattle.shelf_defs.specs.Assembly.{texts, places, place_of, in_place, unless_refused, laid_copied}
+use Rattle.asm_list_defs.specs.Listed.{front, first_answer, let_through}
+use Rattle.asm_core.specs.Building.{HasTaken}
+use Rattle.asm_core.specs.Finishing.{RefusesAt}
+use Rattle.asm_core.specs.declared.error.AsmError.{AsmError}
+use Rattle.asm_core.specs.declared.error.AsmError.TheVariants as asm
+use Rattle.asm_core.specs.declared.lines.AsmLines.{AsmLines}
+use Rattle.bench_shelf.specs.declared.run.Run.{Run}
+use Rattle.bench_shelf.specs.declared.listed.RefusedLine.{RefusedLine}
+use Rattle.bench_shelf.specs.Runs.{places_of}
+use Rattle.bench_shelf.specs.RefusedLines.{RefusesLine}
+use Rattle.bench_shelf.specs.declared.copying.Copying.{Copying}
+use Rattle.bench_shelf.specs.declared.kept_line.KeptLine.{KeptLine}
+use Rattle.bench_shelf.specs.declared.listed.ListedEnding.{ListedEnding}
+use Rattle.bench_shelf.specs.declared.listed.ListedEnding.TheVariants.{Whole, Behind, Before}
+use Rattle.bench_shelf.specs.declared.listed.ListedSource.{ListedSource}
+use Rattle.bench_shelf.specs.declared.copy_error.CopyError.{CopyError}
+use Rattle.bench_shelf.specs.declared.copy_error.CopyError.TheVariants.{At, TooLarge, Fault, Memory}
+use Rattle.bench_shelf.specs.States.{ShelfState}
+use Rattle.bench_shelf.specs.declared.place.Place.{Place as KeptPlace}
+use Rattle.bench_shelf.specs.declared.copy_error.CopyCause.TheVariants.{Asm}
+use Rattle.bench_shelf.specs.CopyAnswers.{CopyRefuses, defined_place, refused_at}
+use Rattle.bench_shelf.specs.Causes.{ShelfCauses, TookNoMore}
+use Rattle.bench_shelf.specs.Kept.{AreKept, IsKept}
+use Rattle.bench_shelf.specs.Leading.{Holds, EndsAs, GoesOn, Halts, Stopped, WhereTold, EndsBy, Copies, IsHeld}
+use Rattle.bench_shelf.specs.Listed.{IsTold, IsUntold, AllSettled, SettledAs, RefusedBehind, FinishesBy, Finishes, StopsAt, KeepsFront, EndsListed, GivesListed}
+use Rattle.bench_shelf.specs.Listed.{ListFaultEnds, ListAnswered, EndingCauses, ListCauses}
+use Rattle.bench_shelf.proofs.LeadingLaws.{map_append}
+use Rattle.bench_shelf.proofs.LaidLonger.{laid_longer}
+use Rattle.bench_shelf.proofs.TakingLaws.{refusal_is}
+use Rattle.bench_shelf.proofs.ModuleLaws.{whole_by, agrees_first, dialogue}
+
+take_all : {A : Type 0} (items : List A) → take (length items) items ≡ items
+take_all [] = refl
+take_all (item ∷ items) = ap (λ others. item ∷ others) (take_all items)
+
+take_front : {A : Type 0} (items others : List A) → take (length items) (items ++ others) ≡ items
+take_front [] others = refl
+take_front (item ∷ items) others = ap (λ found. item ∷ found) (take_front items others)
+
+-- the lines that were taken, up to a refusal, are those up to the first that the first checks refuse
+front_by : (all taken : List PlacedLine) (ending : Ending) (lines : List Line) → laid check (numbered 1 (texts taken)) ≡ Ok lines
+    → length lines ≡ length (texts taken) → Halts all ending taken → front all ≡ taken
+front_by all taken ending lines is size (inl (are, refused)) =
+    let answer : first_answer all ≡ Ok lines = ap first_answer are ∙ is in
+    let count : length lines ≡ length taken = size ∙ length-map taken (λ line. line.text) in
+    ap (λ answer. take (let_through answer) all) answer
+    ∙ (ap (λ n. take n all) count ∙ (ap (take (length taken)) are ∙ take_all taken))
+front_by all taken ending lines is size (inr next) =
+    let longer = (laid_longer (texts next.rest) (texts (taken ++ next.line ∷ [])) [] 1 next.refusal next.is).same in
+    let split : texts all ≡ texts (taken ++ next.line ∷ []) ++ texts next.rest =
+    ap texts next.are
+    ∙ (map_append (λ line. line.text) taken (next.line ∷ next.rest)
+    ∙ (sym (append_assoc (texts taken) (next.line.text ∷ []) (texts next.rest))
+    ∙ ap (λ first. first ++ texts next.rest) (sym (map_append (λ line. line.text) taken (next.line ∷ []))))) in
+    let answer : first_answer all ≡ Err next.refusal = ap (λ found. laid check (numbered 1 found)) split ∙ longer in
+    let count : next.refusal.line - 1 ≡ length taken = omega (arith, next.number) in
+    ap (λ answer. take (let_through answer) all) answer
+    ∙ (ap (λ n. take n all) count ∙ (ap (take (length taken)) next.are ∙ take_front taken (next.line ∷ next.rest)))
+
+-- so they are kept
+keeps_front : (all taken : List PlacedLine) (ending : Ending) (builder : AsmLines) (has : HasTaken (texts taken) builder) (kept : List KeptLine)
+    → Halts all ending taken → AreKept taken has.lines kept → KeepsFront all has.lines kept
+keeps_front all taken ending builder has kept halts are =
+    let is : front all ≡ taken = front_by all taken ending has.lines has.laid has.all halts in
+    let count : length has.lines ≡ length taken = has.all ∙ length-map taken (λ line. line.text) in
+    record { are = are.are ∙ sym is; laid = ap first_answer is ∙ has.laid; size = count ∙ sym (ap length is); heres = are.heres }
+
+-- where all were taken
+front_all : (all : List PlacedLine) (builder : AsmLines) (has : HasTaken (texts all) builder) → front all ≡ all
+front_all all builder has =
+    let count : length has.lines ≡ length all = has.all ∙ length-map all (λ line. line.text) in
+    ap (λ answer. take (let_through answer) all) has.laid ∙ (ap (λ n. take n all) count ∙ take_all all)
+
+keeps_all : (all : List PlacedLine) (builder : AsmLines) (has : HasTaken (texts all) builder) (kept : List KeptLine)
+    → AreKept all has.lines kept → KeepsFront all has.lines kept
+keeps_all all builder has kept are =
+    let count : length has.lines ≡ length all = has.all ∙ length-map all (λ line. line.text) in
+    let is = front_all all builder has in
+    record { are = are.are ∙ sym is; laid = ap first_answer is ∙ has.laid; size = count ∙ sym (ap length is); heres = are.heres }
+
+told_out : (P : Type 0) (error : CopyError) → IsTold error → WhereTold error P → P
+told_out P (At file line cause) told holds = holds
+told_out P TooLarge told holds = holds
+told_out P Fault told holds = absurd (told tt)
+told_out P Memory told holds = absurd (told tt)
+
+laid_by : (ending : Ending) (builder : AsmLines) (lines : List Line) → EndsAs ending builder → unless_refused ending lines ≡ Ok lines
+laid_by Open builder lines ends = refl
+laid_by Ended builder lines ends = refl
+laid_by (Refused refusal) builder lines ends = absurd ends
+
+laid_is : (found : Copied) (new : Copying) (goes : GoesOn [] found new) → laid_copied found ≡ Ok goes.holds.taken.lines
+laid_is found new goes =
+    ap (λ answer. in_place found.lines answer >>= unless_refused found.ending) goes.holds.taken.laid
+    ∙ laid_by found.ending new.builder goes.holds.taken.lines goes.ending
+
+module _ (source : List ℕ) (old new : Copying) (before after : ShelfState) (none : Holds [] old) (first : old.copies ≡ 0) (most : new.copies ≤ most_copies) where
+  -- all lines were taken
+  all_by : (ending : ListedEnding) (asked : ℕ) (found : Copied) (goes : GoesOn [] found new) (kept : List KeptLine)
+      → FinishesBy found.lines goes.holds.taken.lines ending → asked ≡ found.copies → EndsListed asked found goes.holds.taken.lines ending
+  all_by (Whole known) asked found goes kept finishes number =
+      (laid_is found new goes, front_all found.lines new.builder goes.holds.taken, finishes, number)
+  all_by (Behind known line error) asked found goes kept finishes number =
+      (laid_is found new goes, front_all found.lines new.builder goes.holds.taken, finishes, number)
+  all_by (Before error) asked found goes kept finishes number = absurd finishes
+
+  all_listed : (result : Result ListedSource CopyError) (asked : ℕ) (found : Copied) (goes : GoesOn [] found new)
+      → Finishes found.lines goes.holds.taken.lines result → asked ≡ found.copies → GivesListed asked result found
+  all_listed (Err error) asked found goes finishes number = tt
+  all_listed (Ok listed) asked found goes finishes number = (
+    goes.holds.taken.lines,
+    keeps_all found.lines new.builder goes.holds.taken listed.lines.items finishes.0,
+    all_by listed.ending asked found goes listed.lines.items finishes.1 number,
+  )
+
+  pub answered_all : (result : Result ListedSource CopyError) → Copies old new (whole_by old.copies source) None before after
+      → ((done : List PlacedLine) → (holds : Holds done new) → Finishes done holds.taken.lines result) → IsHeld new → ListAnswered before after source result
+  answered_all result found finishes held = record {
+    questions = found.questions;
+    dialogue = dialogue source old new before after none first most None found;
+    ends = no_fault result (finishes held.0 held.1);
+    gives = λ contents agrees.
+        let goes = found.leads contents (agrees_first old contents found.questions first agrees) [] none in
+        let whole = whole_by old.copies source contents in
+        let number : length found.questions ≡ whole.copies = omega (arith, first, goes.copies, found.asking.number) in
+        subst (λ copies. GivesListed (length found.questions) result (whole_by copies source contents)) first
+        (all_listed result (length found.questions) whole goes (finishes whole.lines goes.holds) number);
+  }
+    where
+      no_fault : (result : Result ListedSource CopyError) → Finishes held.0 held.1.taken.lines result → ListFaultEnds result found.questions
+      no_fault (Ok listed) finishes = tt
+      no_fault (Err (At file line cause)) finishes = tt
+      no_fault (Err TooLarge) finishes = tt
+      no_fault (Err Fault) finishes = cc finishes
+      no_fault (Err Memory) finishes = tt
+
+  -- one is refused before
+  before_by : (error : CopyError) (found : Copied) (listed : ListedSource) (asked : ℕ) → Stopped [] found new → new.kept ≡ Some listed.lines → CopyRefuses error (laid_copied found)
+      → listed.ending ≡ Before error → IsTold error → GivesListed asked (Ok listed) found
+  before_by error found listed asked stopped kept refuses ending told = (
+    stopped.holds.taken.lines,
+    keeps_front found.lines stopped.taken found.ending new.builder stopped.holds.taken listed.lines.items stopped.halts
+        (subst (IsKept stopped.taken stopped.holds.taken.lines) kept stopped.holds.kept),
+    subst (EndsListed asked found stopped.holds.taken.lines) (sym ending) (refuses, told),
+  )
+
+  pub answered_before : (error : CopyError) (result : Result ListedSource CopyError) → Copies old new (whole_by old.copies source) (Some error) before after
+      → StopsAt new.kept error result → ListAnswered before after source result
+  answered_before error result found stops = record {
+    questions = found.questions;
+    dialogue = dialogue source old new before after none first most (Some error) found;
+    ends = fault result error stops found.ends;
+    gives = λ contents agrees.
+        let here = agrees_first old contents found.questions first agrees in
+        subst (λ copies. GivesListed (length found.questions) result (whole_by copies source contents)) first
+        (by_result result stops (whole_by old.copies source contents) (found.leads contents here [] none) (found.stops contents here));
+  }
+    where
+      fault : (result : Result ListedSource CopyError) (error : CopyError) → StopsAt new.kept error result → EndsBy (Some error) found.questions
+          → ListFaultEnds result found.questions
+      fault (Ok listed) error stops ends = tt
+      fault (Err (At file line cause)) error stops ends = tt
+      fault (Err TooLarge) error stops ends = tt
+      fault (Err Fault) error stops ends = subst (λ error. EndsBy (Some error) found.questions) (sym stops.0) ends
+      fault (Err Memory) error stops ends = tt
+
+      by_result : (result : Result ListedSource CopyError) → StopsAt new.kept error result → (whole : Copied) → CopyRefuses error (laid_copied whole)
+          → WhereTold error ((done : List PlacedLine) → Holds done old → Stopped done whole new) → GivesListed (length found.questions) result whole
+      by_result (Err other) stops whole refuses stopped = tt
+      by_result (Ok listed) stops whole refuses stopped =
+          before_by error whole listed (length found.questions) (told_out _ error stops.2 stopped [] none) stops.0 refuses stops.1 stops.2
+
+-- an error that the definitions do not tell, and the causes of all
+pub untold_all : (done : List PlacedLine) (lines : List Line) (result : Result ListedSource CopyError) → Finishes done lines result → IfErr result IsUntold
+untold_all done lines (Ok listed) finishes = tt
+untold_all done lines (Err error) finishes = subst IsUntold (sym finishes) tt
+
+pub untold_before : (kept : Option (Vec KeptLine Global)) (error : CopyError) (result : Result ListedSource CopyError) → StopsAt kept error result → IfErr result IsUntold
+untold_before kept error (Ok listed) stops = tt
+untold_before kept error (Err found) stops = subst IsUntold (sym stops.0) stops.1
+
+pub causes_all : (a b : ShelfState) (done : List PlacedLine) (lines : List Line) (result : Result ListedSource CopyError) → Finishes done lines result
+    → TookNoMore most_bytes a b → ListCauses result a b
+causes_all a b done lines (Ok listed) finishes within = by_ending listed.ending finishes.1
+  where
+    by_ending : (ending : ListedEnding) → FinishesBy done lines ending → EndingCauses ending a b
+    by_ending (Whole known) finishes = within
+    by_ending (Behind known number error) finishes =
+        subst (λ error. ShelfCauses error a b) (sym finishes.1.is) (finishes.1.own, within)
+    by_ending (Before error) finishes = absurd finishes
+causes_all a b done lines (Err error) finishes within = subst (λ error. ShelfCauses error a b) (sym finishes) within
+
+pub causes_before : (a b : ShelfState) (kept : Option (Vec KeptLine Global)) (error : CopyError) (result : Result ListedSource CopyError) → StopsAt kept error result
+    → ShelfCauses error a b → ListCauses result a b
+causes_before a b kept error (Ok listed) stops causes = subst (λ ending. EndingCauses ending a b) (sym stops.1) causes
+causes_before a b kept error (Err found) stops causes = subst (λ error. ShelfCauses error a b) (sym stops.0) causes
+
+abbrev module_answers : Result object.Module (Refusal AsmCause) → Result object.Module (Refusal AsmCause) → Type 0
+module_answers a b = a ≡ b
+
+-- what the second checks make of lines that were taken
+settled_by : (answer : Result (List Settled) (Refusal AsmCause)) (lines : List Line) (module_ : object.Module)
+    → (answer >>= λ found. Ok (module_by lines found)) ≡ Ok module_ → (found : List Settled) × (answer ≡ Ok found)
+settled_by (Ok found) lines module_ e = (found, refl)
+settled_by (Err refusal) lines module_ e = cc e
+
+settled_not : (answer : Result (List Settled) (Refusal AsmCause)) (lines : List Line) (refusal : Refusal AsmCause)
+    → module_answers (answer >>= λ found. Ok (module_by lines found)) (Err refusal) → answer ≡ Err refusal
+settled_not (Ok found) lines refusal e = cc e
+settled_not (Err found) lines refusal e = cc e
+
+module _ (done : List PlacedLine) (builder : AsmLines) (has : HasTaken (texts done) builder) where
+  behind_is : module_of_lines (texts done) ≡ module_behind has.lines
+  behind_is = ap (λ answer. answer >>= module_behind) has.laid
+
+  pub all_settled : (module_ : object.Module) → module_of_lines (texts done) ≡ Ok module_ → AllSettled has.lines
+  all_settled module_ e = settled_by (settled (settle (names has.lines)) has.lines) has.lines module_ (sym behind_is ∙ e)
+
+  pub one_refused : (number : ℕ) (cause : AsmCause) → RefusesAt (asm.At number cause) (module_of_lines (texts done)) → SettledAs has.lines number cause
+  one_refused number cause refuses =
+      settled_not (settled (settle (names has.lines)) has.lines) has.lines (record { line = number; cause = cause })
+      (sym behind_is ∙ (refusal_is number cause _ refuses).1)
+
+  pub refused_behind : (number : ℕ) (cause : AsmCause) (at : KeptPlace) (error : CopyError) → RefusesAt (asm.At number cause) (module_of_lines (texts done))
+      → error ≡ refused_at at (Asm cause) → defined_place at ≡ place_of (places done) number → RefusedBehind done has.lines number error
+  refused_behind number cause at error refuses is place = record {
+    at = at;
+    cause = cause;
+    is = is;
+    own = (refusal_is number cause _ refuses).0;
+    settled = one_refused number cause refuses;
+    place = place;
+  }
+
+  pub refused_told : (runs : List Run) (error : AsmError) (found : RefusedLine) → places_of runs ≡ places done → RefusesAt error (module_of_lines (texts done))
+      → RefusesLine runs error (Ok found) → RefusedBehind done has.lines found.number found.error
+  refused_told runs asm.Memory found kept refuses told = absurd told
+  refused_told runs (asm.At line cause) found kept refuses told =
+      refused_behind found.number cause told.at found.error
+      (subst (λ n. RefusesAt (asm.At n cause) (module_of_lines (texts done))) (sym told.number) refuses) told.is
+      (told.place ∙ ap (λ places. place_of places found.number) kept)
+
+pub memory_told : (runs : List Run) (error : AsmError) (found : CopyError) → RefusesLine runs error (Err found) → found ≡ Memory
+memory_told runs (asm.At line cause) found told = absurd told
+memory_told runs asm.Memory found told = told

@@ -1,0 +1,18 @@
+use Rattle.std.proofs.Common.{◌≡◌, [], ap, ◌∙◌}
+use Rattle.std.specs.Prelude.{map}
+use Rattle.asm_list_defs.specs.Listed.{heres}
+use Rattle.bench_shelf.specs.Kept.{defined_kept}
+use Rattle.bench_shelf.proofs.copying.Copying.keeping.Goals as goal
+
+pub returns-clause-none : goal.returns-clause-none
+returns-clause-none c =
+    let holds = c.new-copying.ensures.none in
+    let none : [] ≡ holds.taken.lines = cc holds.taken.laid in
+    record {
+      taken = holds.taken;
+      places = holds.places;
+      kept = record {
+        are = ap (map defined_kept) c.new.ensures.items;
+        heres = ap (map (λ line. line.here)) c.new.ensures.items ∙ ap heres none;
+      };
+    }
