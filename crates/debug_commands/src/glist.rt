@@ -14,8 +14,8 @@ use report_lines::gpl_line;
 use reports::{finish, tell};
 use std::alloc::Global;
 
-/// Lists a GPL source. Of one that is refused the lines before the refused one are written, and then its fault line. All
-/// memory is taken before the first byte is written.
+/// Lists a GPL source. Of one that is refused the lines before the refused one are written, and then its fault line.
+/// All memory is taken before the first byte is written.
 pub(crate) fn glist<O: Sink, E: Sink>(
     alloc: Global,
     input: &[u8],

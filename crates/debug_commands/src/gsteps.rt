@@ -13,8 +13,8 @@ use std::alloc::Global;
 use trace_dump::AllChanges;
 
 /// Runs up to `limit` steps of a GPL source and writes the line of each once it is made; then the program's end, its
-/// last state and the dump. A source that is not run is answered by its fault line. All memory is taken before the first
-/// byte is written.
+/// last state and the dump. A source that is not run is answered by its fault line. All memory is taken before the
+/// first byte is written.
 pub(crate) fn gsteps<O: Sink, E: Sink>(
     alloc: Global,
     limit: u32,

@@ -24,11 +24,11 @@ use steps_command::steps;
 /// The contract says of each status its cause, and what the input and the outputs are then; that if the bytes of the
 /// input are shown and nothing fails, there is one report on them, which was written whole, and the status is its own,
 /// or out of memory; that the words which the machine holds are the linked memory of the interpreter's source, and that
-/// for each i up to the last step of a program that is run the machine after the first i turns matches its state after i
-/// steps; that the changes which are read from the lines of the first i steps, made in the first state, give the state
-/// after i steps; and that the bytes of the rows of a listing, at their addresses, are the image of its source, and its
-/// names those of the source; and that the changes of the lines of the first i instructions, made in the first memory,
-/// give the memory after i instructions.
+/// for each i up to the last step of a program that is run the machine after the first i turns matches its state after
+/// i steps; that the changes which are read from the lines of the first i steps, made in the first state, give the
+/// state after i steps; and that the bytes of the rows of a listing, at their addresses, are the image of its source,
+/// and its names those of the source; and that the changes of the lines of the first i instructions, made in the first
+/// memory, give the memory after i instructions.
 #[tactic(auto, using(crate::proofs::Laws::laws))]
 pub fn debug<S: Source, O: Sink, E: Sink>(
     alloc: Global,

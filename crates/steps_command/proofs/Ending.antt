@@ -1,5 +1,5 @@
 -- How a run of `steps` ends.
-use Rattle.std.proofs.Common.{◌≡◌, ℕ, List, ◌++◌, None, Result, Ok, Err, refl, sym, ap, ◌∙◌, subst, inl, inr}
+use Rattle.std.proofs.Common.{◌≡◌, ◌⊎◌, ℕ, List, ◌++◌, None, Result, Ok, Err, refl, sym, ap, ◌∙◌, subst, inl, inr}
 use Rattle.console_defs.specs.Machine.{MachineState}
 use Rattle.console_defs.specs.declared.run_end.RunEnd.{RunEnd}
 use Rattle.console_defs.specs.declared.run_end.RunEnd.TheVariants as ending
@@ -72,3 +72,8 @@ module _ (limit : ℕ) (input : List ℕ) (linked : LinkedMemory) (is : linked_i
             (record { ending = m.ending; left = y; executes = record { start = x; is_start = start; made = m.made; run = m.run }; is = refl }),
         (m.missed, silent),
       )
+
+  -- a line could not be written
+  pub by_failed : BreaksOff limit x y o.out o.out' ⊎ MissesSome limit x y o.out o.out' → EndsInstructions limit input o status.WriteFault
+  by_failed (inl b) = by_break b
+  by_failed (inr m) = by_miss m

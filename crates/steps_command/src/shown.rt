@@ -14,8 +14,8 @@ use reports::put_execution;
 use step_changes::LongLine;
 use tms_step::Machine;
 
-/// Executes up to `limit` instructions and writes the line of each once it is executed; then what `exec` writes, and the
-/// expansion memory. No memory is taken.
+/// Executes up to `limit` instructions and writes the line of each once it is executed; then what `exec` writes, and
+/// the expansion memory. No memory is taken.
 ///
 /// # Errors
 /// `Failed` means that a line could not be written.

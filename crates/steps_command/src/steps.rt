@@ -13,9 +13,9 @@ use reports::{end_status, finish};
 use std::alloc::Global;
 use step_changes::LongLine;
 
-/// Executes up to `limit` instructions of the linked memory of an object text, from its entry on, and writes the line of
-/// each once it is executed; then what `exec` writes, and the expansion memory. An input that is refused is answered by
-/// its fault line. All memory is taken before the first byte is written.
+/// Executes up to `limit` instructions of the linked memory of an object text, from its entry on, and writes the line
+/// of each once it is executed; then what `exec` writes, and the expansion memory. An input that is refused is answered
+/// by its fault line. All memory is taken before the first byte is written.
 pub fn steps<O: Sink, E: Sink>(
     alloc: Global,
     limit: u32,
