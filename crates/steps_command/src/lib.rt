@@ -2,7 +2,7 @@
 //! that it changed.
 #![tactic(auto)]
 
+mod running;
 mod shown;
-mod steps;
 
-pub use steps::steps;
+pub use running::steps;

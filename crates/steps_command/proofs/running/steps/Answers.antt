@@ -5,7 +5,7 @@ use Rattle.reports.specs.Answers.{Ends, error_answer}
 use Rattle.reports.specs.declared.unreported.Unreported.{Unreported}
 use Rattle.steps_command.specs.Ends.{EndsInstructions}
 use Rattle.steps_command.proofs.Ending.{by_refusal, by_memory, by_whole, by_failed}
-use Rattle.steps_command.proofs.steps.steps.Goals as goal
+use Rattle.steps_command.proofs.running.steps.Goals as goal
 
 pub returns-in-Err : goal.returns-in-Err
 returns-in-Err g c =
