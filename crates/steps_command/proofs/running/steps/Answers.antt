@@ -11,7 +11,7 @@ pub returns-in-Err : goal.returns-in-Err
 returns-in-Err g c =
     let out = g.O.Sink.state in
     let err = g.E.Sink.state in
-    let finish = c.finish-in-Err in
+    let finish = c.finish in
     let o : Outputs = record { out = out c.args.out.now; out' = out finish.new.out; err = err c.args.err.now; err' = err finish.new.err } in
     by_refusal c.args.limit c.args.input.now o (error_answer c.in-Err.unreported) finish.result c.in-Err.ensures finish.ensures
 
@@ -22,7 +22,16 @@ returns-in-Err-new g c =
     let finish = c.finish-in-Err-new in
     let o : Outputs = record { out = out c.args.out.now; out' = out finish.new.out; err = err c.args.err.now; err' = err finish.new.err } in
     by_memory c.args.limit c.args.input.now o finish.result
-    (subst (λ (unreported : Unreported). Ends o (error_answer unreported) finish.result) c.into-in-Err-new.ensures finish.ensures)
+    (subst (λ (unreported : Unreported). Ends o (error_answer unreported) finish.result) c.into.ensures finish.ensures)
+
+pub returns-in-Err-new-2 : goal.returns-in-Err-new-2
+returns-in-Err-new-2 g c =
+    let out = g.O.Sink.state in
+    let err = g.E.Sink.state in
+    let finish = c.finish-in-Err-new-2 in
+    let o : Outputs = record { out = out c.args.out.now; out' = out finish.new.out; err = err c.args.err.now; err' = err finish.new.err } in
+    by_memory c.args.limit c.args.input.now o finish.result
+    (subst (λ (unreported : Unreported). Ends o (error_answer unreported) finish.result) c.into-in-Err-new-2.ensures finish.ensures)
 
 pub returns-in-Ok-write_run : goal.returns-in-Ok-write_run
 returns-in-Ok-write_run g c =
@@ -31,12 +40,12 @@ returns-in-Ok-write_run g c =
     let o : Outputs = record { out = out c.args.out.now; out' = out c.write_run.new.out; err = err c.args.err.now; err' = err c.args.err.now } in
     let s = c.in-Ok.ensures in
     subst (λ (end : Status). EndsInstructions c.args.limit c.args.input.now o end) (sym c.end_status.ensures)
-    (by_whole c.args.limit c.args.input.now s.0 s.1.0 c.in-Ok.machine c.write_run.new.machine s.1.1 o refl c.in-Ok-write_run.ending c.in-Ok-write_run.ensures)
+    (by_whole c.args.limit c.args.input.now s.0 s.1 c.in-Ok.machine c.write_run.new.machine s.2 o refl c.in-Ok-write_run.ending c.in-Ok-write_run.ensures)
 
-pub returns-in-Err-write_run : goal.returns-in-Err-write_run
-returns-in-Err-write_run g c =
+pub returns : goal.returns
+returns g c =
     let out = g.O.Sink.state in
     let err = g.E.Sink.state in
     let o : Outputs = record { out = out c.args.out.now; out' = out c.write_run.new.out; err = err c.args.err.now; err' = err c.args.err.now } in
     let s = c.in-Ok.ensures in
-    by_failed c.args.limit c.args.input.now s.0 s.1.0 c.in-Ok.machine c.write_run.new.machine s.1.1 o refl c.in-Err-write_run.ensures
+    by_failed c.args.limit c.args.input.now s.0 s.1 c.in-Ok.machine c.write_run.new.machine s.2 o refl c.in-Err-write_run.ensures
