@@ -12,7 +12,7 @@ pub returns-in_err-put_left : goal.returns-in_err-put_left
 returns-in_err-put_left g c =
     let w = c.in_ok-ending.ensures.shows in
     let p = err_from_is_err_and c.from_residual-in_err-put_left.result c.from_residual-in_err-put_left.ensures.1 in
-    rw p.1 (inr (record { made = w.made; ending = c.in_ok-ending.field-0; run = w.run; missed = missed_more _ _ _ _ _ w.wrote c.in_err-put_left.ensures }))
+    rw p.1 (inr (record { made = w.made; ending = c.in_ok-ending.ending; run = w.run; missed = missed_more _ _ _ _ _ w.wrote c.in_err-put_left.ensures }))
 
 pub returns : goal.returns
 returns g c =
