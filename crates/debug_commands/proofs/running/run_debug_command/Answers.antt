@@ -1,12 +1,14 @@
-use Rattle.std.proofs.Common.{◌≡◌, List, ℕ, refl, subst}
+use Rattle.std.proofs.Common.{◌≡◌, List, ℕ, refl, sym, subst}
 use Rattle.reports.specs.Answers.{Ends}
 use Rattle.reports.specs.Outputs.{Outputs}
+use Rattle.reports.specs.Run.{EndsBy}
+use Rattle.debug_report_defs.specs.declared.command.DebugCommand.{DebugCommand}
 use Rattle.debug_report_defs.specs.declared.command.DebugCommand.TheVariants.{Glist}
 use Rattle.gpl_list_defs.specs.Listing.{listing_of, listing_report}
 use Rattle.bench_commands.proofs.Ends.{run_of, by_unread}
-use Rattle.debug_commands.specs.Debug.{debug_input}
-use Rattle.debug_commands.specs.Gsteps.{EndsSteps}
 use Rattle.steps_command.specs.Ends.{EndsInstructions}
+use Rattle.debug_commands.specs.Debug.{debug_input, debug_program}
+use Rattle.debug_commands.specs.Gsteps.{EndsSteps}
 use Rattle.debug_commands.proofs.Ends.{no_usage, by_answered, by_steps, by_instructions}
 use Rattle.debug_commands.proofs.running.run_debug_command.Goals as goal
 
@@ -23,32 +25,37 @@ returns-in-Err g c =
 
 pub returns-in-Glist : goal.returns-in-Glist
 returns-in-Glist g c =
-    let source = g.S.Source.state in
     let out = g.O.Sink.state in
     let err = g.E.Sink.state in
     let new = c.glist.new in
     let o : Outputs = record { out = out c.args.out.now; out' = out new.out; err = err c.args.err.now; err' = err new.err } in
+    let before = g.S.Source.state c.args.input.now in
+    let after = g.S.Source.state c.read_all.new.source in
     let bytes = c.in-Ok.bytes.items in
     let ends = rw c.as_slice-input.ensures.value at c.glist.ensures in
-    by_answered Glist (source c.args.input.now) (source c.read_all.new.source) o bytes c.in-Ok.ensures.ok (λ report. report ≡ listing_report (listing_of bytes))
-    (λ report is. is) c.glist.result ends
+    subst (λ (command : DebugCommand). EndsBy debug_program (run_of debug_input no_usage command before after o) c.glist.result) (sym c.in-Glist.is)
+    (by_answered Glist before after o bytes c.in-Ok.ensures.ok (λ report. report ≡ listing_report (listing_of bytes)) (λ report is. is) c.glist.result ends)
 
 pub returns-in-Gsteps : goal.returns-in-Gsteps
 returns-in-Gsteps g c =
-    let source = g.S.Source.state in
     let out = g.O.Sink.state in
     let err = g.E.Sink.state in
     let new = c.gsteps.new in
     let o : Outputs = record { out = out c.args.out.now; out' = out new.out; err = err c.args.err.now; err' = err new.err } in
+    let before = g.S.Source.state c.args.input.now in
+    let after = g.S.Source.state c.read_all.new.source in
     let steps = subst (λ (bytes : List ℕ). EndsSteps c.in-Gsteps.limit bytes o c.gsteps.result) c.as_slice-input.ensures.value c.gsteps.ensures in
-    by_steps c.in-Gsteps.limit (source c.args.input.now) (source c.read_all.new.source) o c.in-Ok.bytes.items c.in-Ok.ensures.ok c.gsteps.result steps
+    subst (λ (command : DebugCommand). EndsBy debug_program (run_of debug_input no_usage command before after o) c.gsteps.result) (sym c.in-Gsteps.is)
+    (by_steps c.in-Gsteps.limit before after o c.in-Ok.bytes.items c.in-Ok.ensures.ok c.gsteps.result steps)
 
-pub returns-in-Steps : goal.returns-in-Steps
-returns-in-Steps g c =
-    let source = g.S.Source.state in
+pub returns : goal.returns
+returns g c =
     let out = g.O.Sink.state in
     let err = g.E.Sink.state in
     let new = c.steps.new in
     let o : Outputs = record { out = out c.args.out.now; out' = out new.out; err = err c.args.err.now; err' = err new.err } in
+    let before = g.S.Source.state c.args.input.now in
+    let after = g.S.Source.state c.read_all.new.source in
     let ends = subst (λ (bytes : List ℕ). EndsInstructions c.in-Steps.limit bytes o c.steps.result) c.as_slice-input.ensures.value c.steps.ensures in
-    by_instructions c.in-Steps.limit (source c.args.input.now) (source c.read_all.new.source) o c.in-Ok.bytes.items c.in-Ok.ensures.ok c.steps.result ends
+    subst (λ (command : DebugCommand). EndsBy debug_program (run_of debug_input no_usage command before after o) c.steps.result) (sym c.in-Steps.is)
+    (by_instructions c.in-Steps.limit before after o c.in-Ok.bytes.items c.in-Ok.ensures.ok c.steps.result ends)
