@@ -8,7 +8,7 @@ import shlex
 LARGEST = 1_048_576
 MOST = {'exec': 10_000_000, 'run': 100_000, 'trace': 100_000, 'watch': 100_000, 'demo': 500}
 # the command of ti_debug that reads what a command of ti_bench reads
-DEBUGGED = {b'gasm': b'glist', b'exec': b'steps', b'run': b'gsteps', b'trace': b'gsteps'}
+DEBUGGED = {b'asm': b'list', b'gasm': b'glist', b'exec': b'steps', b'run': b'gsteps', b'trace': b'gsteps'}
 READERS = ['asm', 'dis', 'exec', 'gasm', 'gdis', 'link', 'run', 'trace', 'watch']
 
 
@@ -386,7 +386,7 @@ WORDS = [b'asm', b'link', b'dis', b'gdis', b'exec', b'gasm', b'interp', b'run', 
          b'vdp:0000+16385', b'vdp:0+1', b'pc:6000', b'pc:60', b'pc:>6000', b'pc:6000+1', b'ONE', b'.ONE', b'ONE/',
          b'5', b'007', b'-1', b'A000', b'a001', b'A00', b'A0000', b'>A000', b'100000', b'100001', b'10000000',
          b'10000001', b'500', b'501', b'--help', b'--version', b'-h', b'--', b'ASM', b'\xff\xfe', b'\xc3\xa9',
-         b'9' * 20, b'+1', b'glist', b'gsteps', b'steps', b' 1', b'1 ', b'0x10', b'?', b'asm\n', b'1e3']
+         b'9' * 20, b'+1', b'glist', b'list', b'gsteps', b'steps', b' 1', b'1 ', b'0x10', b'?', b'asm\n', b'1e3']
 
 
 def words(rng, turn):

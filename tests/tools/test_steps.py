@@ -99,6 +99,44 @@ class Steps(Calling):
             apply(memory, step[4:])
         self.assertEqual((len(data['steps']), data['end']), (40, 'Cut off after 40 instructions, the limit.'))
 
+    def test_lines_of_sources_are_where_the_loader_put_them(self):
+        """Two modules of which the second copies a file. The addresses follow from the sizes of the lines."""
+        self.file('one.asm', b"* one\n REF ADD,MASK\nSTART LI R2,MASK\n BL @ADD\nWORD TEXT 'ABC'\n END START\n")
+        self.file('two.asm', b"* two\n DEF ADD,MASK\nMASK EQU >0F0F\nADD A R2,@SUM\n JMP MORE\n"
+                             b"SUM DATA 1,2,SUM,4,5\n COPY 'part.src'\n END\n")
+        self.file('part.src', b'MORE INC R2\n B *R11\n')
+        for name in ('one', 'two'):
+            self.assertEqual(self.call('assemble', f'{name}.asm', f'{name}.obj').returncode, 0)
+        self.file('both.obj', b''.join((self.folder / f'{name}.obj').read_bytes() for name in ('one', 'two')))
+        ended = self.call('steps', '--exec', '--source', 'one.asm', '--source', 'two.asm', 'both.obj', '5')
+        self.assertEqual((ended.returncode, ended.stderr), (0, b''))
+        data = data_of(ended.stdout)
+        self.assertEqual([line for line in data['lines'] if line[2]], [
+            ['START LI R2,MASK', 0xA000, '02020f0f', 'one.asm:3'], [' BL @ADD', 0xA004, '06a0a00c', 'one.asm:4'],
+            ["WORD TEXT 'ABC'", 0xA008, '414243', 'one.asm:5'], ['ADD A R2,@SUM', 0xA00C, 'a802a012', 'two.asm:4'],
+            [' JMP MORE', 0xA010, '1005', 'two.asm:5'],
+            ['SUM DATA 1,2,SUM,4,5', 0xA012, '00010002a01200040005', 'two.asm:6'],
+            ['MORE INC R2', 0xA01C, '0582', 'part.src:1'], [' B *R11', 0xA01E, '045b', 'part.src:2']])
+        names = {(name, value) for name, value, _ in data['names']}
+        self.assertEqual(names, {('START', 0xA000), ('WORD', 0xA008), ('ADD', 0xA00C), ('MASK', 0x0F0F),
+                                 ('SUM', 0xA012), ('MORE', 0xA01C)})
+
+    def test_a_source_of_another_object_makes_no_page(self):
+        self.file('a.asm', b"S LI R1,5\n JMP $\n END S\n")
+        self.file('b.asm', b"S LI R1,6\n JMP $\n END S\n")
+        self.call('assemble', 'a.asm', 'a.obj')
+        ended = self.call('steps', '--exec', '--source', 'b.asm', 'a.obj')
+        self.assertEqual((ended.returncode, ended.stdout), (1, b''))
+        self.assertIn(b'b.asm: the object has the words of this source nowhere\n', ended.stderr)
+        self.assertEqual(self.call('steps', '--source', 'a.asm', 'a.obj').returncode, 2)
+
+    def test_a_refused_source_of_an_object_is_reported(self):
+        self.file('a.asm', b"S LI R1,5\n JMP $\n END S\n")
+        self.call('assemble', 'a.asm', 'a.obj')
+        self.file('b.asm', b"S LI R1\n END S\n")
+        ended = self.call('steps', '--exec', '--source', 'b.asm', 'a.obj')
+        self.assertEqual((ended.returncode, ended.stderr.splitlines()[0]), (1, b'b.asm:1: operand count'))
+
     def test_how_a_run_of_the_processor_ended_is_said(self):
         for words, end, stopped in (
                 (b'BC060B8800', 'Stopped at a word access to the port >8800 after 0 instructions.', True),

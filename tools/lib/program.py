@@ -48,7 +48,7 @@ def other(path, name):
         return of_repository(name)
     if not found:
         raise Stopped(f'no program {name} beside {path}', UNREADABLE)
-    return found
+    return str(pathlib.Path(shutil.which(found) or found).absolute())
 
 
 def option(parser, use='run'):

@@ -27,17 +27,18 @@ def data_of(name, run, listing):
     """All that the script of the page is given of a GPL program."""
     texts = {}
     steps = [[step.address, numbered(texts, step.text), *map(packed, step.changes)] for step in run.steps]
-    return {'kind': 'gpl', **common(name, run), 'last': {'at': run.last}, 'lines': lines_of(listing.lines),
+    return {'kind': 'gpl', **common(name, run), 'last': {'at': run.last}, 'lines': list(lines_of(listing.lines)),
             'names': [list(name) for name in listing.names], 'texts': list(texts), 'steps': steps}
 
 
-def data_of_processor(name, run):
-    """The same of a run of the processor, which has no lines."""
+def data_of_processor(name, run, lines, names):
+    """The same of a run of the processor, with the lines and the names of its sources, if there are any."""
     texts = {}
     steps = [[step.before.pc, numbered(texts, step.text), step.before.wp, step.before.st, *map(packed, step.changes)]
              for step in run.steps]
     return {'kind': 'exec', **common(name, run), 'last': {'at': run.last.pc, 'wp': run.last.wp, 'st': run.last.st},
-            'lines': [], 'names': [[*name, 0] for name in run.names], 'texts': list(texts), 'steps': steps}
+            'lines': list(lines_of(lines)), 'names': [[*name, 0] for name in [*run.names, *names]],
+            'texts': list(texts), 'steps': steps}
 
 
 def common(name, run):
@@ -45,7 +46,10 @@ def common(name, run):
 
 
 def lines_of(lines):
-    return [[shown(line.text), line.address, line.data.hex()] for line in lines]
+    """The lines: text, address and bytes, and what a line is called, if that is not its number among them."""
+    for number, line in enumerate(lines, 1):
+        called = getattr(line, 'name', str(number))
+        yield [shown(line.text), line.address, line.data.hex(), *([called] if called != str(number) else [])]
 
 
 def packed(change):

@@ -111,6 +111,17 @@ def ending(rest, steps, cut):
     return ' '.join(filter(None, [ENDS[how], address, f'after {made}.'])), how != 'self jump'
 
 
+def bytes_in(listed):
+    """The bytes of linked memory by their addresses."""
+    return {at + offset: byte for at, word in words(listed).items()
+            for offset, byte in enumerate(word.to_bytes(2, 'big'))}
+
+
+def names_in(listed):
+    """The names of linked memory with their values."""
+    return [(name, int(value, 16)) for name, value in NAME.findall(listed)]
+
+
 def run_of(debugger, objects, listed, limit, seconds):
     """The run of object text that the program accepts and whose linked memory is listed, up to a number of
     instructions."""
@@ -123,5 +134,4 @@ def run_of(debugger, objects, listed, limit, seconds):
     first = first_memory(listed)
     last = check(first, steps, shown)
     end, stopped = ending(rest, len(steps), cut)
-    names = [(name, int(value, 16)) for name, value in NAME.findall(listed)]
-    return Run(steps, last, first, names, end, stopped, cut)
+    return Run(steps, last, first, names_in(listed), end, stopped, cut)

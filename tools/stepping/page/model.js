@@ -19,8 +19,8 @@ const nextAddress = number => nextAt(number).at
 
 // without a source, the instructions that the run came to are in the place of its lines
 const lines = data.lines.length
-  ? data.lines.map(([text, at, bytes], index) =>
-    ({text, at, bytes, size: bytes.length / 2, name: String(index + 1)}))
+  ? data.lines.map(([text, at, bytes, name], index) =>
+    ({text, at, bytes, size: bytes.length / 2, name: name ?? String(index + 1)}))
   : [...new Map(steps.map(step => [step.at, step.text]))].sort((a, b) => a[0] - b[0])
     .map(([at, text]) => ({text, at, bytes: '', size: 1, name: '·'}))
 const hasSource = data.lines.length > 0

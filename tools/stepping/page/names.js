@@ -17,7 +17,7 @@ const MEANINGS = new Map(ofProcessor ? [] : [[DATA_STACK, 'data stack'], [RETURN
   [0x83C0, 'random seed'], [0x83C1, 'random seed']])
 
 const namesOf = new Map()
-for (const [name, value] of data.names) namesOf.set(value, [...namesOf.get(value) ?? [], name])
+for (const [name, value] of data.names) namesOf.set(value, [...new Set([...namesOf.get(value) ?? [], name])])
 
 // what the ports hold, by the offsets of their bytes
 const LATCH_NAMES = ['video address', 'its low byte', 'video byte fetched', 'video byte held', 'the byte', 'GROM address',
