@@ -86,6 +86,12 @@ pub record Fit (name field : List ℕ) : Type 0 where
   pub name_plain : list_all plain_byte name ≡ true
   pub field_plain : list_all plain_byte field ≡ true
 
+-- a directive with a number
+pub number_fit : (name text : List ℕ) → 0 < length name → length name ≤ 6 → list_all plain_byte name ≡ true →
+    length text ≤ 5 → list_all plain_byte text ≡ true → Fit name text
+number_fit name text some short plain few field =
+    record { some = some; short = short; few = omega arith; name_plain = plain; field_plain = field }
+
 -- the operands as they stand in a field
 abbrev pub field_of : Option (List ℕ) → List ℕ
 field_of None = []

@@ -20,11 +20,11 @@ abbrev pub whole : ℕ → Bool
 whole byte = unquoted byte && not (is_comma byte)
 
 -- an operand, and others behind commas
-abbrev commas : List ℕ → List (List ℕ) → List ℕ
+abbrev pub commas : List ℕ → List (List ℕ) → List ℕ
 commas text [] = text
 commas text (next ∷ texts) = two_texts text (commas next texts)
 
-abbrev all_whole : List (List ℕ) → Bool
+abbrev pub all_whole : List (List ℕ) → Bool
 all_whole texts = list_all (λ text. list_all whole text) texts
 
 commas_unquoted : (text : List ℕ) (texts : List (List ℕ)) → list_all whole text ≡ true → all_whole texts ≡ true →
@@ -57,7 +57,7 @@ operands_are : (field : List ℕ) → 0 < length field → operand_texts field �
 operands_are [] some = absurd (omega arith)
 operands_are (byte ∷ bytes) some = refl
 
-operands_back : (text : List ℕ) (texts : List (List ℕ)) → 0 < length (commas text texts) → list_all whole text ≡ true →
+pub operands_back : (text : List ℕ) (texts : List (List ℕ)) → 0 < length (commas text texts) → list_all whole text ≡ true →
     all_whole texts ≡ true → operand_texts (commas text texts) ≡ text ∷ texts
 operands_back text texts some e f =
     operands_are (commas text texts) some

@@ -34,7 +34,7 @@ use Rattle.asm_defs.specs.SecondChecks as out
 use Rattle.asm_defs.specs.Modules.{title_by}
 use Rattle.listed_lines.proofs.DigitLaws.{word_passes, byte_passes}
 use Rattle.listed_lines.proofs.OperandLines.{whole, one_text}
-use Rattle.listed_lines.proofs.LineTexts.{field_of, plain_byte, Cut, Fit, cut_listed, in_line, listed_in_line}
+use Rattle.listed_lines.proofs.LineTexts.{field_of, plain_byte, number_fit, Cut, Fit, cut_listed, in_line, listed_in_line}
 use Rattle.word_listings.specs.Modules.{wraps}
 use Rattle.word_listings.proofs.Numbers.{known, word_value, byte_value}
 use Rattle.word_listings.proofs.Names.{names}
@@ -83,10 +83,6 @@ line_back name operands statement fit some no_copy says own comes = record {
   own = own;
   comes = comes;
 }
-
--- a directive with a number
-pub number_fit : (name text : List ℕ) → 0 < length name → length name ≤ 6 → list_all plain_byte name ≡ true → length text ≤ 5 → list_all plain_byte text ≡ true → Fit name text
-number_fit name text some short plain few field = record { some = some; short = short; few = omega arith; name_plain = plain; field_plain = field }
 
 -- the words of a line, unless it is a jump that wraps
 abbrev pub come_unless : Bool → List ℕ → Result Outcome AsmCause

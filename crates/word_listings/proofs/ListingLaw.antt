@@ -28,12 +28,12 @@ use Rattle.word_listings.specs.Listing.{memory_listing, words_in, lines_from, od
 use Rattle.listed_lines.proofs.DigitLaws.{word_passes}
 use Rattle.listed_lines.proofs.OperandLines.{whole, one_text}
 use Rattle.listed_lines.proofs.Scans.{all_both}
-use Rattle.listed_lines.proofs.LineTexts.{plain_byte, Cut, Fit, cut_listed, in_line, listed_in_line, joined, lines_joined, clean, clean_lines, text_of}
+use Rattle.listed_lines.proofs.LineTexts.{plain_byte, number_fit, Cut, Fit, cut_listed, in_line, listed_in_line, joined, lines_joined, clean, clean_lines, text_of}
 use Rattle.word_listings.specs.Modules.{padded_words, module_of_words, first_wrapping, unless_far}
 use Rattle.word_listings.specs.Law.{StandEven, listed_module, WordListingsComeBack, EnteredListingsComeBack}
 use Rattle.word_listings.proofs.Numbers.{known, word_value}
 use Rattle.word_listings.proofs.Instructions.{AreWords}
-use Rattle.word_listings.proofs.LineBacks.{absolute_at, number_fit, byte_line, end_text, end_line, IsEntry, words_back}
+use Rattle.word_listings.proofs.LineBacks.{absolute_at, byte_line, end_text, end_line, IsEntry, words_back}
 use Rattle.word_listings.proofs.Behind.{Stands, Holds, Ends, same_place}
 use Rattle.word_listings.proofs.Going.{texts_from, goes_from, Closes, Breaks}
 use Rattle.word_listings.proofs.Closing.{closes_end, breaks_end, closes_byte, breaks_byte, words_held}
