@@ -72,8 +72,7 @@ settle_here : (earlier : List Settled) (at there : Location) (held : Image) (sai
 settle_here earlier at there held said bytes same is second free = rw (same, second, is, free) refl
 
 plain_letters : Alphabet plain_byte
-plain_letters =
-    record { digits = refl; sign = refl; at_sign = refl; star = refl; video = refl; opens = refl; closes = refl; grom = refl; register = refl }
+plain_letters = search rules
 
 instr_fit : (found : GplInstr) (at : ℕ) → IsTrue (is_valid found) →
     Fit (name_of (mnemonic_of found)) (field_of (shown (tokens_of found at)))

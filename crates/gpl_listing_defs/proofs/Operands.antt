@@ -94,7 +94,7 @@ form (InGrom a index) = forms.InGrom (marked_word a) (index_written index)
 
 -- a test that each byte of an operand passes
 pub record Alphabet (p : ℕ → Bool) : Type 0 where
-  digits : digits_pass p ≡ true
+  pub digits : digits_pass p ≡ true
   pub sign : p 0x3E ≡ true
   pub at_sign : p 0x40 ≡ true
   pub star : p 0x2A ≡ true
