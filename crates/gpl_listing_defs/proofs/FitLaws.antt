@@ -5,12 +5,7 @@ use Rattle.tms_defs.specs.Words.{join}
 use Rattle.grom_defs.specs.Addresses.{next_in_grom}
 use Rattle.gpl_defs.specs.declared.instruction.GplOperand.{GplOperand}
 use Rattle.gpl_defs.specs.declared.instruction.MoveKind.{MoveKind}
-use Rattle.gpl_defs.specs.declared.instruction.MoveKind.TheVariants.{
-  GromToMemory,
-  GromIndexedToMemory,
-  MemoryToMemory,
-  GromToRegisters,
-}
+use Rattle.gpl_defs.specs.declared.instruction.MoveKind.TheVariants.{GromToMemory, GromIndexedToMemory, MemoryToMemory, GromToRegisters}
 use Rattle.gpl_defs.specs.declared.instruction.GplInstr.{GplInstr}
 use Rattle.gpl_defs.specs.declared.instruction.GplOperation.{GplOperation}
 use Rattle.gpl_defs.specs.declared.instruction.GplOperation.TheVariants as operation
@@ -19,7 +14,8 @@ use Rattle.gpl_defs.specs.declared.instruction.GplRead.TheVariants.{Instr, Refus
 use Rattle.gpl_defs.specs.Codes.{operation_at}
 use Rattle.gpl_defs.specs.Reading.{word_at, address_at, index_by, with_address, plain_operand, operand_at}
 use Rattle.gpl_defs.specs.Reading.{source_at, length_at, target_at, from_at, instr_at, read_by, reading}
-use Rattle.gpl_listing_defs.proofs.SkeletonLaws.{IndexFits, OperandFits, SourceFits, LengthFits, TargetFits, FromFits, InstrFits}
+use Rattle.gpl_listing_defs.proofs.Operands.{IndexFits, OperandFits}
+use Rattle.gpl_listing_defs.proofs.Instructions.{SourceFits, LengthFits, TargetFits, FromFits, InstrFits}
 
 module _ (image : List ℕ) (bytes : (k : ℕ) → slice_index image k < 256) where
   word_fits : (at : ℕ) → (word_at image at).0 < 65536
@@ -65,15 +61,12 @@ module _ (image : List ℕ) (bytes : (k : ℕ) → slice_index image k < 256) wh
 
   target_fits : (kind : MoveKind) (at : ℕ) → TargetFits (target_at kind image at).0
   target_fits GromToRegisters at = bytes at
-  target_fits GromToMemory at = operand_fits at
-  target_fits GromIndexedToMemory at = operand_fits at
-  target_fits MemoryToMemory at = operand_fits at
+  target_fits _ at = operand_fits at
 
   from_fits : (kind : MoveKind) (at : ℕ) → FromFits (from_at kind image at).0
   from_fits MemoryToMemory at = operand_fits at
   from_fits GromIndexedToMemory at = (word_fits at, bytes (word_at image at).1)
-  from_fits GromToMemory at = word_fits at
-  from_fits GromToRegisters at = word_fits at
+  from_fits _ at = word_fits at
 
   instr_fits : (operation : GplOperation) (code at : ℕ) → InstrFits (instr_at operation code image at).0
   instr_fits (operation.Plain op) code at = tt

@@ -1,13 +1,10 @@
 -- How long a listing is.
 use Rattle.std.proofs.Common.{◌≡◌, ℕ, zero, suc, ◌+◌, ◌-◌, ◌*◌, ◌/◌, ◌%◌, ◌<◌, ◌≤◌, Bool, true, false, not, ◌&&◌, List, [], ◌∷◌, ◌++◌}
-use Rattle.std.proofs.Common.{length, length-append, refl, subst, min, arith}
-use Rattle.std.specs.Prelude.{◌==◌, codes, IsTrue, nat_le, map, slice_index, if◌then◌else◌}
+use Rattle.std.proofs.Common.{length, length-append, refl, sym, subst, Option, arith}
+use Rattle.std.specs.Prelude.{◌==◌, codes, IsTrue, map, if◌then◌else◌}
 use Rattle.std.specs.List.{concat}
 use Rattle.std.proofs.lemmas.Bool.Decides.{nat_tests}
 use Rattle.tms_defs.specs.Bytes.{HoldsBytes}
-use Rattle.source_defs.specs.Digits.{marked_word, marked_byte, word_digits, byte_digits}
-use Rattle.source_defs.specs.ListedLines.{listing_line, two_texts}
-use Rattle.grom_defs.specs.Addresses.{in_grom_of}
 use Rattle.grom_defs.specs.declared.size.TheConstants.{GROM_SIZE}
 use Rattle.gpl_defs.specs.declared.instruction.GplOperand.{GplOperand}
 use Rattle.gpl_defs.specs.declared.instruction.GplSource.{GplSource}
@@ -20,23 +17,21 @@ use Rattle.gpl_defs.specs.declared.instruction.MoveSource.{MoveSource}
 use Rattle.gpl_defs.specs.declared.instruction.MoveSource.TheVariants as from
 use Rattle.gpl_defs.specs.declared.instruction.GplInstr.{GplInstr}
 use Rattle.gpl_defs.specs.declared.instruction.GplInstr.TheVariants as instr
-use Rattle.gpl_defs.specs.declared.instruction.GplRead.{GplRead}
-use Rattle.gpl_defs.specs.declared.instruction.GplRead.TheVariants.{Instr, Refused}
 use Rattle.gpl_defs.specs.Bytes.{bytes_of, operand_bytes, source_bytes, length_bytes, target_bytes, from_bytes}
 use Rattle.gpl_defs.specs.Bytes.{fits_one_byte, fits_twelve_bits, in_one_byte, in_twelve_bits, in_sixteen_bits}
 use Rattle.gpl_defs.specs.Valid.{is_valid}
-use Rattle.gpl_defs.specs.Reading.{reading, stand, IsReadAt, ReadsInstr}
-use Rattle.gpl_defs.proofs.MeaningLaws.{reading_means}
 use Rattle.gpl_source_defs.specs.Mnemonics.{name_of}
-use Rattle.listed_lines.proofs.Scans.{and_left, and_right}
-use Rattle.gpl_listing_defs.specs.Texts.{operand_text, source_text, length_text, target_text, from_text}
+use Rattle.listed_lines.proofs.Scans.{and_left}
 use Rattle.gpl_listing_defs.specs.Texts.{mnemonic_of, instr_text}
-use Rattle.gpl_listing_defs.specs.Listing.{boundary, Listed, byte_listed, instr_listed, is_whole, listed_by, listed_at}
 use Rattle.gpl_listing_defs.specs.Listing.{origin_texts, origin_texts_at, texts_from, grom_texts, grom_listing}
 use Rattle.gpl_listing_defs.specs.Law.{ListingsAreShort}
-use Rattle.gpl_listing_defs.proofs.EntryLaws.{word_short, byte_short, operand_short, source_short}
-use Rattle.gpl_listing_defs.proofs.EntryLaws.{length_short, target_short, from_short}
-use Rattle.gpl_listing_defs.proofs.NameLaws.{instr_names}
+use Rattle.source_defs.specs.Digits.{word_digits, byte_digits}
+use Rattle.source_defs.specs.ListedLines.{listing_line, with_operands}
+use Rattle.gpl_listing_defs.specs.Listing.{Listed, listed_at}
+use Rattle.listed_lines.proofs.LineTexts.{field_of}
+use Rattle.gpl_listing_defs.proofs.Operands.{Token, shown, shown_short, tokens_of, tokens_are}
+use Rattle.gpl_listing_defs.proofs.Instructions.{instr_names}
+use Rattle.gpl_listing_defs.proofs.Entries.{Entry, Whole, Single, entry_of}
 
 -- ---- an instruction has at least a byte for its code and one for each operand
 
@@ -64,61 +59,32 @@ target_size (target.Register number) = omega arith
 
 from_size : (place : MoveSource) → 0 < length (from_bytes place)
 from_size (from.At operand) = operand_size operand
-from_size (from.Grom address) = omega arith
-from_size (from.GromIndexed address index) = omega arith
+from_size _ = omega arith
+
+tokens_size : (found : GplInstr) (at : ℕ) → 1 + length (tokens_of found at) ≤ length (bytes_of found)
+tokens_size (instr.Plain op) at = omega arith
+tokens_size (instr.One op word operand) at = omega (arith, operand_size operand)
+tokens_size (instr.Two op word dst src) at =
+    omega (arith, operand_size dst, source_size word src, length-append (operand_bytes dst) (source_bytes word src))
+tokens_size (instr.Move counted to place) at =
+    omega (arith, length_size counted, target_size to, from_size place, length-append (target_bytes to) (from_bytes place),
+    length-append (length_bytes counted) (target_bytes to ++ from_bytes place))
+tokens_size _ at = omega arith
+
+with_operands_size : (name : List ℕ) (tokens : List Token) → length name ≤ 6 →
+    length (with_operands name (shown tokens)) + 8 ≤ 16 * (1 + length tokens)
+with_operands_size name [] short = omega arith
+with_operands_size name (token ∷ tokens) short =
+    omega (arith, shown_short (token ∷ tokens), length-append name (0x20 ∷ field_of (shown (token ∷ tokens))))
 
 -- the text of an instruction has at most 16 bytes for each of its own, the blanks before it and the line feed included
 instr_short : (found : GplInstr) (at : ℕ) → IsTrue (is_valid found) →
     length (instr_text found at) + 8 ≤ 16 * length (bytes_of found)
 unfolding instr_text
-instr_short (instr.Plain op) at valid = let n = (instr_names (instr.Plain op) valid).short in omega arith
-instr_short (instr.Byte op value) at valid =
-    let n = (instr_names (instr.Byte op value) valid).short in
-    let v = byte_short value in
-    let s = length-append (name_of (mnemonic_of (instr.Byte op value))) (0x20 ∷ marked_byte value) in
-    omega arith
-instr_short (instr.Jump op to) at valid =
-    let n = (instr_names (instr.Jump op to) valid).short in
-    let v = word_short to in
-    let s = length-append (name_of (mnemonic_of (instr.Jump op to))) (0x20 ∷ marked_word to) in
-    omega arith
-instr_short (instr.Branch on offset) at valid =
-    let n = (instr_names (instr.Branch on offset) valid).short in
-    let v = word_short (in_grom_of at offset) in
-    let s = length-append (name_of (mnemonic_of (instr.Branch on offset))) (0x20 ∷ marked_word (in_grom_of at offset)) in
-    omega arith
-instr_short (instr.One op word operand) at valid =
-    let n = (instr_names (instr.One op word operand) valid).short in
-    let v = operand_short operand in
-    let b = operand_size operand in
-    let s = length-append (name_of (mnemonic_of (instr.One op word operand))) (0x20 ∷ operand_text operand) in
-    omega arith
-instr_short (instr.Two op word dst src) at valid =
-    let n = (instr_names (instr.Two op word dst src) valid).short in
-    let v = operand_short dst in
-    let w = source_short word src in
-    let b = operand_size dst in
-    let c = source_size word src in
-    let s = length-append (name_of (mnemonic_of (instr.Two op word dst src)))
-    (0x20 ∷ two_texts (operand_text dst) (source_text word src)) in
-    let t = length-append (operand_text dst) (0x2C ∷ source_text word src) in
-    let u = length-append (operand_bytes dst) (source_bytes word src) in
-    omega arith
-instr_short (instr.Move counted to place) at valid =
-    let n = (instr_names (instr.Move counted to place) valid).short in
-    let v = length_short counted in
-    let w = target_short to in
-    let x = from_short place in
-    let b = length_size counted in
-    let c = target_size to in
-    let d = from_size place in
-    let s = length-append (name_of (mnemonic_of (instr.Move counted to place)))
-    (0x20 ∷ two_texts (length_text counted) (two_texts (target_text to) (from_text place))) in
-    let t = length-append (length_text counted) (0x2C ∷ two_texts (target_text to) (from_text place)) in
-    let u = length-append (target_text to) (0x2C ∷ from_text place) in
-    let y = length-append (length_bytes counted) (target_bytes to ++ from_bytes place) in
-    let z = length-append (target_bytes to) (from_bytes place) in
-    omega arith
+instr_short found at valid =
+    let S : Option (List ℕ) → Type 0 = λ operands. length (with_operands (name_of (mnemonic_of found)) operands) + 8 ≤ 16 * length (bytes_of found) in
+    let size = with_operands_size (name_of (mnemonic_of found)) (tokens_of found at) (instr_names found valid).short in
+    subst S (sym (tokens_are found at)) (omega (arith, size, tokens_size found at))
 
 -- ---- the length of lines
 
@@ -143,32 +109,17 @@ origin_size : (at : ℕ) → lines_size (origin_texts at) ≡ 36
 unfolding word_digits
 origin_size at = refl
 
-module _ (image : List ℕ) (low high : ℕ) (bytes : (k : ℕ) → slice_index image k < 256) where
+module _ (image : List ℕ) (low high : ℕ) (holds : HoldsBytes 65536 image) (top : high ≤ 65536) where
   -- a line goes on, not past the end, and is short
   record Fits (at : ℕ) (line : Listed) : Type 0 where
     some : 0 < line.size
     within : at + line.size ≤ high
     short : length line.text + 8 ≤ 16 * line.size
 
-  fits : (at : ℕ) → at < high → Fits at (listed_at image at high)
-  unfolding listed_at byte_digits
-  fits at before_end = by (reading image at) refl
-    where
-      by_test : (found : GplInstr) (next : ℕ) → reading image at ≡ Instr found next → (test : Bool) →
-          is_whole image at high found ≡ test →
-          Fits at (if test then instr_listed found at else byte_listed image at)
-      by_test found next read true e =
-          let R : GplRead → Type 0 = λ read. IsReadAt image at read in
-          let means : ReadsInstr image at found next = subst R read (reading_means image at bytes) in
-          let ends : nat_le (at + length (bytes_of found)) (min high (boundary at)) ≡ true = and_right
-          (stand image (bytes_of found) at) _ e in
-          let inside : at + length (bytes_of found) ≤ min high (boundary at) = grind (arith, nat_tests) in
-          record { some = omega arith; within = omega arith; short = instr_short found at means.means.is_kind.valid }
-      by_test found next read false e = record { some = omega arith; within = omega arith; short = omega arith }
-
-      by : (read : GplRead) → reading image at ≡ read → Fits at (listed_by image at high read)
-      by (Instr found next) e = by_test found next e (is_whole image at high found) refl
-      by (Refused code) e = record { some = omega arith; within = omega arith; short = omega arith }
+  fits : (at : ℕ) → at < high → (line : Listed) → Entry image at high line → Fits at line
+  unfolding byte_digits
+  fits at before_end line (Whole found valid room same ends) = record { some = omega arith; within = omega arith; short = instr_short found at valid }
+  fits at before_end line Single = record { some = omega arith; within = omega arith; short = omega arith }
 
   -- GROM and AORG are said again at most once for each GROM that begins
   origin_few : (at : ℕ) → lines_size (origin_texts_at low at) + 36 * ((at + 8191) / 8192) ≤ 36 * ((at + 8192) / 8192)
@@ -191,7 +142,7 @@ module _ (image : List ℕ) (low high : ℕ) (bytes : (k : ℕ) → slice_index 
       let rest = from_short_of left (at + 1) belonging (omega arith) (omega arith) in
       omega arith
   from_short_of (suc left) at zero ends le =
-      let line = fits at (omega arith) in
+      let line = fits at (omega arith) _ (entry_of image holds.fits holds.size at high top) in
       let some = line.some in
       let within = line.within in
       let short = line.short in
@@ -206,11 +157,11 @@ first_step : (image : List ℕ) (low high left : ℕ) → HoldsBytes 65536 image
     lines_size (texts_from image low high low 0 left) ≤ 16 * left + 252
 first_step image low high zero holds ends le = omega arith
 first_step image low high (suc left) holds ends le =
-    let line = fits image low high holds.fits low (omega arith) in
+    let line = fits image low high holds le low (omega arith) _ (entry_of image holds.fits holds.size low high le) in
     let some = line.some in
     let within = line.within in
     let short = line.short in
-    let rest = from_short_of image low high holds.fits left (low + 1) ((listed_at image low high).size - 1) (omega arith)
+    let rest = from_short_of image low high holds le left (low + 1) ((listed_at image low high).size - 1) (omega arith)
     (omega arith) in
     let none : origin_texts_at low low ≡ [] = at_first (low % GROM_SIZE == 0) in
     rw none (omega arith)

@@ -1,13 +1,9 @@
 pub mod LineSteps
-pub mod NumberLaws
-pub mod FormLaws
-pub mod SkeletonLaws
-pub mod InstructionText
-pub mod InstructionAgain
-pub mod NameLaws
+pub mod Operands
+pub mod Instructions
 pub mod FitLaws
 pub mod PlacingLaws
-pub mod StateLaws
-pub mod EntryLaws
+pub mod Lines
+pub mod Entries
 pub mod ListingLaw
 pub mod LengthLaws

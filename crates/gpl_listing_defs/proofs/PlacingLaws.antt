@@ -1,11 +1,11 @@
 -- Bytes that are placed one behind the other, and where nothing is placed.
 use Rattle.std.proofs.Common.{◌≡◌, ◌≢◌, ℕ, zero, suc, ◌+◌, ◌-◌, ◌*◌, ◌/◌, ◌≤◌, true, false, List, [], ◌∷◌, ◌++◌}
-use Rattle.std.proofs.Common.{length, take, drop, get_or, refl, ap, ◌∙◌, arith}
+use Rattle.std.proofs.Common.{length, take, drop, get_or, refl, ap, sym, ◌∙◌, arith}
 use Rattle.std.specs.Prelude.{◌==◌, is_some}
 use Rattle.std.specs.Ordering.{nat_cmp}
 use Rattle.std.specs.Cmp.{nat_cmp_total}
 use Rattle.std.specs.FinMap.{empty, insert, contains_key, get-insert, get-empty}
-use Rattle.std.proofs.lemmas.List.{drop_more}
+use Rattle.std.proofs.lemmas.List.{drop_more, take-append-drop, take-take, drop-take, drop-drop}
 use Rattle.std.proofs.lemmas.Bool.Decides.{nat_tests}
 use Rattle.std.proofs.lemmas.Grind.{common_steps}
 use Rattle.grom_defs.specs.Addresses.{next_in_grom}
@@ -51,36 +51,14 @@ pub stand_taken : (image bytes : List ℕ) (at : ℕ) → stand image bytes at �
     at + length bytes ≤ at / 0x2000 * 0x2000 + 0x2000 → at + length bytes ≤ length image →
     take (length bytes) (drop at image) ≡ bytes
 stand_taken image [] at e within inside = refl
-stand_taken image (byte ∷ bytes) at e within inside =
-    let first : get_or image at 0 ≡ byte =
-    (let test : (get_or image at 0 == byte) ≡ true = and_left _ (stand image bytes (next_in_grom at)) e in
-    grind (arith, nat_tests)) in
-    let rest : stand image bytes (next_in_grom at) ≡ true = and_right (get_or image at 0 == byte) _ e in
-    by bytes refl first rest (stand_taken image bytes)
-  where
-    by : (others : List ℕ) → bytes ≡ others → get_or image at 0 ≡ byte → stand image bytes (next_in_grom at) ≡ true →
-        ((next : ℕ) → stand image bytes next ≡ true → next + length bytes ≤ next / 0x2000 * 0x2000 + 0x2000 →
-        next + length bytes ≤ length image → take (length bytes) (drop next image) ≡ bytes) →
-        take (suc (length bytes)) (drop at image) ≡ byte ∷ bytes
-    by [] is first rest again = rw (drop_more image at 0 (omega arith), first, is) refl
-    by (b ∷ bs) is first rest again =
-        let size : length bytes ≡ suc (length bs) = ap length is in
-        let next : next_in_grom at ≡ at + 1 = omega arith in
-        let there : stand image bytes (at + 1) ≡ true = rw next at rest in
-        let ih = again (at + 1) there (omega arith) (omega arith) in
-        rw (drop_more image at 0 (omega arith), first, ih) refl
-
-take_part : (xs : List ℕ) (n k : ℕ) → take (n + k) xs ≡ take n xs ++ take k (drop n xs)
-take_part xs zero k = ap (λ m. take m xs) (omega arith)
-take_part [] (suc n) k = nothing (suc n + k) k
-  where
-    nothing : (m k : ℕ) → ◌≡◌ {A = List ℕ} (take m []) (take k [])
-    nothing zero zero = refl
-    nothing zero (suc k) = refl
-    nothing (suc m) zero = refl
-    nothing (suc m) (suc k) = refl
-take_part (x ∷ xs) (suc n) k =
-    let e : suc n + k ≡ suc (n + k) = omega arith in rw e (ap (λ t. x ∷ t) (take_part xs n k))
+stand_taken image (byte ∷ []) at e within inside =
+    let first : get_or image at 0 ≡ byte = (let test = and_left (get_or image at 0 == byte) _ e in grind (arith, nat_tests)) in
+    rw (drop_more image at 0 (omega arith), first) refl
+stand_taken image (byte ∷ b ∷ bs) at e within inside =
+    let first : get_or image at 0 ≡ byte = (let test = and_left (get_or image at 0 == byte) _ e in grind (arith, nat_tests)) in
+    let next : next_in_grom at ≡ at + 1 = omega arith in
+    let rest : stand image (b ∷ bs) (at + 1) ≡ true = rw next at (and_right (get_or image at 0 == byte) _ e) in
+    rw (drop_more image at 0 (omega arith), first, stand_taken image (b ∷ bs) (at + 1) rest (omega arith) (omega arith)) refl
 
 -- the bytes of an image from an address up to another
 abbrev pub between : List ℕ → ℕ → ℕ → List ℕ
@@ -90,11 +68,10 @@ pub between_more : (image : List ℕ) (low at size : ℕ) → low ≤ at →
     between image low (at + size) ≡ between image low at ++ take size (drop at image)
 between_more image low at size le =
     let n : at + size - low ≡ at - low + size = omega arith in
-    let d : drop (at - low) (drop low image) ≡ drop at image = dropped image low at le in
-    rw (n, take_part (drop low image) (at - low) size, d) refl
-  where
-    dropped : (image : List ℕ) (low at : ℕ) → low ≤ at → drop (at - low) (drop low image) ≡ drop at image
-    dropped image low at le = grind (arith, common_steps)
+    let there : low + (at - low) ≡ at = omega arith in
+    rw n
+    (sym (take-append-drop (at - low) (take (at - low + size) (drop low image)))
+    ∙ rw (take-take (at - low) (at - low + size) (drop low image) (omega arith), drop-take (at - low) size (drop low image), drop-drop (at - low) low image, there) refl)
 
 pub between_size : (image : List ℕ) (low at : ℕ) → low ≤ at → at ≤ length image → low + length (between image low at)
     ≡ at

@@ -2,4 +2,3 @@ pub mod Scans
 pub mod DigitLaws
 pub mod OperandLines
 pub mod LineTexts
-pub mod LineLists

@@ -1,174 +1,119 @@
--- Operands with commas between them.
-use Rattle.std.proofs.Common.{◌≡◌, ℕ, ◌+◌, ◌-◌, ◌<◌, Bool, true, false, not, ◌&&◌, List, [], ◌∷◌, ◌++◌}
-use Rattle.std.proofs.Common.{append_assoc, length, get_or, length-append, refl, ap, sym, ◌∙◌, arith}
-use Rattle.std.specs.Prelude.{map, nat_lt}
+-- Operands with commas between them, and a text behind which another stands in parentheses.
+use Rattle.std.proofs.Common.{◌≡◌, ℕ, ◌+◌, ◌-◌, ◌<◌, ◌≤◌, Bool, true, false, not, ◌&&◌, List, [], ◌∷◌, ◌++◌}
+use Rattle.std.proofs.Common.{length, take, get_or, length-append, refl, sym, ◌∙◌, arith}
+use Rattle.std.specs.Prelude.{map, nat_lt, ◌==◌, slice_range}
 use Rattle.std.specs.List.{list_all}
 use Rattle.std.proofs.lemmas.Bool.Decides.{nat_tests}
-use Rattle.std.proofs.lemmas.Grind.{common_steps}
-use Rattle.std.proofs.lemmas.List.{take_all}
-use Rattle.std.proofs.Math.Seq.{drop-append_seam, take-append_seam}
+use Rattle.std.proofs.Math.Seq.{take-append_seam}
+use Rattle.source_defs.specs.Characters.{is_comma, is_quote}
+use Rattle.source_defs.specs.Fields.{in_quotes}
 use Rattle.source_defs.specs.Lines.{part}
-use Rattle.source_defs.specs.Operands.{parts_operands, operands_from, operand_texts}
 use Rattle.source_defs.specs.ListedLines.{two_texts}
-use Rattle.source_defs.proofs.OperandSteps.{comma_place, operands_from_step}
-use Rattle.listed_lines.proofs.Scans.{place_is, all_get, all_both, at_second, at_third, and_left, and_right, not_true, unquoted, not_quoted}
-use Rattle.source_defs.specs.Characters.{is_comma}
+use Rattle.source_defs.specs.Operands.{operands_from, operand_texts}
+use Rattle.source_defs.specs.Parentheses.{last_place, opening, closes_at, has_parentheses}
+use Rattle.source_defs.proofs.OperandSteps.{operands_from_step}
+use Rattle.listed_lines.proofs.Scans.{and_left, and_right, all_both, all_also, At, at_start, to_end, size_is, behind, part_is, byte_is, scanned_where}
+use Rattle.listed_lines.proofs.Scans.{unquoted, not_quoted}
 
--- a byte that stands in one operand
-abbrev pub uncut : ℕ → Bool
-uncut byte = not (is_comma byte)
+-- what the text of an operand holds
+abbrev pub whole : ℕ → Bool
+whole byte = unquoted byte && not (is_comma byte)
 
--- an operand behind a front, and a comma behind it
-module _ (front text more : List ℕ) (quotes : list_all unquoted (front ++ (text ++ 0x2C ∷ more)) ≡ true)
-    (whole_text : list_all uncut text ≡ true) where
-  abbrev field : List ℕ
-  field = front ++ (text ++ 0x2C ∷ more)
+-- an operand, and others behind commas
+abbrev pub commas : List ℕ → List (List ℕ) → List ℕ
+commas text [] = text
+commas text (next ∷ texts) = two_texts text (commas next texts)
 
-  size : length field ≡ length front + (length text + (1 + length more))
-  size = length-append front (text ++ 0x2C ∷ more) ∙ ap (λ n. length front + n) (length-append text (0x2C ∷ more)) ∙
-      omega arith
+abbrev pub all_whole : List (List ℕ) → Bool
+all_whole texts = list_all (λ text. list_all whole text) texts
 
-  comma_here : comma_place field (length front) ≡ length front + length text
-  comma_here =
-      let n = size in
-      place_is (parts_operands field) field (length front) (length front + length text) (omega arith) (omega arith)
-      (λ j ge lt.
-      rw (
-        at_second front text (0x2C ∷ more) j (j - length front) (omega arith) (omega arith),
-        not_true (is_comma (get_or text (j - length front) 0))
-            (all_get uncut text (j - length front) (omega arith) whole_text),
-      ) refl)
-      (λ h.
-      rw (
-        at_third front text (0x2C ∷ more) (length front + length text) 0 (omega arith),
-        not_quoted field 0 (length front + length text) quotes (omega arith) (omega arith),
-      ) refl)
+commas_unquoted : (text : List ℕ) (texts : List (List ℕ)) → list_all whole text ≡ true → all_whole texts ≡ true →
+    list_all unquoted (commas text texts) ≡ true
+commas_unquoted text [] e f = all_also whole unquoted (λ x. and_left (unquoted x) (not (is_comma x))) text e
+commas_unquoted text (next ∷ texts) e f =
+    all_both unquoted text (0x2C ∷ commas next texts) (all_also whole unquoted (λ x. and_left (unquoted x) (not (is_comma x))) text e)
+    (commas_unquoted next texts (and_left _ (all_whole texts) f) (and_right (list_all whole next) _ f))
 
-  part_here : part field (record { start = length front; end = length front + length text }) ≡ text
-  part_here =
-      let k : length front + length text - length front ≡ length text = omega arith in
-      rw (drop-append_seam front (text ++ 0x2C ∷ more), k) (take-append_seam text (0x2C ∷ more))
-
-  pub first_operand : map (part field) (operands_from field (length front))
-      ≡ text ∷ map (part field) (operands_from field (length front + length text + 1))
-  first_operand =
-      let n = size in
-      let inside : nat_lt (length front + length text) (length field) ≡ true = grind (arith, nat_tests) in
-      rw (operands_from_step field (length front) (omega arith), comma_here, inside, part_here) refl
-
--- the last operand behind a front
-module _ (front text : List ℕ) (quotes : list_all unquoted (front ++ text) ≡ true)
-    (whole_text : list_all uncut text ≡ true) where
-  abbrev last_field : List ℕ
-  last_field = front ++ text
-
-  text_at : (j k : ℕ) → j ≡ length front + k → get_or (front ++ text) j 0 ≡ get_or text k 0
-  text_at j k e = grind (arith, common_steps)
-
-  end_here : comma_place last_field (length front) ≡ length last_field
-  end_here =
-      let n = length-append front text in
-      place_is (parts_operands last_field) last_field (length front) (length last_field) (omega arith) (omega arith)
-      (λ j ge lt.
-      rw (
-        text_at j (j - length front) (omega arith),
-        not_true (is_comma (get_or text (j - length front) 0))
-            (all_get uncut text (j - length front) (omega arith) whole_text),
-      ) refl)
-      (λ h. absurd (omega arith))
-
-  last_part : part last_field (record { start = length front; end = length last_field }) ≡ text
-  last_part =
-      let n = length-append front text in
-      let k : length last_field - length front ≡ length text = omega arith in
-      rw (drop-append_seam front text, k) (take_all (length text) text (omega arith))
-
-  pub last_operand : map (part last_field) (operands_from last_field (length front)) ≡ text ∷ []
-  last_operand =
-      let n = length-append front text in
-      let outside : nat_lt (length last_field) (length last_field) ≡ false = grind (arith, nat_tests) in
-      rw (operands_from_step last_field (length front) (omega arith), end_here, outside, last_part) refl
+module _ (field : List ℕ) (quotes : list_all unquoted field ≡ true) where
+  operands_at : (text : List ℕ) (texts : List (List ℕ)) (from : ℕ) → At field from (commas text texts) →
+      list_all whole text ≡ true → all_whole texts ≡ true → map (part field) (operands_from field from) ≡ text ∷ texts
+  operands_at text [] from left e f =
+      let uncut = all_also whole (λ x. not (is_comma x)) (λ x. and_right (unquoted x) (not (is_comma x))) text e in
+      let size : length field ≡ from + length text = left.size in
+      let ends = scanned_where text [] (to_end left) is_comma (λ k. not (in_quotes field 0 k)) (λ some. absurd (omega arith)) uncut refl in
+      let last : nat_lt (from + length text) (length field) ≡ false = grind (arith, nat_tests) in
+      rw (operands_from_step field from (omega arith), ends, last, size, part_is text [] (to_end left)) refl
+  operands_at text (next ∷ texts) from left e f =
+      let uncut = all_also whole (λ x. not (is_comma x)) (λ x. and_right (unquoted x) (not (is_comma x))) text e in
+      let size = size_is text (0x2C ∷ commas next texts) left in
+      let outside = not_quoted field (from + length text) quotes (omega arith) in
+      let ends = scanned_where text (0x2C ∷ commas next texts) left is_comma (λ k. not (in_quotes field 0 k)) (λ some. rw outside refl) uncut refl in
+      let inside : nat_lt (from + length text) (length field) ≡ true = grind (arith, nat_tests) in
+      let rest = behind (0x2C ∷ []) (commas next texts) (behind text (0x2C ∷ commas next texts) left) in
+      let others = operands_at next texts (from + length text + 1) rest (and_left _ (all_whole texts) f) (and_right (list_all whole next) _ f) in
+      rw (operands_from_step field from (omega arith), ends, inside, part_is text (0x2C ∷ commas next texts) left, others) refl
 
 operands_are : (field : List ℕ) → 0 < length field → operand_texts field ≡ map (part field) (operands_from field 0)
 operands_are [] some = absurd (omega arith)
 operands_are (byte ∷ bytes) some = refl
 
--- what the text of an operand holds
-abbrev pub whole : ℕ → Bool
-whole byte = unquoted byte && uncut byte
-
-all_left : (p q : ℕ → Bool) (xs : List ℕ) → list_all (λ x. p x && q x) xs ≡ true → list_all p xs ≡ true
-all_left p q [] e = refl
-all_left p q (x ∷ xs) e =
-    let first = and_left (p x && q x) (list_all (λ x. p x && q x) xs) e in
-    let rest = all_left p q xs (and_right (p x && q x) (list_all (λ x. p x && q x) xs) e) in
-    rw (and_left (p x) (q x) first, rest) refl
-
-all_right : (p q : ℕ → Bool) (xs : List ℕ) → list_all (λ x. p x && q x) xs ≡ true → list_all q xs ≡ true
-all_right p q [] e = refl
-all_right p q (x ∷ xs) e =
-    let first = and_left (p x && q x) (list_all (λ x. p x && q x) xs) e in
-    let rest = all_right p q xs (and_right (p x && q x) (list_all (λ x. p x && q x) xs) e) in
-    rw (and_right (p x) (q x) first, rest) refl
+pub operands_back : (text : List ℕ) (texts : List (List ℕ)) → 0 < length (commas text texts) → list_all whole text ≡ true →
+    all_whole texts ≡ true → operand_texts (commas text texts) ≡ text ∷ texts
+operands_back text texts some e f =
+    operands_are (commas text texts) some
+    ∙ operands_at (commas text texts) (commas_unquoted text texts e f) text texts 0 (at_start (commas text texts)) e f
 
 pub one_text : (text : List ℕ) → 0 < length text → list_all whole text ≡ true → operand_texts text ≡ text ∷ []
-one_text text some e =
-    operands_are text some ∙ last_operand [] text (all_left unquoted uncut text e) (all_right unquoted uncut text e)
-
--- the operands behind the first comma of a field
-behind_comma : (first rest : List ℕ) (texts : List (List ℕ)) → list_all unquoted (first ++ 0x2C ∷ rest) ≡ true →
-    list_all uncut first ≡ true →
-    map (part (first ++ 0x2C ∷ rest)) (operands_from (first ++ 0x2C ∷ rest) (length first + 1)) ≡ texts →
-    operand_texts (first ++ 0x2C ∷ rest) ≡ first ∷ texts
-behind_comma first rest texts quotes e behind =
-    let size = length-append first (0x2C ∷ rest) in
-    let none : 0 + length first ≡ length first = omega arith in
-    let step = rw none at (first_operand [] first rest quotes e) in
-    operands_are (first ++ 0x2C ∷ rest) (omega arith) ∙ (step ∙ ap (λ t. first ∷ t) behind)
-
-regroup : (first rest : List ℕ) → first ++ 0x2C ∷ rest ≡ (first ++ 0x2C ∷ []) ++ rest
-regroup first rest = sym (append_assoc first (0x2C ∷ []) rest)
+one_text text some e = operands_back text [] some e refl
 
 pub two_operands : (first second : List ℕ) → list_all whole first ≡ true → list_all whole second ≡ true →
     operand_texts (two_texts first second) ≡ first ∷ second ∷ []
 two_operands first second e f =
-    let quotes : list_all unquoted (first ++ 0x2C ∷ second) ≡ true =
-    all_both unquoted first (0x2C ∷ second) (all_left unquoted uncut first e) (all_left unquoted uncut second f) in
-    let size : length (first ++ 0x2C ∷ []) ≡ length first + 1 = length-append first (0x2C ∷ []) in
-    let moved : list_all unquoted ((first ++ 0x2C ∷ []) ++ second) ≡ true = rw (regroup first second) at quotes in
-    let last = last_operand (first ++ 0x2C ∷ []) second moved (all_right unquoted uncut second f) in
-    behind_comma first second (second ∷ []) quotes (all_right unquoted uncut first e)
-    (rw (regroup first second, ← size) last)
-
--- the operands from a comma on, of which there are two
-from_comma : (front second third : List ℕ) → list_all unquoted (front ++ (second ++ 0x2C ∷ third)) ≡ true →
-    list_all uncut second ≡ true → list_all uncut third ≡ true →
-    map (part (front ++ (second ++ 0x2C ∷ third))) (operands_from (front ++ (second ++ 0x2C ∷ third)) (length front))
-    ≡ second ∷ third ∷ []
-from_comma front second third quotes f g =
-    let same : front ++ (second ++ 0x2C ∷ third) ≡ (front ++ (second ++ 0x2C ∷ [])) ++ third =
-    ap (λ t. front ++ t) (regroup second third) ∙ sym (append_assoc front (second ++ 0x2C ∷ []) third) in
-    let size : length (front ++ (second ++ 0x2C ∷ [])) ≡ length front + length second + 1 =
-    length-append front (second ++ 0x2C ∷ [])
-    ∙ (ap (λ n. length front + n) (length-append second (0x2C ∷ [])) ∙ omega arith) in
-    let moved : list_all unquoted ((front ++ (second ++ 0x2C ∷ [])) ++ third) ≡ true = rw same at quotes in
-    let last = last_operand (front ++ (second ++ 0x2C ∷ [])) third moved g in
-    first_operand front second third quotes f ∙ ap (λ t. second ∷ t) (rw (same, ← size) last)
+    operands_back first (second ∷ []) (omega (arith, length-append first (0x2C ∷ second))) e (rw f refl)
 
 pub three_operands : (first second third : List ℕ) → list_all whole first ≡ true → list_all whole second ≡ true →
-    list_all whole third ≡ true →
-    operand_texts (two_texts first (two_texts second third)) ≡ first ∷ second ∷ third ∷ []
+    list_all whole third ≡ true → operand_texts (two_texts first (two_texts second third)) ≡ first ∷ second ∷ third ∷ []
 three_operands first second third e f g =
-    let rest : List ℕ = second ++ 0x2C ∷ third in
-    let rest_quotes : list_all unquoted (second ++ 0x2C ∷ third) ≡ true =
-    all_both unquoted second (0x2C ∷ third) (all_left unquoted uncut second f) (all_left unquoted uncut third g) in
-    let quotes : list_all unquoted (first ++ 0x2C ∷ (second ++ 0x2C ∷ third)) ≡ true =
-    all_both unquoted first (0x2C ∷ (second ++ 0x2C ∷ third)) (all_left unquoted uncut first e) rest_quotes in
-    let size : length (first ++ 0x2C ∷ []) ≡ length first + 1 = length-append first (0x2C ∷ []) in
-    let moved : list_all unquoted ((first ++ 0x2C ∷ []) ++ (second ++ 0x2C ∷ third)) ≡ true =
-    rw (regroup first (second ++ 0x2C ∷ third)) at quotes in
-    let both =
-    from_comma (first ++ 0x2C ∷ []) second third moved (all_right unquoted uncut second f)
-    (all_right unquoted uncut third g) in
-    behind_comma first (second ++ 0x2C ∷ third) (second ∷ third ∷ []) quotes (all_right unquoted uncut first e)
-    (rw (regroup first (second ++ 0x2C ∷ third), ← size) both)
+    operands_back first (second ∷ third ∷ []) (omega (arith, length-append first (0x2C ∷ two_texts second third))) e
+    (rw (f, g) refl)
+
+-- an address, and behind it an index in parentheses
+module _ (outer inner : List ℕ) (quotes : list_all unquoted (outer ++ 0x28 ∷ (inner ++ 0x29 ∷ [])) ≡ true)
+    (own : list_all (λ byte. not (byte == 0x28)) outer ≡ true) where
+  abbrev pub text_with : List ℕ
+  text_with = outer ++ 0x28 ∷ (inner ++ 0x29 ∷ [])
+
+  at_inner : At text_with (0 + length outer + 1) (inner ++ 0x29 ∷ [])
+  at_inner =
+      behind (0x28 ∷ []) (inner ++ 0x29 ∷ []) (behind outer (0x28 ∷ (inner ++ 0x29 ∷ [])) (at_start text_with))
+
+  pub opening_is : opening text_with ≡ length outer
+  opening_is =
+      let size = size_is inner (0x29 ∷ []) at_inner in
+      scanned_where outer (0x28 ∷ (inner ++ 0x29 ∷ [])) (at_start text_with) (λ byte. byte == 0x28)
+      (λ k. not (in_quotes text_with 0 k))
+      (λ some. rw (not_quoted text_with (0 + length outer) quotes (omega arith)) refl) own refl
+      ∙ omega arith
+
+  pub closes_is : closes_at text_with (last_place text_with) ≡ true
+  closes_is =
+      let size = size_is inner (0x29 ∷ []) at_inner in
+      let last : last_place text_with ≡ 0 + length outer + 1 + length inner + 0 = omega arith in
+      let byte = byte_is (0x29 ∷ []) [] (to_end (behind inner (0x29 ∷ []) at_inner)) 0 (omega arith) in
+      rw (not_quoted text_with (last_place text_with) quotes (omega arith), last, byte) refl
+
+  pub has_is : has_parentheses text_with ≡ true
+  has_is =
+      let size = size_is inner (0x29 ∷ []) at_inner in
+      let inside : nat_lt (length outer) (length text_with) ≡ true = grind (arith, nat_tests) in
+      rw (closes_is, opening_is, inside) refl
+
+  pub outer_is : take (opening text_with) text_with ≡ outer
+  outer_is = rw opening_is (take-append_seam outer (0x28 ∷ (inner ++ 0x29 ∷ [])))
+
+  pub inner_is : slice_range text_with (opening text_with + 1) (last_place text_with) ≡ inner
+  inner_is =
+      let size = size_is inner (0x29 ∷ []) at_inner in
+      let from : length outer + 1 ≡ 0 + length outer + 1 = omega arith in
+      let last : last_place text_with ≡ 0 + length outer + 1 + length inner = omega arith in
+      rw (opening_is, last, from) (part_is inner (0x29 ∷ []) at_inner)

@@ -19,8 +19,7 @@ use Rattle.shelf_defs.specs.Files.{Files, of_files}
 use Rattle.shelf_defs.specs.CopyLines.{Itself, asked, ends_source}
 use Rattle.shelf_defs.specs.Copied.{Place, PlacedLine, Ended, Copied, lines_in, copy_line, deepest, copied}
 use Rattle.shelf_defs.specs.Assembly.{texts, places, place_of, in_place, module_of_copied, module_of_files}
-use Rattle.listed_lines.proofs.LineTexts.{lines_joined}
-use Rattle.listed_lines.proofs.LineLists.{clean_lines, text_of}
+use Rattle.listed_lines.proofs.LineTexts.{lines_joined, clean_lines, text_of}
 use Rattle.word_listings.specs.Listing.{memory_listing, words_in}
 use Rattle.word_listings.specs.Modules.{wraps, first_wrapping, unless_far}
 use Rattle.word_listings.specs.Law.{StandEven, listed_module}

@@ -22,13 +22,8 @@ use Rattle.count_defs.specs.Counts.{one_if}
 
 -- what is read has a signed byte
 signed : (operation : Operation) (word : ℕ) → HasSignedByte (operands_at operation word)
-signed (operation.Two op byte) word = tt
-signed (operation.Reg op) word = tt
-signed (operation.Shift op) word = tt
-signed (operation.One op) word = tt
 signed (operation.Jump op) word = omega (arith, ints)
-signed (operation.Imm op) word = tt
-signed (operation.Bare op) word = tt
+signed _ word = tt
 
 pub instr_at-signed : (word : ℕ) → IfSome (instr_at word) HasSignedByte
 instr_at-signed word = by (operation_at word)

@@ -16,7 +16,7 @@ use Rattle.asm_defs.specs.declared.location.Location.{Location}
 use Rattle.asm_defs.specs.declared.location.Part.{Part}
 use Rattle.asm_defs.specs.declared.location.Part.TheVariants as part
 use Rattle.asm_defs.specs.Statements.{statement_in}
-use Rattle.asm_defs.specs.Locations.{Line, location, place, reached, relocatable, behind}
+use Rattle.asm_defs.specs.Locations.{Line, location, place, reached, relocatable, behind, value_of}
 use Rattle.asm_defs.specs.FirstChecks.{Before, Checked, said, moved, checked, check, known_of, line_of, names, refs, defs}
 use Rattle.asm_defs.specs.SecondChecks.{Outcome, Words}
 use Rattle.asm_defs.specs.Memory.{Settled}
@@ -43,7 +43,7 @@ same_place m n e = ap absolute_at e
 -- a line by itself is let through behind others
 module _ (at : ℕ) (text : List ℕ) (size : ℕ) (last : Bool) (answer : Result Outcome AsmCause) (back : LineBack at text size last answer) (fits : at + size ≤ 65536) where
   abbrev found : Checked
-  found = record { label = None; statement = back.statement; move = record { origin = None; gap = 0; size = size; label = back.own.label } }
+  found = record { label = None; statement = back.statement; move = record { origin = None; gap = 0; size = size; label = value_of (behind (absolute_at at) 0) } }
 
   in_part : nat_le (at + (0 + size)) 65536 ≡ true
   in_part = grind (arith, nat_tests, fits)

@@ -6,10 +6,9 @@ use Rattle.std.proofs.lemmas.Int.{ints}
 use Rattle.std.proofs.lemmas.Bool.Decides.{nat_tests}
 use Rattle.tms_defs.specs.Instructions.{instr_at, HasSignedByte}
 use Rattle.tms_defs.specs.declared.instruction.JumpOp.{JumpOp}
-use Rattle.tms_defs.specs.declared.instruction.JumpOp.TheVariants.{JMP, JLT, JLE, JEQ, JHE, JGT, JNE, JNC, JOC, JNO}
-use Rattle.tms_defs.specs.declared.instruction.JumpOp.TheVariants.{JL, JH, JOP, SBO, SBZ, TB}
+use Rattle.tms_defs.specs.declared.instruction.JumpOp.TheVariants.{SBO, SBZ, TB}
 use Rattle.tms_defs.specs.declared.instruction.Instr.{Instr}
-use Rattle.tms_defs.specs.declared.instruction.Instr.TheVariants.{Two, Reg, Shift, One, Jump, Imm, Bare}
+use Rattle.tms_defs.specs.declared.instruction.Instr.TheVariants.{Jump}
 use Rattle.instruction_defs.specs.Printed.{printed}
 use Rattle.word_listings.specs.Listing.{words_in}
 use Rattle.word_listings.specs.Modules.{leads_out, jump_wraps, wraps, first_wrapping, padded_words, module_of_words, unless_far}
@@ -24,31 +23,14 @@ stays_in next (negsuc count) fits from to =
     let few : count < 128 = omega (arith, ints, fits) in grind (arith, nat_tests, few, from)
 
 jump_stays : (op : JumpOp) (next : ℕ) (disp : ℤ) → leads_out next disp ≡ false → jump_wraps op next disp ≡ false
-jump_stays JMP next disp e = e
-jump_stays JLT next disp e = e
-jump_stays JLE next disp e = e
-jump_stays JEQ next disp e = e
-jump_stays JHE next disp e = e
-jump_stays JGT next disp e = e
-jump_stays JNE next disp e = e
-jump_stays JNC next disp e = e
-jump_stays JOC next disp e = e
-jump_stays JNO next disp e = e
-jump_stays JL next disp e = e
-jump_stays JH next disp e = e
-jump_stays JOP next disp e = e
 jump_stays SBO next disp e = refl
 jump_stays SBZ next disp e = refl
 jump_stays TB next disp e = refl
+jump_stays _ next disp e = e
 
 instr_stays : (at : ℕ) (found : Option Instr) → IfSome found HasSignedByte → 254 ≤ at → at + 2 ≤ 65281 → wraps at found ≡ false
 instr_stays at (Some (Jump op disp)) fits from to = jump_stays op (at + 2) disp (stays_in (at + 2) disp fits (omega (arith, from)) to)
-instr_stays at (Some (Two op byte dst src)) fits from to = refl
-instr_stays at (Some (Reg op number src)) fits from to = refl
-instr_stays at (Some (Shift op count number)) fits from to = refl
-instr_stays at (Some (One op place)) fits from to = refl
-instr_stays at (Some (Imm op number)) fits from to = refl
-instr_stays at (Some (Bare op)) fits from to = refl
+instr_stays at (Some _) fits from to = refl
 instr_stays at None fits from to = refl
 
 none_wraps : (words : List ℕ) (number at belonging : ℕ) → 254 ≤ at → at + 2 * length words ≤ 65281 → first_wrapping number at belonging words ≡ None

@@ -11,10 +11,9 @@ use Rattle.source_defs.specs.ListedLines.{two_texts}
 use Rattle.tms_defs.specs.Instructions.{HasRoom, HasSignedByte, operation_of, word_of}
 use Rattle.tms_defs.specs.declared.instruction.Place.{Place}
 use Rattle.tms_defs.specs.declared.instruction.RegOp.{RegOp}
-use Rattle.tms_defs.specs.declared.instruction.RegOp.TheVariants.{COC, CZC, XOR, XOP, LDCR, STCR, MPY, DIV}
+use Rattle.tms_defs.specs.declared.instruction.RegOp.TheVariants.{XOP, LDCR, STCR}
 use Rattle.tms_defs.specs.declared.instruction.JumpOp.{JumpOp}
-use Rattle.tms_defs.specs.declared.instruction.JumpOp.TheVariants.{JMP, JLT, JLE, JEQ, JHE, JGT, JNE, JNC, JOC, JNO}
-use Rattle.tms_defs.specs.declared.instruction.JumpOp.TheVariants.{JL, JH, JOP, SBO, SBZ, TB}
+use Rattle.tms_defs.specs.declared.instruction.JumpOp.TheVariants.{SBO, SBZ, TB}
 use Rattle.tms_defs.specs.declared.instruction.ImmOp.{ImmOp}
 use Rattle.tms_defs.specs.declared.instruction.BareOp.{BareOp}
 use Rattle.tms_defs.specs.declared.instruction.Operation.{Operation}
@@ -24,24 +23,22 @@ use Rattle.instruction_defs.specs.declared.causes.FormError.{FormError}
 use Rattle.instruction_defs.specs.declared.causes.FormError.TheVariants.{JumpTooFar}
 use Rattle.instruction_defs.specs.declared.slot.Slot.{Slot}
 use Rattle.instruction_defs.specs.declared.slot.Slot.TheVariants as slot
-use Rattle.instruction_defs.specs.Forms.{Form}
+use Rattle.instruction_defs.specs.Forms.{Form, Symbolic, Indexed}
 use Rattle.instruction_defs.specs.Operations.{name_of}
 use Rattle.instruction_defs.specs.Operands.{following_words, words_of, slots_of, reg_slots, jump_slots, has_immediate, has_value}
-use Rattle.instruction_defs.specs.FirstChecks.{Skeleton, Instruction, first_checks, forms_of, all_following, size_of}
+use Rattle.instruction_defs.specs.FirstChecks.{Skeleton, Instruction, first_checks, form_in, following, forms_of, all_following, size_of}
 use Rattle.instruction_defs.specs.SecondChecks as second
 use Rattle.instruction_defs.specs.SecondChecks.{Ready, Located, Counted, Displaced, Followed, all_valued, all_ranged, second_checks, displaced}
 use Rattle.instruction_defs.specs.SecondChecks.{instruction_of}
 use Rattle.tms_defs.specs.Words.{plus}
 use Rattle.tms_defs.specs.forms.Jump.{jump_target}
 use Rattle.instruction_defs.specs.Printed.{operand_text, register_text, number_text, signed_text, target_text, operands_text}
-use Rattle.listed_lines.proofs.Scans.{all_both}
-use Rattle.listed_lines.proofs.OperandLines.{one_text, two_operands}
-use Rattle.listed_lines.proofs.LineTexts.{field_of}
-use Rattle.listed_lines.proofs.LineTexts.{plain_byte}
+use Rattle.listed_lines.proofs.Scans.{all_both, all_also, and_left, and_right}
+use Rattle.listed_lines.proofs.OperandLines.{whole, one_text, two_operands}
+use Rattle.listed_lines.proofs.LineTexts.{field_of, plain_byte}
 use Rattle.word_listings.specs.Modules.{jump_wraps, leads_out}
 use Rattle.word_listings.proofs.Numbers.{known}
-use Rattle.word_listings.proofs.Slots.{SlotBack, followed, place_back}
-use Rattle.word_listings.proofs.Counts.{register_back, count_back, immediate_back, bit_back, target_back}
+use Rattle.word_listings.proofs.Slots.{SlotBack, letter, followed, place_back, register_back, count_back, immediate_back, bit_back, target_back}
 use Rattle.word_listings.proofs.Names.{names}
 use Rattle.count_defs.specs.Counts.{one_if}
 
@@ -56,43 +53,63 @@ pub record FieldBack (here : Value) (slots : List Slot) (operands : Option (List
   pub is_plain : list_all plain_byte (field_of operands) ≡ true
   pub some : (operands ≡ None) ⊎ (0 < length (field_of operands))
 
-module _ (here : Value) where
+following_few : (slot : Slot) (form : Form) → following slot form ≤ 1
+following_few slot.General (Indexed text index) = omega arith
+following_few slot.General (Symbolic text) = omega arith
+following_few slot.General _ = omega arith
+following_few _ form = omega arith
+
+some_text : (slot : Slot) (text : List ℕ) (form : Form) → form_in slot text ≡ Ok form → 0 < length text
+some_text slot [] form e = cc e
+some_text slot (byte ∷ bytes) form e = omega arith
+
+is_whole : (text : List ℕ) → list_all letter text ≡ true → list_all whole text ≡ true
+is_whole = all_also letter whole (λ x. and_left (whole x) (plain_byte x))
+
+is_plain : (text : List ℕ) → list_all letter text ≡ true → list_all plain_byte text ≡ true
+is_plain = all_also letter plain_byte (λ x. and_right (whole x) (plain_byte x))
+
+abbrev alone : Result Ready FormError → Result (List Ready) FormError
+alone (Ok ready) = Ok (ready ∷ [])
+alone (Err cause) = Err cause
+
+one_ready : (answer : Result Ready FormError) → (answer >>= λ ready. Ok [] >>= λ readies. Ok (ready ∷ readies)) ≡ alone answer
+one_ready (Ok ready) = refl
+one_ready (Err cause) = refl
+
+module _ {here : Value} where
   no_field : FieldBack here [] None (Ok []) 0
   no_field = record { some = inl refl; forms = []; forms_are = refl; readies_are = refl; count_is = refl; few = omega arith; short = omega arith; is_plain = refl }
 
-  abbrev alone : Result Ready FormError → Result (List Ready) FormError
-  alone (Ok ready) = Ok (ready ∷ [])
-  alone (Err cause) = Err cause
+  one_field : {s : Slot} {text : List ℕ} {answer : Result Ready FormError} {count : ℕ} → SlotBack here s text answer count →
+      FieldBack here (s ∷ []) (Some text) (alone answer) (count + 0)
+  one_field {s = s} {text = text} {answer = answer} back =
+      let some = some_text s text back.form back.form_is in
+      record {
+        forms = back.form ∷ [];
+        forms_are = rw (one_text text some (is_whole text back.of_letters), back.form_is) refl;
+        readies_are = rw (back.value_is, back.range_is) (one_ready answer);
+        count_is = ap (λ n. n + 0) back.count_is;
+        few = omega (arith, following_few s back.form, back.count_is);
+        short = omega (arith, back.short);
+        is_plain = is_plain text back.of_letters;
+        some = inr some;
+      }
 
-  one_ready : (answer : Result Ready FormError) → (answer >>= λ ready. Ok [] >>= λ readies. Ok (ready ∷ readies)) ≡ alone answer
-  one_ready (Ok ready) = refl
-  one_ready (Err cause) = refl
-
-  one_field : (s : Slot) (text : List ℕ) (answer : Result Ready FormError) (count : ℕ) → SlotBack here s text answer count
-      → FieldBack here (s ∷ []) (Some text) (alone answer) (count + 0)
-  one_field s text answer count back = record {
-    forms = back.form ∷ [];
-    forms_are = rw (one_text text back.some back.is_whole, back.form_is) refl;
-    readies_are = rw (back.value_is, back.range_is) (one_ready answer);
-    count_is = ap (λ n. n + 0) back.count_is;
-    few = (let f = back.few in omega (arith, f));
-    short = (let s = back.short in omega (arith, s));
-    is_plain = back.is_plain;
-    some = inr back.some;
-  }
-
-  two_field : (a b : Slot) (first next : List ℕ) (x y : Ready) (m n : ℕ) → SlotBack here a first (Ok x) m → SlotBack here b next (Ok y) n
-      → FieldBack here (a ∷ b ∷ []) (Some (two_texts first next)) (Ok (x ∷ y ∷ [])) (m + (n + 0))
-  two_field a b first next x y m n back back_too = record {
-    forms = back.form ∷ back_too.form ∷ [];
-    forms_are = rw (two_operands first next back.is_whole back_too.is_whole, back.form_is, back_too.form_is) refl;
-    readies_are = rw (back.value_is, back_too.value_is, back.range_is, back_too.range_is) refl;
-    count_is = rw (back.count_is, back_too.count_is) refl;
-    few = (let f = back.few in let g = back_too.few in omega (arith, f, g));
-    short = (let s = back.short in let t = back_too.short in let l = length-append first (0x2C ∷ next) in omega (arith, s, t, l));
-    is_plain = all_both plain_byte first (0x2C ∷ next) back.is_plain back_too.is_plain;
-    some = inr (let l = length-append first (0x2C ∷ next) in omega (arith, l));
-  }
+  two_field : {a b : Slot} {first next : List ℕ} {x y : Ready} {m n : ℕ} → SlotBack here a first (Ok x) m → SlotBack here b next (Ok y) n →
+      FieldBack here (a ∷ b ∷ []) (Some (two_texts first next)) (Ok (x ∷ y ∷ [])) (m + (n + 0))
+  two_field {a = a} {b = b} {first = first} {next = next} back too =
+      let size = length-append first (0x2C ∷ next) in
+      record {
+        forms = back.form ∷ too.form ∷ [];
+        forms_are = rw (two_operands first next (is_whole first back.of_letters) (is_whole next too.of_letters), back.form_is, too.form_is) refl;
+        readies_are = rw (back.value_is, too.value_is, back.range_is, too.range_is) refl;
+        count_is = rw (back.count_is, too.count_is) refl;
+        few = omega (arith, following_few a back.form, back.count_is, following_few b too.form, too.count_is);
+        short = omega (arith, back.short, too.short, size);
+        is_plain = all_both plain_byte first (0x2C ∷ next) (is_plain first back.of_letters) (is_plain next too.of_letters);
+        some = inr (omega (arith, size));
+      }
 
 -- ---- an instruction
 
@@ -169,23 +186,19 @@ module _ (at : ℕ) (inside : at < 65536) (words : List ℕ) (are : AreWords wor
       (Ok (Located src (followed src (slice_index words 1)) ∷ Counted number ∷ [])) (following_words src + (0 + 0))
 
   reg_field : (op : RegOp) (number : ℕ) (src : Place) → HasRoom (Reg op number src) → RegField op number src
-  reg_field COC number src room = two_field here slot.General slot.Register _ _ _ _ _ _ (place_back here _ (are 1) src room.1) (register_back here number room.0)
-  reg_field CZC number src room = two_field here slot.General slot.Register _ _ _ _ _ _ (place_back here _ (are 1) src room.1) (register_back here number room.0)
-  reg_field XOR number src room = two_field here slot.General slot.Register _ _ _ _ _ _ (place_back here _ (are 1) src room.1) (register_back here number room.0)
-  reg_field MPY number src room = two_field here slot.General slot.Register _ _ _ _ _ _ (place_back here _ (are 1) src room.1) (register_back here number room.0)
-  reg_field DIV number src room = two_field here slot.General slot.Register _ _ _ _ _ _ (place_back here _ (are 1) src room.1) (register_back here number room.0)
-  reg_field XOP number src room = two_field here slot.General slot.Count _ _ _ _ _ _ (place_back here _ (are 1) src room.1) (count_back here number room.0)
-  reg_field LDCR number src room = two_field here slot.General slot.Count _ _ _ _ _ _ (place_back here _ (are 1) src room.1) (count_back here number room.0)
-  reg_field STCR number src room = two_field here slot.General slot.Count _ _ _ _ _ _ (place_back here _ (are 1) src room.1) (count_back here number room.0)
+  reg_field XOP number src room = two_field (place_back here _ (are 1) src room.1) (count_back here number room.0)
+  reg_field LDCR number src room = two_field (place_back here _ (are 1) src room.1) (count_back here number room.0)
+  reg_field STCR number src room = two_field (place_back here _ (are 1) src room.1) (count_back here number room.0)
+  reg_field _ number src room = two_field (place_back here _ (are 1) src room.1) (register_back here number room.0)
 
   abbrev JumpField : JumpOp → ℤ → Type 0
   JumpField op disp =
       FieldBack here (jump_slots op) (Some (target_text op (plus at 2) disp)) (if jump_wraps op (at + 2) disp then Err JumpTooFar else Ok (Displaced disp ∷ [])) 0
 
   bit_field : (disp : ℤ) → FitsSigned w8 disp → FieldBack here (slot.Displacement ∷ []) (Some (signed_text disp)) (Ok (Displaced disp ∷ [])) 0
-  bit_field disp fits = one_field here slot.Displacement _ _ _ (bit_back here disp fits)
+  bit_field disp fits = one_field (bit_back here disp fits)
 
-  gone : (out : Bool) (disp : ℤ) → alone here (displaced (if out then None else Some disp)) ≡ (if out then Err JumpTooFar else Ok (Displaced disp ∷ []))
+  gone : (out : Bool) (disp : ℤ) → alone (displaced (if out then None else Some disp)) ≡ (if out then Err JumpTooFar else Ok (Displaced disp ∷ []))
   gone true disp = refl
   gone false disp = refl
 
@@ -193,25 +206,13 @@ module _ (at : ℕ) (inside : at < 65536) (words : List ℕ) (are : AreWords wor
       → FieldBack here (slot.Target ∷ []) (Some (marked_word (jump_target (plus at 2) disp))) (if leads_out (at + 2) disp then Err JumpTooFar else Ok (Displaced disp ∷ [])) 0
   to_field disp fits =
       subst (λ answer. FieldBack here (slot.Target ∷ []) (Some (marked_word (jump_target (plus at 2) disp))) answer 0) (gone (leads_out (at + 2) disp) disp)
-      (one_field here slot.Target _ _ _ (target_back at inside disp fits))
+      (one_field (target_back at inside disp fits))
 
   jump_field : (op : JumpOp) (disp : ℤ) → FitsSigned w8 disp → JumpField op disp
-  jump_field JMP disp fits = to_field disp fits
-  jump_field JLT disp fits = to_field disp fits
-  jump_field JLE disp fits = to_field disp fits
-  jump_field JEQ disp fits = to_field disp fits
-  jump_field JHE disp fits = to_field disp fits
-  jump_field JGT disp fits = to_field disp fits
-  jump_field JNE disp fits = to_field disp fits
-  jump_field JNC disp fits = to_field disp fits
-  jump_field JOC disp fits = to_field disp fits
-  jump_field JNO disp fits = to_field disp fits
-  jump_field JL disp fits = to_field disp fits
-  jump_field JH disp fits = to_field disp fits
-  jump_field JOP disp fits = to_field disp fits
   jump_field SBO disp fits = bit_field disp fits
   jump_field SBZ disp fits = bit_field disp fits
   jump_field TB disp fits = bit_field disp fits
+  jump_field _ disp fits = to_field disp fits
 
   imm_field : (op : ImmOp) (number : ℕ) → number < 16 → Comes (Imm op number)
   imm_field op number lt = by (has_immediate op)
@@ -220,8 +221,8 @@ module _ (at : ℕ) (inside : at < 65536) (words : List ℕ) (are : AreWords wor
           × FieldBack here (if b then slot.Register ∷ slot.Immediate ∷ [] else slot.Register ∷ [])
           (Some (if b then two_texts (register_text number) (marked_word (slice_index words 1)) else register_text number))
           (if b then Ok (Counted number ∷ Followed (Absolute (slice_index words 1)) ∷ []) else Ok (Counted number ∷ [])) n
-      by true = (1, refl, two_field here slot.Register slot.Immediate _ _ _ _ _ _ (register_back here number lt) (immediate_back here _ (are 1)))
-      by false = (0, refl, one_field here slot.Register _ _ _ (register_back here number lt))
+      by true = (1, refl, two_field (register_back here number lt) (immediate_back here _ (are 1)))
+      by false = (0, refl, one_field (register_back here number lt))
 
   bare_field : (op : BareOp) → Comes (Bare op)
   bare_field op = by (has_value op)
@@ -229,15 +230,15 @@ module _ (at : ℕ) (inside : at < 65536) (words : List ℕ) (are : AreWords wor
       by : (b : Bool) → (n : ℕ) × (1 + n ≡ 1 + one_if b)
           × FieldBack here (if b then slot.Immediate ∷ [] else []) (if b then Some (marked_word (slice_index words 1)) else None)
           (if b then Ok (Followed (Absolute (slice_index words 1)) ∷ []) else Ok []) n
-      by true = (1, refl, one_field here slot.Immediate _ _ _ (immediate_back here _ (are 1)))
-      by false = (0, refl, no_field here)
+      by true = (1, refl, one_field (immediate_back here _ (are 1)))
+      by false = (0, refl, no_field)
 
   pub field_back : (found : Instr) → HasRoom found → HasSignedByte found → Comes found
   field_back (Two op byte dst src) room signed =
-      (following_words src + (following_words dst + 0), omega arith, two_field here slot.General slot.General _ _ _ _ _ _ (place_back here _ (are 1) src room.1) (place_back here _ (are (1 + following_words src)) dst room.0))
+      (following_words src + (following_words dst + 0), omega arith, two_field (place_back here _ (are 1) src room.1) (place_back here _ (are (1 + following_words src)) dst room.0))
   field_back (Reg op number src) room signed = (following_words src + (0 + 0), omega arith, reg_field op number src room)
-  field_back (Shift op count number) room signed = (0, refl, two_field here slot.Register slot.Count _ _ _ _ _ _ (register_back here number room.1) (count_back here count room.0))
-  field_back (One op place) room signed = (following_words place + 0, omega arith, one_field here slot.General _ _ _ (place_back here _ (are 1) place room))
+  field_back (Shift op count number) room signed = (0, refl, two_field (register_back here number room.1) (count_back here count room.0))
+  field_back (One op place) room signed = (following_words place + 0, omega arith, one_field (place_back here _ (are 1) place room))
   field_back (Jump op disp) room signed = (0, refl, jump_field op disp signed)
   field_back (Imm op number) room signed = imm_field op number room
   field_back (Bare op) room signed = bare_field op

@@ -1,6 +1,5 @@
 pub mod Numbers
 pub mod Slots
-pub mod Counts
 pub mod Names
 pub mod Instructions
 pub mod Again

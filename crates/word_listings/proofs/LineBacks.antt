@@ -1,5 +1,5 @@
 -- The lines of a listing, each by itself: what the first checks find in it, and what the second make of it.
-use Rattle.std.proofs.Common.{◌≡◌, inl, inr, ℕ, ◌+◌, ◌*◌, ◌%◌, ◌<◌, ◌≤◌, Bool, true, false, List, [], ◌∷◌, ◌++◌}
+use Rattle.std.proofs.Common.{◌≡◌, ◌⊎◌, inl, inr, rules, ℕ, ◌+◌, ◌*◌, ◌%◌, ◌<◌, ◌≤◌, Bool, true, false, List, [], ◌∷◌, ◌++◌}
 use Rattle.std.proofs.Common.{length, length-append, take, refl, ap, ◌∙◌, Ok, Option, Some, None, arith}
 use Rattle.std.specs.Prelude.{Result, Err, IfSome, map, nat_le, codes, if◌then◌else◌}
 use Rattle.std.specs.List.{list_all}
@@ -34,9 +34,7 @@ use Rattle.asm_defs.specs.SecondChecks as out
 use Rattle.asm_defs.specs.Modules.{title_by}
 use Rattle.listed_lines.proofs.DigitLaws.{word_passes, byte_passes}
 use Rattle.listed_lines.proofs.OperandLines.{whole, one_text}
-use Rattle.listed_lines.proofs.LineTexts.{field_of}
-use Rattle.listed_lines.proofs.LineTexts.{plain_byte}
-use Rattle.listed_lines.proofs.LineTexts.{Cut, Fit, cut_listed, in_line, listed_in_line}
+use Rattle.listed_lines.proofs.LineTexts.{field_of, plain_byte, number_fit, Cut, Fit, cut_listed, in_line, listed_in_line}
 use Rattle.word_listings.specs.Modules.{wraps}
 use Rattle.word_listings.proofs.Numbers.{known, word_value, byte_value}
 use Rattle.word_listings.proofs.Names.{names}
@@ -48,8 +46,8 @@ absolute_at at = record { part = part.Absolute; number = at }
 
 -- a statement that moves on by a size and does nothing else to the lines behind it
 pub record IsOwn (at size : ℕ) (last : Bool) (statement : Statement) : Type 0 where
-  pub label : Value
-  pub moves : (known : Names) (reached : ℕ) → move known (absolute_at at) reached statement ≡ Ok (record { origin = None; gap = 0; size = size; label = label })
+  pub moves : (known : Names) (reached : ℕ) →
+      move known (absolute_at at) reached statement ≡ Ok (record { origin = None; gap = 0; size = size; label = value_of (behind (absolute_at at) 0) })
   pub refs : refs_in statement ≡ []
   pub defs : defs_in statement ≡ []
   pub last_is : is_end statement ≡ last
@@ -69,59 +67,39 @@ pub record LineBack (at : ℕ) (text : List ℕ) (size : ℕ) (last : Bool) (ans
   pub own : IsOwn at size last statement
   pub comes : outcome known (absolute_at at) statement ≡ answer
 
+-- a line by its operation and its operands
+line_back : {at size : ℕ} {last : Bool} {answer : Result Outcome AsmCause} (name : List ℕ) (operands : Option (List ℕ)) (statement : Statement)
+    → Fit name (field_of operands) → (operands ≡ None) ⊎ (0 < length (field_of operands)) → is_word name (codes "COPY") ≡ false
+    → operation_statement name (field_of operands) ≡ Ok statement → IsOwn at size last statement → outcome known (absolute_at at) statement ≡ answer
+    → LineBack at (with_operands name operands) size last answer
+line_back name operands statement fit some no_copy says own comes = record {
+  name = name;
+  field = field_of operands;
+  cut = cut_listed name operands fit some;
+  no_copy = no_copy;
+  clean = listed_in_line name operands fit;
+  statement = statement;
+  says = says;
+  own = own;
+  comes = comes;
+}
+
 -- the words of a line, unless it is a jump that wraps
 abbrev pub come_unless : Bool → List ℕ → Result Outcome AsmCause
 come_unless true words = Err (Form JumpTooFar)
 come_unless false words = Ok (out.Words (map Absolute words))
 
-module _ (at : ℕ) (even : at % 2 ≡ 0) where
-  instruction_own : (size : ℕ) (name field : List ℕ) → IsOwn at size false (Instruction size name field)
-  instruction_own size name field = record {
-    label = value_of (behind (absolute_at at) 0);
-    moves = λ known reached. rw even refl;
-    refs = refl;
-    defs = refl;
-    last_is = refl;
-    few = λ before. refl;
-    good = λ before. refl;
-    title_kept = λ title. refl;
-  }
+own_instruction : (at : ℕ) (even : at % 2 ≡ 0) (size : ℕ) (name field : List ℕ) → IsOwn at size false (Instruction size name field)
+own_instruction at even size name field = search (rules, even)
 
-  data_own : (text : List ℕ) → IsOwn at 2 false (Data (text ∷ []))
-  data_own text = record {
-    label = value_of (behind (absolute_at at) 0);
-    moves = λ known reached. rw even refl;
-    refs = refl;
-    defs = refl;
-    last_is = refl;
-    few = λ before. refl;
-    good = λ before. refl;
-    title_kept = λ title. refl;
-  }
+own_data : (at : ℕ) (even : at % 2 ≡ 0) (text : List ℕ) → IsOwn at 2 false (Data (text ∷ []))
+own_data at even text = search (rules, even)
 
-byte_own : (at : ℕ) (text : List ℕ) → IsOwn at 1 false (Byte (text ∷ []))
-byte_own at text = record {
-  label = _;
-  moves = λ known reached. refl;
-  refs = refl;
-  defs = refl;
-  last_is = refl;
-  few = λ before. refl;
-  good = λ before. refl;
-  title_kept = λ title. refl;
-}
+own_byte : (at : ℕ) (text : List ℕ) → IsOwn at 1 false (Byte (text ∷ []))
+own_byte at text = search rules
 
-end_own : (at : ℕ) (text : Option (List ℕ)) → IsOwn at 0 true (End text)
-end_own at text = record {
-  label = _;
-  moves = λ known reached. refl;
-  refs = refl;
-  defs = refl;
-  last_is = refl;
-  few = λ before. refl;
-  good = λ before. refl;
-  title_kept = λ title. refl;
-}
+own_end : (at : ℕ) (text : Option (List ℕ)) → IsOwn at 0 true (End text)
+own_end at text = search rules
 
 come_of : (far : Bool) (words : List ℕ) (values : Result (List Value) FormError) → values ≡ values_unless far words
     → (as_form values >>= λ words. Ok (out.Words words)) ≡ come_unless far words
@@ -142,54 +120,29 @@ module _ (at : ℕ) (inside : at < 65536) (even : at % 2 ≡ 0) (word : ℕ) (re
       let fit : Fit (name_of (operation_of found)) (field_of (operands_text found at (word ∷ rest))) = record
       { some = n.some; short = n.short; few = b.few; name_plain = n.plain; field_plain = b.is_plain } in
       let size : size_of b.skeleton ≡ 2 * words_of found = b.size_is ∙ ap (λ n. 2 * n) f.1 in
-      record {
-        name = name_of (operation_of found);
-        field = field_of (operands_text found at (word ∷ rest));
-        cut = cut_listed (name_of (operation_of found)) (operands_text found at (word ∷ rest)) fit f.2.some;
-        no_copy = n.no_copy;
-        clean = listed_in_line (name_of (operation_of found)) (operands_text found at (word ∷ rest)) fit;
-        statement = Instruction (2 * words_of found) (name_of (operation_of found)) (field_of (operands_text found at (word ∷ rest)));
-        says = rw (n.no_directive, b.first_is, size) refl;
-        own = instruction_own at even (2 * words_of found) _ _;
-        comes = come_of (wraps at (Some found)) (take (words_of found) (word ∷ rest)) _
-            (ap (λ answer. answer >>= λ skeleton. second_checks known (Absolute (at % 65536)) skeleton) b.first_is
-            ∙ (ap (λ place. second_checks known (Absolute place) b.skeleton) own_place ∙ (b.second_is ∙ again at word rest found is.encoded le)));
-      }
+      line_back (name_of (operation_of found)) (operands_text found at (word ∷ rest))
+      (Instruction (2 * words_of found) (name_of (operation_of found)) (field_of (operands_text found at (word ∷ rest)))) fit f.2.some n.no_copy
+      (rw (n.no_directive, b.first_is, size) refl) (own_instruction at even (2 * words_of found) _ _)
+      (come_of (wraps at (Some found)) (take (words_of found) (word ∷ rest)) _
+      (ap (λ answer. answer >>= λ skeleton. second_checks known (Absolute (at % 65536)) skeleton) b.first_is
+      ∙ (ap (λ place. second_checks known (Absolute place) b.skeleton) own_place ∙ (b.second_is ∙ again at word rest found is.encoded le))))
 
 data_line : (at : ℕ) → at % 2 ≡ 0 → (word : ℕ) → word < 65536 → LineBack at (codes "DATA " ++ marked_word word) 2 false (Ok (out.Words (Absolute word ∷ [])))
 unfolding outcome directive word_digits
 data_line at even word lt =
-    let fit : Fit (codes "DATA") (marked_word word) = record
-    { some = omega arith; short = omega arith; few = omega arith; name_plain = refl; field_plain = word_passes plain_byte word refl refl } in
-    record {
-      name = codes "DATA";
-      field = marked_word word;
-      cut = cut_listed (codes "DATA") (Some (marked_word word)) fit (inr (omega arith));
-      no_copy = refl;
-      clean = listed_in_line (codes "DATA") (Some (marked_word word)) fit;
-      statement = Data (marked_word word ∷ []);
-      says = rw (one_text (marked_word word) (omega arith) (word_passes whole word refl refl)) refl;
-      own = data_own at even (marked_word word);
-      comes = rw (word_value known (Absolute (at % 65536)) word lt) refl;
-    }
+    line_back (codes "DATA") (Some (marked_word word)) (Data (marked_word word ∷ []))
+    (number_fit _ _ (omega arith) (omega arith) refl (omega arith) (word_passes plain_byte word refl refl)) (inr (omega arith)) refl
+    (rw (one_text (marked_word word) (omega arith) (word_passes whole word refl refl)) refl) (own_data at even (marked_word word))
+    (rw (word_value known (Absolute (at % 65536)) word lt) refl)
 
 pub byte_line : (at : ℕ) (byte : ℕ) → byte < 256 → LineBack at (codes "BYTE " ++ marked_byte byte) 1 false (Ok (out.Bytes (byte ∷ [])))
 unfolding outcome directive byte_digits
 byte_line at byte lt =
-    let fit : Fit (codes "BYTE") (marked_byte byte) = record
-    { some = omega arith; short = omega arith; few = omega arith; name_plain = refl; field_plain = byte_passes plain_byte byte refl refl } in
     let small : nat_le byte 0xFF ≡ true = grind (arith, nat_tests, lt) in
-    record {
-      name = codes "BYTE";
-      field = marked_byte byte;
-      cut = cut_listed (codes "BYTE") (Some (marked_byte byte)) fit (inr (omega arith));
-      no_copy = refl;
-      clean = listed_in_line (codes "BYTE") (Some (marked_byte byte)) fit;
-      statement = Byte (marked_byte byte ∷ []);
-      says = rw (one_text (marked_byte byte) (omega arith) (byte_passes whole byte refl refl)) refl;
-      own = byte_own at (marked_byte byte);
-      comes = rw (byte_value known (Absolute (at % 65536)) byte lt, small) refl;
-    }
+    line_back (codes "BYTE") (Some (marked_byte byte)) (Byte (marked_byte byte ∷ []))
+    (number_fit _ _ (omega arith) (omega arith) refl (omega arith) (byte_passes plain_byte byte refl refl)) (inr (omega arith)) refl
+    (rw (one_text (marked_byte byte) (omega arith) (byte_passes whole byte refl refl)) refl) (own_byte at (marked_byte byte))
+    (rw (byte_value known (Absolute (at % 65536)) byte lt, small) refl)
 
 -- the last line, by the entry that it names, and what it comes to
 abbrev pub end_text : Option ℕ → List ℕ
@@ -200,47 +153,19 @@ abbrev pub end_outcome : Option ℕ → Outcome
 end_outcome None = out.Nothing
 end_outcome (Some entry) = out.Entry (spot.Absolute entry)
 
-bare_end : (at : ℕ) → LineBack at (codes "END") 0 true (Ok out.Nothing)
-unfolding outcome directive
-bare_end at =
-    let fit : Fit (codes "END") [] = record
-    { some = omega arith; short = omega arith; few = omega arith; name_plain = refl; field_plain = refl } in
-    record {
-      name = codes "END";
-      field = [];
-      cut = cut_listed (codes "END") None fit (inl refl);
-      no_copy = refl;
-      clean = listed_in_line (codes "END") None fit;
-      statement = End None;
-      says = refl;
-      own = end_own at None;
-      comes = refl;
-    }
-
-entered_end : (at entry : ℕ) → entry < 65536 → LineBack at (codes "END " ++ marked_word entry) 0 true (Ok (out.Entry (spot.Absolute entry)))
-unfolding outcome directive word_digits
-entered_end at entry lt =
-    let fit : Fit (codes "END") (marked_word entry) = record
-    { some = omega arith; short = omega arith; few = omega arith; name_plain = refl; field_plain = word_passes plain_byte entry refl refl } in
-    record {
-      name = codes "END";
-      field = marked_word entry;
-      cut = cut_listed (codes "END") (Some (marked_word entry)) fit (inr (omega arith));
-      no_copy = refl;
-      clean = listed_in_line (codes "END") (Some (marked_word entry)) fit;
-      statement = End (Some (marked_word entry));
-      says = rw (one_text (marked_word entry) (omega arith) (word_passes whole entry refl refl)) refl;
-      own = end_own at (Some (marked_word entry));
-      comes = rw (word_value known (Absolute (at % 65536)) entry lt) refl;
-    }
-
 -- an entry, where there is one, is an address
 abbrev pub IsEntry : Option ℕ → Type 0
 IsEntry entry = IfSome entry (λ number. number < 65536)
 
 pub end_line : (at : ℕ) (entry : Option ℕ) → IsEntry entry → LineBack at (end_text entry) 0 true (Ok (end_outcome entry))
-end_line at None is = bare_end at
-end_line at (Some entry) is = entered_end at entry is
+unfolding outcome directive word_digits
+end_line at None is =
+    line_back (codes "END") None (End None) (number_fit _ _ (omega arith) (omega arith) refl (omega arith) refl) (inl refl) refl refl (own_end at None) refl
+end_line at (Some entry) is =
+    line_back (codes "END") (Some (marked_word entry)) (End (Some (marked_word entry)))
+    (number_fit _ _ (omega arith) (omega arith) refl (omega arith) (word_passes plain_byte entry refl refl)) (inr (omega arith)) refl
+    (rw (one_text (marked_word entry) (omega arith) (word_passes whole entry refl refl)) refl) (own_end at (Some (marked_word entry)))
+    (rw (word_value known (Absolute (at % 65536)) entry is) refl)
 
 -- ---- the line of the words from a place on
 
@@ -273,26 +198,13 @@ module _ (at : ℕ) (inside : at < 65536) (even : at % 2 ≡ 0) (word : ℕ) (re
   as_data false e = (data_line at even word (are 0), record { some = omega arith; within = omega arith; short = omega arith })
 
   some_words : (found : Instr) → 0 < words_of found
-  some_words found = one_at_least found
-    where
-      one_at_least : (found : Instr) → 0 < words_of found
-      one_at_least (instr.Two op byte dst src) = omega arith
-      one_at_least (instr.Reg op number src) = omega arith
-      one_at_least (instr.Shift op count number) = omega arith
-      one_at_least (instr.One op place) = omega arith
-      one_at_least (instr.Jump op disp) = omega arith
-      one_at_least (instr.Imm op number) = omega arith
-      one_at_least (instr.Bare op) = omega arith
+  some_words (instr.Two op byte dst src) = omega arith
+  some_words _ = omega arith
 
   -- a jump is one word
   no_part : (found : Instr) → length (word ∷ rest) < words_of found → wraps at (Some found) ≡ false
-  no_part (instr.Two op byte dst src) lt = refl
-  no_part (instr.Reg op number src) lt = refl
-  no_part (instr.Shift op count number) lt = refl
-  no_part (instr.One op place) lt = refl
   no_part (instr.Jump op disp) lt = absurd (omega (arith, lt))
-  no_part (instr.Imm op number) lt = refl
-  no_part (instr.Bare op) lt = refl
+  no_part _ lt = refl
 
   abbrev Front : Option Instr → Printed → Type 0
   Front read front = LineBack at front.text (2 * front.count) false (come_unless (wraps at read) (take front.count (word ∷ rest))) × Counts (word ∷ rest) front.text front.count

@@ -27,9 +27,8 @@ use Rattle.line_laws.proofs.Whole.{none_by, room_still, hold_still}
 use Rattle.word_listings.specs.Listing.{memory_listing, words_in, lines_from, odd_byte_lines}
 use Rattle.listed_lines.proofs.DigitLaws.{word_passes}
 use Rattle.listed_lines.proofs.OperandLines.{whole, one_text}
-use Rattle.listed_lines.proofs.LineTexts.{plain_byte}
-use Rattle.listed_lines.proofs.LineTexts.{Cut, Fit, cut_listed, in_line, listed_in_line, joined, lines_joined}
-use Rattle.listed_lines.proofs.LineLists.{clean, clean_both, clean_lines, text_of}
+use Rattle.listed_lines.proofs.Scans.{all_both}
+use Rattle.listed_lines.proofs.LineTexts.{plain_byte, number_fit, Cut, Fit, cut_listed, in_line, listed_in_line, joined, lines_joined, clean, clean_lines, text_of}
 use Rattle.word_listings.specs.Modules.{padded_words, module_of_words, first_wrapping, unless_far}
 use Rattle.word_listings.specs.Law.{StandEven, listed_module, WordListingsComeBack, EnteredListingsComeBack}
 use Rattle.word_listings.proofs.Numbers.{known, word_value}
@@ -55,8 +54,7 @@ module _ (at : ℕ) (inside : at < 65536) where
 
   aorg_fit : Fit (codes "AORG") (marked_word at)
   unfolding word_digits
-  aorg_fit = record
-      { some = omega arith; short = omega arith; few = omega arith; name_plain = refl; field_plain = word_passes plain_byte at refl refl }
+  aorg_fit = number_fit _ _ (omega arith) (omega arith) refl (omega arith) (word_passes plain_byte at refl refl)
 
   pub aorg_cut : Cut (listed aorg_text) (codes "AORG") (marked_word at)
   unfolding word_digits
@@ -219,7 +217,7 @@ module _ (half : ℕ) (bytes : List ℕ) (entered : Option ℕ) (all : AllBytes 
       let rest = rest_of bytes all in
       rw (
         aorg_clean (2 * half) inside,
-        clean_both (texts_from (2 * half) 0 words) (tail_texts bytes entered) (clean_from words (2 * half) 0 (omega arith) (below_all rest) (are_words bytes all)) (clean_tail rest),
+        all_both _ (texts_from (2 * half) 0 words) (tail_texts bytes entered) (clean_from words (2 * half) 0 (omega arith) (below_all rest) (are_words bytes all)) (clean_tail rest),
       )
       refl
 
