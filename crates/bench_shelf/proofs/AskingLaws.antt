@@ -12,7 +12,7 @@ use Rattle.bench_shelf.specs.declared.copy_error.CopyError.TheVariants.{At, Faul
 use Rattle.bench_shelf.specs.declared.copy_error.CopyCause.TheVariants.{Missing}
 use Rattle.bench_shelf.specs.States.{ShelfState, asked_more}
 use Rattle.bench_shelf.specs.Causes.{ReadsOnce}
-use Rattle.bench_shelf.proofs.LeadingLaws.{map_append}
+use Rattle.std.proofs.lemmas.List.{map-append}
 use Rattle.bench_shelf.proofs.AmountLaws.{taken_then}
 use Rattle.bench_shelf.specs.Leading.{Leads, IsNextAfter, Asking, AllGiven, IsGiven, EndsBy}
 
@@ -91,7 +91,7 @@ reads_then limit xs ys s t u first next =
     let all = length-append xs ys in
     record {
       files = next.files ∙ first.files;
-      asked = rw (next.asked, first.asked, map_append (λ question. question.name) xs ys) (more_then s.asked (names_of xs) (names_of ys));
+      asked = rw (next.asked, first.asked, map-append (λ question. question.name) xs ys) (more_then s.asked (names_of xs) (names_of ys));
       opens = omega (arith, all, first.opens, next.opens);
       bytes = first.bytes + next.bytes;
       empty = first.empty + next.empty;
@@ -127,16 +127,17 @@ turns_as IsNext Other each front (x ∷ xs) turns =
 
 -- what is asked after some questions that were answered
 module _ (old now : Copying) (whole line : Contents → Copied) (asked : List Question) (number : now.copies ≡ old.copies + length asked)
-    (on : (contents : Contents) → Agrees most_bytes contents old.copies asked → (error : CopyError) → Leads now (line contents) (Some error) now
-    → Leads old (whole contents) (Some error) old) where
+    (on : (contents : Contents) → Agrees most_bytes contents old.copies asked → (error : CopyError) (last : Copying) → Leads now (line contents) (Some error) last
+    → Leads old (whole contents) (Some error) last) where
   next_on : (front : List Question) (x : Question) → IsNextAfter now line front x → IsNextAfter old whole (asked ++ front) x
   next_on front x (place, next) = (
     place,
     λ contents agrees none.
         let same : old.copies + length (asked ++ front) ≡ now.copies + length front = omega (arith, number, length-append asked front) in
-        on contents (agrees_front most_bytes contents old.copies asked front agrees) (At place.file place.line (Missing x.name))
-        (next contents (subst (λ n. Agrees most_bytes contents n front) (sym number) (agrees_back most_bytes contents old.copies asked front agrees))
-        (subst (λ n. contents n x.name ≡ None) same none)),
+        let more =
+        next contents (subst (λ n. Agrees most_bytes contents n front) (sym number) (agrees_back most_bytes contents old.copies asked front agrees))
+        (subst (λ n. contents n x.name ≡ None) same none) in
+        (more.0, on contents (agrees_front most_bytes contents old.copies asked front agrees) (At place.file place.line (Missing x.name)) more.0 more.1),
   )
 
   turns_on : (front xs : List Question) → InTurn (IsNextAfter now line) front xs → InTurn (IsNextAfter old whole) (asked ++ front) xs

@@ -1,5 +1,5 @@
 -- A COPY line.
-use Rattle.std.proofs.Common.{◌≡◌, ℕ, zero, suc, ◌+◌, ◌-◌, ◌<◌, ◌≤◌, true, false, List, [], ◌∷◌, ◌++◌, Some, None, Err, length, refl, sym, ap, ◌∙◌, subst, arith, append-nil}
+use Rattle.std.proofs.Common.{◌≡◌, ℕ, zero, suc, ◌+◌, ◌-◌, ◌<◌, ◌≤◌, true, false, List, [], ◌∷◌, ◌++◌, Some, None, Err, length, refl, sym, ap, ◌∙◌, subst, arith, append-nil, inl}
 use Rattle.std.specs.Prelude.{Option, nat_lt, nat_le}
 use Rattle.std.proofs.lemmas.Bool.Decides.{nat_tests}
 use Rattle.source_defs.specs.Refusals.{◌>>=◌}
@@ -10,55 +10,47 @@ use Rattle.shelf_defs.specs.Files.{Contents}
 use Rattle.shelf_defs.specs.Copied as spec
 use Rattle.shelf_defs.specs.Copied.{PlacedLine, CopyRefusal, Refused, Copied, lines_in, copied_file, copy_line, refused, most_bytes, most_copies, prepend}
 use Rattle.shelf_defs.specs.Assembly.{texts, in_place, unless_refused, laid_copied}
+use Rattle.bench_shelf.specs.declared.error.FileError.{FileError}
+use Rattle.bench_shelf.specs.declared.error.FileError.TheVariants as unread
 use Rattle.bench_shelf.specs.declared.place.Place.{Place}
 use Rattle.bench_shelf.specs.declared.copying.Copying.{Copying}
 use Rattle.bench_shelf.specs.declared.copy_error.CopyError.{CopyError}
-use Rattle.bench_shelf.specs.declared.copy_error.CopyError.TheVariants as error
 use Rattle.bench_shelf.specs.declared.copy_error.CopyCause.{CopyCause}
 use Rattle.bench_shelf.specs.declared.copy_error.CopyCause.TheVariants as cause
-use Rattle.bench_shelf.specs.CopyAnswers.{CopyRefuses, IsNoMemory, defined_cause, defined_place, refused_at}
+use Rattle.bench_shelf.specs.CopyAnswers.{CopyRefuses, IsNoMemory, defined_cause, defined_place, refused_at, unread_at}
 use Rattle.shelf_defs.specs.Questions.{Answer, Bytes, Unanswered, Question, Agrees, Fits}
-use Rattle.bench_shelf.specs.Leading.{Holds, Leads, LeadsTo, Stops, Stopped, Copies, Asking, EndsBy}
-use Rattle.bench_shelf.specs.Causes.{AsksOne, answer_by_copy, IsOfFile}
+use Rattle.bench_shelf.specs.Leading.{Holds, Leads, LeadsTo, Copies, Asking, EndsBy}
+use Rattle.bench_shelf.specs.Causes.{AsksOne, answer_by, IsOfName}
 use Rattle.bench_shelf.specs.States.{ShelfState}
-use Rattle.bench_shelf.proofs.StoppingLaws.{where_told, stops_refusal}
+use Rattle.bench_shelf.proofs.StoppingLaws.{told_by}
 use Rattle.bench_shelf.proofs.AskingLaws.{agrees_front, none_follow, shown_one, asking_then, ends_then, asking_none}
 
 -- what is refused behind lines that were taken
-pub leads_refusal : (old last : Copying) (copies : ℕ) (refusal : CopyRefusal) (error : CopyError)
-    → CopyRefuses {B = List Line} error (Err refusal) → Leads old (refused copies refusal) (Some error) last
-leads_refusal old last copies refusal error refuses done holds =
+pub leads_refusal : (old last : Copying) (copies : ℕ) (refusal : CopyRefusal) (error : CopyError) → CopyRefuses {B = List Line} error (Err refusal)
+    → ((done : List PlacedLine) → Holds done old → Holds done last) → Leads old (refused copies refusal) (Some error) last
+leads_refusal old last copies refusal error refuses same done holds =
     let none : done ++ [] ≡ done = append-nil done in
     let whole : laid_copied (prepend done (refused copies refusal)) ≡ Err refusal =
     ap (λ all. in_place all (laid check (numbered 1 (texts all))) >>= λ lines. unless_refused (Refused refusal) lines) none
-    ∙ ap (λ answer. in_place done answer >>= λ lines. unless_refused (Refused refusal) lines) holds.taken.laid in
-    subst (CopyRefuses error) (sym whole) refuses
+    ∙ ap (λ answer. in_place done answer >>= λ lines. unless_refused (Refused refusal) lines) holds.taken.laid in (
+      subst (CopyRefuses error) (sym whole) refuses,
+      told_by _ error (record { taken = done; holds = same done holds; halts = inl (none, tt) }),
+    )
 
--- a COPY line for which no file is asked
-asks_none : (old : Copying) (found : Contents → Copied) (error : CopyError) (s : ShelfState) → EndsBy (Some error) []
-    → ((contents : Contents) → Leads old (found contents) (Some error) old) → ((contents : Contents) → Stops old (found contents) (Some error) old)
-    → Copies old old found (Some error) s s
-asks_none old found error s ends leads stops = record {
-  questions = [];
-  asking = asking_none old old found s refl;
-  ends = ends;
-  leads = λ contents agrees. leads contents;
-  stops = λ contents agrees. stops contents;
-}
-
--- which is told at the place of the line
+-- a COPY line for which no file is asked, and which is told at the place of the line
 pub refuses_none : (old : Copying) (found : Contents → Copied) (place : Place) (refusal : spec.Cause) (kept : CopyCause) (error : CopyError) (s : ShelfState)
     → defined_cause kept ≡ refusal → IsNoMemory kept → error ≡ refused_at place kept
     → ((contents : Contents) → found contents ≡ refused old.copies (spec.At (defined_place place) refusal)) → Copies old old found (Some error) s s
 refuses_none old found place refusal kept error s same memory is refuses =
-    subst (λ error. Copies old old found (Some error) s s) (sym is)
-    (asks_none old found (refused_at place kept) s tt (λ contents.
-    subst (λ found. Leads old found (Some (refused_at place kept)) old) (sym (refuses contents))
-    (leads_refusal old old old.copies (spec.At (defined_place place) refusal) (refused_at place kept)
-    (memory, ap (λ refusal. Err (spec.At (defined_place place) refusal)) (sym same))))
-    (λ contents.
-    subst (λ found. Stops old found (Some (refused_at place kept)) old) (sym (refuses contents))
-    (stops_refusal old old old.copies (spec.At (defined_place place) refusal) (refused_at place kept) (λ done holds. holds))))
+    subst (λ error. Copies old old found (Some error) s s) (sym is) (record {
+      questions = [];
+      asking = asking_none old old found s refl;
+      ends = tt;
+      leads = λ contents agrees.
+          subst (λ found. Leads old found (Some (refused_at place kept)) old) (sym (refuses contents))
+          (leads_refusal old old old.copies (spec.At (defined_place place) refusal) (refused_at place kept)
+          (memory, ap (λ refusal. Err (spec.At (defined_place place) refusal)) (sym same)) (λ done holds. holds));
+    })
 
 module _ (contents : Contents) (place : spec.Place) (copies : ℕ) (name : List ℕ) where
   -- a COPY line that may be followed
@@ -80,37 +72,23 @@ module _ (old last : Copying) (contents : Contents) (levels : ℕ) (place : Plac
   abbrev found_by : Option (List ℕ) → Copied
   found_by found = copied_file (copy_line contents levels) (defined_place place) old.copies name found
 
-  -- its file was not read
-  pub leads_not_read : (error : CopyError) (answer : Option (List ℕ)) → IsOfFile place name error → Fits most_bytes (answer_by_copy error) answer
-      → Leads old (found_by answer) (Some error) last
-  leads_not_read (error.At file line refusal) answer is fits =
-      let found : found_by answer ≡ refused (old.copies + 1) (spec.At (defined_place place) (spec.Missing name)) = ap found_by fits in
-      subst (λ found. Leads old found (Some (error.At file line refusal)) last) (sym found)
-      (subst (λ error. Leads old (refused (old.copies + 1) (spec.At (defined_place place) (spec.Missing name))) (Some error) last) (sym is)
-      (leads_refusal old last (old.copies + 1) (spec.At (defined_place place) (spec.Missing name)) (refused_at place (cause.Missing name)) (tt, refl)))
-  leads_not_read error.TooLarge answer is fits =
-      let size : most_bytes < length fits.0 = fits.2 in
-      let more : nat_lt most_bytes (length fits.0) ≡ true = grind (arith, nat_tests, size) in
-      let found : found_by answer ≡ refused (old.copies + 1) spec.TooLarge = rw (fits.1, more) refl in
-      subst (λ found. Leads old found (Some error.TooLarge) last) (sym found)
-      (leads_refusal old last (old.copies + 1) spec.TooLarge error.TooLarge refl)
-  leads_not_read error.Fault answer is fits = λ done holds. tt
-  leads_not_read error.Memory answer is fits = λ done holds. tt
+  -- which ends the copying
+  leads_out : (error : CopyError) (answer : Option (List ℕ)) (refusal : CopyRefusal) → ((done : List PlacedLine) → Holds done old → Holds done last)
+      → found_by answer ≡ refused (old.copies + 1) refusal → CopyRefuses {B = List Line} error (Err refusal) → Leads old (found_by answer) (Some error) last
+  leads_out error answer refusal same found refuses =
+      subst (λ found. Leads old found (Some error) last) (sym found) (leads_refusal old last (old.copies + 1) refusal error refuses same)
 
-  pub stops_not_read : (error : CopyError) (answer : Option (List ℕ)) → ((done : List PlacedLine) → Holds done old → Holds done last)
-      → IsOfFile place name error → Fits most_bytes (answer_by_copy error) answer → Stops old (found_by answer) (Some error) last
-  stops_not_read (error.At file line refusal) answer same is fits =
-      let found : found_by answer ≡ refused (old.copies + 1) (spec.At (defined_place place) (spec.Missing name)) = ap found_by fits in
-      subst (λ found. Stops old found (Some (error.At file line refusal)) last) (sym found)
-      (stops_refusal old last (old.copies + 1) (spec.At (defined_place place) (spec.Missing name)) (error.At file line refusal) same)
-  stops_not_read error.TooLarge answer same is fits =
+  -- its file was not read
+  pub leads_not_read : (error : FileError) (answer : Option (List ℕ)) → ((done : List PlacedLine) → Holds done old → Holds done last)
+      → IsOfName name error → Fits most_bytes (answer_by error) answer → Leads old (found_by answer) (Some (unread_at place error)) last
+  leads_not_read (unread.Missing other) answer same is fits =
+      leads_out (unread_at place (unread.Missing other)) answer (spec.At (defined_place place) (spec.Missing name)) same (ap found_by fits)
+      (tt, ap (λ name. Err (spec.At (defined_place place) (spec.Missing name))) (sym is))
+  leads_not_read unread.TooLarge answer same is fits =
       let size : most_bytes < length fits.0 = fits.2 in
       let more : nat_lt most_bytes (length fits.0) ≡ true = grind (arith, nat_tests, size) in
-      let found : found_by answer ≡ refused (old.copies + 1) spec.TooLarge = rw (fits.1, more) refl in
-      subst (λ found. Stops old found (Some error.TooLarge) last) (sym found)
-      (stops_refusal old last (old.copies + 1) spec.TooLarge error.TooLarge same)
-  stops_not_read error.Fault answer same is fits = tt
-  stops_not_read error.Memory answer same is fits = tt
+      leads_out (unread_at place unread.TooLarge) answer spec.TooLarge same (rw (fits.1, more) refl) refl
+  leads_not_read _ answer same is fits = λ done holds. (tt, tt)
 
   -- or it was, and its lines are taken
   pub leads_read : (mid : Copying) (bytes : List ℕ) (answer : Option (List ℕ)) (trouble : Option CopyError) → answer ≡ Some bytes → length bytes ≤ most_bytes
@@ -123,18 +101,6 @@ module _ (old last : Copying) (contents : Contents) (levels : ℕ) (place : Plac
       let more = subst (λ copies. LeadsTo trouble done (lines_in (copy_line contents levels) (Some name) copies (line_texts bytes)) last) copies
       (leads done (same done holds)) in
       subst (λ found. LeadsTo trouble done found last) (sym found) more
-
-  pub stops_read : (mid : Copying) (bytes : List ℕ) (answer : Option (List ℕ)) (trouble : Option CopyError) → answer ≡ Some bytes → length bytes ≤ most_bytes
-      → ((done : List PlacedLine) → Holds done old → Holds done mid) → mid.copies ≡ old.copies + 1
-      → Stops mid (lines_in (copy_line contents levels) (Some name) mid.copies (line_texts bytes)) trouble last
-      → Stops old (found_by answer) trouble last
-  stops_read mid bytes answer None reads size same copies stops = tt
-  stops_read mid bytes answer (Some error) reads size same copies stops =
-      let few : nat_lt most_bytes (length bytes) ≡ false = grind (arith, nat_tests, size) in
-      let found : found_by answer ≡ lines_in (copy_line contents levels) (Some name) (old.copies + 1) (line_texts bytes) = rw (reads, few) refl in
-      where_told _ _ error (λ told done holds.
-      subst (λ found. Stopped done found last) (sym found)
-      (subst (λ copies. Stopped done (lines_in (copy_line contents levels) (Some name) copies (line_texts bytes)) last) copies (told done (same done holds)))) stops
 
 -- A COPY line, by what is heard of its file.
 module _ (old : Copying) (levels : ℕ) (place : Place) (name : List ℕ) (some : 0 < levels) (s : ShelfState) where
@@ -154,13 +120,10 @@ module _ (old : Copying) (levels : ℕ) (place : Place) (name : List ℕ) (some 
         → Leads old (found_by old last contents (levels - 1) place name (contents old.copies name)) error last → Leads old (line_by contents) error last
     by_more contents error last leads = subst (λ found. Leads old found error last) (sym (copy_more contents (defined_place place) old.copies name levels some few)) leads
 
-    not_read : (contents : Contents) (error : CopyError) (last : Copying) → IsOfFile place name error → Fits most_bytes (answer_by_copy error) (contents old.copies name)
-        → Leads old (line_by contents) (Some error) last
-    not_read contents error last is fits = by_more contents (Some error) last (leads_not_read old last contents (levels - 1) place name error (contents old.copies name) is fits)
-
-    stops_more : (contents : Contents) (error : Option CopyError) (last : Copying)
-        → Stops old (found_by old last contents (levels - 1) place name (contents old.copies name)) error last → Stops old (line_by contents) error last
-    stops_more contents error last stops = subst (λ found. Stops old found error last) (sym (copy_more contents (defined_place place) old.copies name levels some few)) stops
+    not_read : (contents : Contents) (error : FileError) (last : Copying) → ((done : List PlacedLine) → Holds done old → Holds done last)
+        → IsOfName name error → Fits most_bytes (answer_by error) (contents old.copies name) → Leads old (line_by contents) (Some (unread_at place error)) last
+    not_read contents error last same is fits =
+        by_more contents (Some (unread_at place error)) last (leads_not_read old last contents (levels - 1) place name error (contents old.copies name) same is fits)
 
     asking_first : (mid : Copying) (t : ShelfState) (answer : Answer) → mid.copies ≡ old.copies + 1 → AsksOne most_bytes name answer s t
         → Asking old mid line_by (question answer ∷ []) s t
@@ -171,7 +134,7 @@ module _ (old : Copying) (levels : ℕ) (place : Place) (name : List ℕ) (some 
           defined_place place,
           λ contents agrees none.
               let at : old.copies + length {A = Question} [] ≡ old.copies = omega arith in
-              not_read contents (refused_at place (cause.Missing name)) old refl (subst (λ n. contents n name ≡ None) at none),
+              (old, not_read contents (unread.Missing name) old (λ done holds. holds) refl (subst (λ n. contents n name ≡ None) at none)),
         ),
         none_follow answer,
         tt,
@@ -180,22 +143,21 @@ module _ (old : Copying) (levels : ℕ) (place : Place) (name : List ℕ) (some 
       reads = asks.reads;
     }
 
-    unheard : (error : CopyError) → EndsBy (Some error) (question (answer_by_copy error) ∷ [])
-    unheard error.Fault = record { front = []; last = question Unanswered; are = refl; is = refl }
+    unheard : (error : FileError) → EndsBy (Some (unread_at place error)) (question (answer_by error) ∷ [])
+    unheard unread.Fault = record { front = []; last = question Unanswered; are = refl; is = refl }
     unheard _ = tt
 
     -- its file was not read
-    pub copies_unread : (last : Copying) (t : ShelfState) (error : CopyError) → last.copies ≡ old.copies + 1
-        → AsksOne most_bytes name (answer_by_copy error) s t → IsOfFile place name error → ((done : List PlacedLine) → Holds done old → Holds done last)
-        → Copies old last line_by (Some error) s t
-    copies_unread last t error copies asks is same = record {
-      questions = question (answer_by_copy error) ∷ [];
-      asking = asking_first last t (answer_by_copy error) copies asks;
-      ends = unheard error;
-      leads = λ contents agrees. not_read contents error last is agrees.0;
-      stops = λ contents agrees.
-          stops_more contents (Some error) last (stops_not_read old last contents (levels - 1) place name error (contents old.copies name) same is agrees.0);
-    }
+    pub copies_unread : (last : Copying) (t : ShelfState) (error : FileError) (said : CopyError) → said ≡ unread_at place error → last.copies ≡ old.copies + 1
+        → AsksOne most_bytes name (answer_by error) s t → IsOfName name error → ((done : List PlacedLine) → Holds done old → Holds done last)
+        → Copies old last line_by (Some said) s t
+    copies_unread last t error said is copies asks of same =
+        subst (λ error. Copies old last line_by (Some error) s t) (sym is) (record {
+          questions = question (answer_by error) ∷ [];
+          asking = asking_first last t (answer_by error) copies asks;
+          ends = unheard error;
+          leads = λ contents agrees. not_read contents error last same of agrees.0;
+        })
 
     ends_by : (bytes : List ℕ) (trouble : Option CopyError) (questions : List Question) → EndsBy trouble questions → EndsBy trouble (question (Bytes bytes) ∷ [] ++ questions)
     ends_by bytes None questions given = (tt, given)
@@ -216,14 +178,11 @@ module _ (old : Copying) (levels : ℕ) (place : Place) (name : List ℕ) (some 
       joined trouble found = record {
         questions = question (Bytes bytes) ∷ [] ++ found.questions;
         asking = asking_then old mid line_by (inner bytes) (question (Bytes bytes) ∷ []) (omega (arith, copies))
-            (λ contents agrees error leads. on contents agrees (Some error) old leads) last s t u found.questions (tt, tt)
+            (λ contents agrees error. on contents agrees (Some error)) last s t u found.questions (tt, tt)
             (asking_first mid t (Bytes bytes) copies asks) found.asking;
         ends = ends_by bytes trouble found.questions found.ends;
         leads = λ contents agrees. on contents (agrees_front most_bytes contents old.copies (question (Bytes bytes) ∷ []) found.questions agrees) trouble last
             (found.leads contents (subst (λ n. Agrees most_bytes contents n found.questions) (sym copies) agrees.1));
-        stops = λ contents agrees.
-            stops_more contents trouble last (stops_read old last contents (levels - 1) place name mid bytes (contents old.copies name) trouble agrees.0 size holds
-            copies (found.stops contents (subst (λ n. Agrees most_bytes contents n found.questions) (sym copies) agrees.1)));
       }
 
       pub copies_read : (text : List ℕ) (trouble : Option CopyError) → text ≡ bytes → Copies mid last (inner text) trouble t u

@@ -1,9 +1,9 @@
 -- What lines lead to that are copied one after the other.
-use Rattle.std.proofs.Common.{◌≡◌, ℕ, ◌-◌, ◌<◌, List, [], ◌∷◌, ◌++◌, Some, None, Ok, Err, length, refl, sym, ap, ◌∙◌, arith, subst, append_assoc}
+use Rattle.std.proofs.Common.{◌≡◌, ℕ, ◌-◌, ◌<◌, List, [], ◌++◌, Some, None, Ok, Err, length, refl, sym, ap, ◌∙◌, arith, subst, append_assoc}
 use Rattle.std.proofs.Common.{append-nil}
-use Rattle.std.specs.Prelude.{Option, Result, map}
+use Rattle.std.specs.Prelude.{Option, Result}
 use Rattle.std.proofs.lemmas.Option.{unwrap_or-slice_get}
-use Rattle.std.proofs.lemmas.List.{get_or_append_left, length-map}
+use Rattle.std.proofs.lemmas.List.{get_or_append_left, length-map, map-append}
 use Rattle.source_defs.specs.Refusals.{Refusal, ◌>>=◌}
 use Rattle.source_defs.specs.Layout.{laid, numbered}
 use Rattle.asm_defs.specs.declared.causes.AsmCause.{AsmCause}
@@ -18,10 +18,7 @@ use Rattle.bench_shelf.specs.declared.copy_error.CopyError.TheVariants as error
 use Rattle.bench_shelf.specs.CopyAnswers.{CopyRefuses}
 use Rattle.bench_shelf.specs.Leading.{Holds, EndsAs, GoesOn, LeadsTo, Leads}
 use Rattle.bench_shelf.proofs.LaidLonger.{laid_longer}
-
-pub map_append : {A B : Type 0} (f : A → B) (xs ys : List A) → map f (xs ++ ys) ≡ map f xs ++ map f ys
-map_append f [] ys = refl
-map_append f (x ∷ xs) ys = ap (λ zs. f x ∷ zs) (map_append f xs ys)
+use Rattle.bench_shelf.proofs.StoppingLaws.{where_told, halted, stopped_behind}
 
 place_kept : (first more : List PlacedLine) (number : ℕ) → number - 1 < length first
     → place_of (places (first ++ more)) number ≡ place_of (places first) number
@@ -29,7 +26,7 @@ place_kept first more number lt =
     let none : Place = record { file = None; line = number } in
     let size : number - 1 < length (places first) = omega (arith, length-map first (λ line. line.place), lt) in
     rw (unwrap_or-slice_get (places (first ++ more)) (number - 1) none, unwrap_or-slice_get (places first) (number - 1) none)
-    (rw (map_append (λ line. line.place) first more) (get_or_append_left (places first) (places more) none (number - 1) size))
+    (rw (map-append (λ line. line.place) first more) (get_or_append_left (places first) (places more) none (number - 1) size))
 
 -- the first checks refuse a line, whatever lines come behind it
 laid_stays : (first more : List PlacedLine) (ending : Ending) (refusal : CopyRefusal)
@@ -45,7 +42,7 @@ laid_stays first more ending refusal e = by_answer (laid check (numbered 1 (text
         let stays = laid_longer (texts more) (texts first) [] 1 found is in
         let size : length (texts first) ≡ length first = length-map first (λ line. line.text) in
         let longer : laid check (numbered 1 (texts (first ++ more))) ≡ Err found =
-        ap (λ all. laid check (numbered 1 all)) (map_append (λ line. line.text) first more) ∙ stays.same in
+        ap (λ all. laid check (numbered 1 all)) (map-append (λ line. line.text) first more) ∙ stays.same in
         let place = place_kept first more found.line (omega (arith, stays.from, stays.below, size)) in
         ap (λ answer. in_place (first ++ more) answer >>= λ lines. unless_refused ending lines) longer
         ∙ (ap (λ place. Err (At place (Asm found.cause))) place ∙ f)
@@ -59,8 +56,7 @@ stops_by done lines copies Open next refusal e =
     ap (λ all. in_place all (laid check (numbered 1 (texts all))) >>= λ lines. unless_refused rest.ending lines)
     (sym (append_assoc done lines rest.lines))
     ∙ laid_stays (done ++ lines) rest.lines rest.ending refusal e
-stops_by done lines copies Ended next refusal e = e
-stops_by done lines copies (Refused found) next refusal e = e
+stops_by done lines copies _ next refusal e = e
 
 pub refuses_by : {A B : Type 0} (error : CopyError) (a : Result A CopyRefusal) (b : Result B CopyRefusal)
     → ((refusal : CopyRefusal) → a ≡ Err refusal → b ≡ Err refusal) → CopyRefuses error a → CopyRefuses error b
@@ -74,24 +70,27 @@ leads_none old going done holds =
     record { holds = subst (λ lines. Holds lines old) (sym (append-nil done)) holds; copies = refl; ending = going }
 
 -- lines one of which is refused, and others
-pub leads_refused : (old new last : Copying) (found : Copied) (next : ℕ → Copied) (error : CopyError) → Leads old found (Some error) new
-    → Leads old (followed found next) (Some error) last
-leads_refused old new last found next error leads done holds =
-    refuses_by error (laid_copied (prepend done found)) (laid_copied (prepend done (followed found next)))
-    (λ refusal e. stops_by done found.lines found.copies found.ending next refusal e) (leads done holds)
+pub leads_refused : (old new : Copying) (found : Copied) (next : ℕ → Copied) (error : CopyError) → Leads old found (Some error) new
+    → Leads old (followed found next) (Some error) new
+leads_refused old new found next error leads done holds =
+    let refused = leads done holds in (
+      refuses_by error (laid_copied (prepend done found)) (laid_copied (prepend done (followed found next)))
+          (λ refusal e. stops_by done found.lines found.copies found.ending next refusal e) refused.0,
+      where_told _ _ error (halted done found.lines found.copies found.ending next new) refused.1,
+    )
 
-ended_by : (ending : Ending) (found : Copied) (next : ℕ → Copied) (done : List PlacedLine) (new : Copying) → found.ending ≡ ending
+ended_by : (ending : Ending) (found : Copied) (next : ℕ → Copied) (done : List PlacedLine) (new : Copying)
     → EndsAs ending new.builder → (IsOpen new.builder → ⊥) → GoesOn done found new → GoesOn done (then_by ending found next) new
-ended_by Open found next done new is ends closed goes = absurd (closed ends)
-ended_by Ended found next done new is ends closed goes = goes
-ended_by (Refused refusal) found next done new is ends closed goes = absurd ends
+ended_by Open found next done new ends closed goes = absurd (closed ends)
+ended_by Ended found next done new ends closed goes = goes
+ended_by (Refused refusal) found next done new ends closed goes = absurd ends
 
 -- lines of which the last ends the source, and others, which are not read
 pub leads_ended : (old new : Copying) (found : Copied) (next : ℕ → Copied) → (IsOpen new.builder → ⊥) → Leads old found None new
     → Leads old (followed found next) None new
 leads_ended old new found next closed leads done holds =
     let goes = leads done holds in
-    ended_by found.ending found next done new refl goes.ending closed goes
+    ended_by found.ending found next done new goes.ending closed goes
 
 -- others behind lines that were taken
 module _ (done : List PlacedLine) (found rest : Copied) (new : Copying) where
@@ -101,16 +100,17 @@ module _ (done : List PlacedLine) (found rest : Copied) (new : Copying) where
     copies = goes.copies;
     ending = goes.ending;
   }
-  joined (Some error) refuses =
-      subst (λ all. CopyRefuses error (in_place all (laid check (numbered 1 (texts all))) >>= λ lines. unless_refused rest.ending lines))
-      (append_assoc done found.lines rest.lines) refuses
+  joined (Some error) refused = (
+    subst (λ all. CopyRefuses error (in_place all (laid check (numbered 1 (texts all))) >>= λ lines. unless_refused rest.ending lines))
+        (append_assoc done found.lines rest.lines) refused.0,
+    where_told _ _ error (stopped_behind done found.lines rest new) refused.1,
+  )
 
 open_by : (ending : Ending) (found : Copied) (next : ℕ → Copied) (done : List PlacedLine) (mid new : Copying) (error : Option CopyError)
-    → found.ending ≡ ending → EndsAs ending mid.builder → IsOpen mid.builder
-    → LeadsTo error (done ++ found.lines) (next found.copies) new → LeadsTo error done (then_by ending found next) new
-open_by Open found next done mid new error is ends going leads = joined done found (next found.copies) new error leads
-open_by Ended found next done mid new error is ends going leads = absurd (ends going)
-open_by (Refused refusal) found next done mid new error is ends going leads = absurd ends
+    → EndsAs ending mid.builder → IsOpen mid.builder → LeadsTo error (done ++ found.lines) (next found.copies) new → LeadsTo error done (then_by ending found next) new
+open_by Open found next done mid new error ends going leads = joined done found (next found.copies) new error leads
+open_by Ended found next done mid new error ends going leads = absurd (ends going)
+open_by (Refused refusal) found next done mid new error ends going leads = absurd ends
 
 -- lines that were taken, and others
 pub leads_then : (old mid new : Copying) (found : Copied) (next : ℕ → Copied) (error : Option CopyError) → IsOpen mid.builder
@@ -118,5 +118,5 @@ pub leads_then : (old mid new : Copying) (found : Copied) (next : ℕ → Copied
 leads_then old mid new found next error going first later done holds =
     let goes = first done holds in
     let rest = later (done ++ found.lines) goes.holds in
-    open_by found.ending found next done mid new error refl goes.ending going
+    open_by found.ending found next done mid new error goes.ending going
     (subst (λ copies. LeadsTo error (done ++ found.lines) (next copies) new) goes.copies rest)

@@ -1,7 +1,8 @@
 -- The lines of a source as a listing needs them.
-use Rattle.std.proofs.Common.{◌≡◌, ℕ, ◌-◌, ◌≤◌, List, [], ◌∷◌, ◌++◌, Some, None, Ok, Err, length, take, refl, sym, ap, ◌∙◌, subst, arith, append_assoc, Vec, Global, inl, inr}
-use Rattle.std.specs.Prelude.{Option, Result, IfErr}
-use Rattle.std.proofs.lemmas.List.{length-map}
+use Rattle.std.proofs.Common.{◌≡◌, ℕ, ◌-◌, ◌≤◌, List, [], ◌∷◌, ◌++◌, Some, None, Ok, Err, length, take, refl, sym, ap, ◌∙◌, subst, arith, append_assoc, inl, inr}
+use Rattle.std.specs.Prelude.{Result, IfErr}
+use Rattle.std.proofs.Math.Seq.{take-length, take-append_seam}
+use Rattle.std.proofs.lemmas.List.{length-map, map-append}
 use Rattle.source_defs.specs.Refusals.{Refusal, ◌>>=◌}
 use Rattle.source_defs.specs.Layout.{laid, numbered, settled}
 use Rattle.object_defs.specs.Modules as object
@@ -10,7 +11,7 @@ use Rattle.asm_defs.specs.Locations.{Line}
 use Rattle.asm_defs.specs.FirstChecks.{check, names}
 use Rattle.asm_defs.specs.Memory.{Settled}
 use Rattle.asm_defs.specs.Modules.{settle, module_by, module_behind, module_of_lines}
-use Rattle.shelf_defs.specs.Copied.{most_bytes, most_copies, PlacedLine, Ending, Open, Ended, Refused, Copied}
+use Rattle.shelf_defs.specs.Copied.{most_bytes, most_copies, PlacedLine, Ending, Refused, Copied}
 use Rattle.shelf_defs.specs.Assembly.{texts, places, place_of, in_place, unless_refused, laid_copied}
 use Rattle.asm_list_defs.specs.Listed.{front, first_answer, let_through}
 use Rattle.asm_core.specs.Building.{HasTaken}
@@ -28,28 +29,19 @@ use Rattle.bench_shelf.specs.declared.listed.ListedEnding.{ListedEnding}
 use Rattle.bench_shelf.specs.declared.listed.ListedEnding.TheVariants.{Whole, Behind, Before}
 use Rattle.bench_shelf.specs.declared.listed.ListedSource.{ListedSource}
 use Rattle.bench_shelf.specs.declared.copy_error.CopyError.{CopyError}
-use Rattle.bench_shelf.specs.declared.copy_error.CopyError.TheVariants.{At, TooLarge, Fault, Memory}
+use Rattle.bench_shelf.specs.declared.copy_error.CopyError.TheVariants.{Fault, Memory}
 use Rattle.bench_shelf.specs.States.{ShelfState}
 use Rattle.bench_shelf.specs.declared.place.Place.{Place as KeptPlace}
 use Rattle.bench_shelf.specs.declared.copy_error.CopyCause.TheVariants.{Asm}
 use Rattle.bench_shelf.specs.CopyAnswers.{CopyRefuses, defined_place, refused_at}
 use Rattle.bench_shelf.specs.Causes.{ShelfCauses, TookNoMore}
 use Rattle.bench_shelf.specs.Kept.{AreKept, IsKept}
-use Rattle.bench_shelf.specs.Leading.{Holds, EndsAs, GoesOn, Halts, Stopped, WhereTold, EndsBy, Copies, IsHeld}
+use Rattle.bench_shelf.specs.Leading.{Holds, EndsAs, GoesOn, LeadsTo, Halts, Stopped, WhereTold, EndsBy, Copies, IsHeld}
 use Rattle.bench_shelf.specs.Listed.{IsTold, IsUntold, AllSettled, SettledAs, RefusedBehind, FinishesBy, Finishes, StopsAt, KeepsFront, EndsListed, GivesListed}
 use Rattle.bench_shelf.specs.Listed.{ListFaultEnds, ListAnswered, EndingCauses, ListCauses}
-use Rattle.bench_shelf.proofs.LeadingLaws.{map_append}
 use Rattle.bench_shelf.proofs.LaidLonger.{laid_longer}
 use Rattle.bench_shelf.proofs.TakingLaws.{refusal_is}
 use Rattle.bench_shelf.proofs.ModuleLaws.{whole_by, agrees_first, dialogue}
-
-take_all : {A : Type 0} (items : List A) → take (length items) items ≡ items
-take_all [] = refl
-take_all (item ∷ items) = ap (λ others. item ∷ others) (take_all items)
-
-take_front : {A : Type 0} (items others : List A) → take (length items) (items ++ others) ≡ items
-take_front [] others = refl
-take_front (item ∷ items) others = ap (λ found. item ∷ found) (take_front items others)
 
 -- the lines that were taken, up to a refusal, are those up to the first that the first checks refuse
 front_by : (all taken : List PlacedLine) (ending : Ending) (lines : List Line) → laid check (numbered 1 (texts taken)) ≡ Ok lines
@@ -58,18 +50,18 @@ front_by all taken ending lines is size (inl (are, refused)) =
     let answer : first_answer all ≡ Ok lines = ap first_answer are ∙ is in
     let count : length lines ≡ length taken = size ∙ length-map taken (λ line. line.text) in
     ap (λ answer. take (let_through answer) all) answer
-    ∙ (ap (λ n. take n all) count ∙ (ap (take (length taken)) are ∙ take_all taken))
+    ∙ (ap (λ n. take n all) count ∙ (ap (take (length taken)) are ∙ take-length taken))
 front_by all taken ending lines is size (inr next) =
     let longer = (laid_longer (texts next.rest) (texts (taken ++ next.line ∷ [])) [] 1 next.refusal next.is).same in
     let split : texts all ≡ texts (taken ++ next.line ∷ []) ++ texts next.rest =
     ap texts next.are
-    ∙ (map_append (λ line. line.text) taken (next.line ∷ next.rest)
+    ∙ (map-append (λ line. line.text) taken (next.line ∷ next.rest)
     ∙ (sym (append_assoc (texts taken) (next.line.text ∷ []) (texts next.rest))
-    ∙ ap (λ first. first ++ texts next.rest) (sym (map_append (λ line. line.text) taken (next.line ∷ []))))) in
+    ∙ ap (λ first. first ++ texts next.rest) (sym (map-append (λ line. line.text) taken (next.line ∷ []))))) in
     let answer : first_answer all ≡ Err next.refusal = ap (λ found. laid check (numbered 1 found)) split ∙ longer in
     let count : next.refusal.line - 1 ≡ length taken = omega (arith, next.number) in
     ap (λ answer. take (let_through answer) all) answer
-    ∙ (ap (λ n. take n all) count ∙ (ap (take (length taken)) next.are ∙ take_front taken (next.line ∷ next.rest)))
+    ∙ (ap (λ n. take n all) count ∙ (ap (take (length taken)) next.are ∙ take-append_seam taken (next.line ∷ next.rest)))
 
 -- so they are kept
 keeps_front : (all taken : List PlacedLine) (ending : Ending) (builder : AsmLines) (has : HasTaken (texts taken) builder) (kept : List KeptLine)
@@ -83,7 +75,7 @@ keeps_front all taken ending builder has kept halts are =
 front_all : (all : List PlacedLine) (builder : AsmLines) (has : HasTaken (texts all) builder) → front all ≡ all
 front_all all builder has =
     let count : length has.lines ≡ length all = has.all ∙ length-map all (λ line. line.text) in
-    ap (λ answer. take (let_through answer) all) has.laid ∙ (ap (λ n. take n all) count ∙ take_all all)
+    ap (λ answer. take (let_through answer) all) has.laid ∙ (ap (λ n. take n all) count ∙ take-length all)
 
 keeps_all : (all : List PlacedLine) (builder : AsmLines) (has : HasTaken (texts all) builder) (kept : List KeptLine)
     → AreKept all has.lines kept → KeepsFront all has.lines kept
@@ -93,15 +85,13 @@ keeps_all all builder has kept are =
     record { are = are.are ∙ sym is; laid = ap first_answer is ∙ has.laid; size = count ∙ sym (ap length is); heres = are.heres }
 
 told_out : (P : Type 0) (error : CopyError) → IsTold error → WhereTold error P → P
-told_out P (At file line cause) told holds = holds
-told_out P TooLarge told holds = holds
 told_out P Fault told holds = absurd (told tt)
 told_out P Memory told holds = absurd (told tt)
+told_out P _ told holds = holds
 
 laid_by : (ending : Ending) (builder : AsmLines) (lines : List Line) → EndsAs ending builder → unless_refused ending lines ≡ Ok lines
-laid_by Open builder lines ends = refl
-laid_by Ended builder lines ends = refl
 laid_by (Refused refusal) builder lines ends = absurd ends
+laid_by _ builder lines ends = refl
 
 laid_is : (found : Copied) (new : Copying) (goes : GoesOn [] found new) → laid_copied found ≡ Ok goes.holds.taken.lines
 laid_is found new goes =
@@ -142,11 +132,8 @@ module _ (source : List ℕ) (old new : Copying) (before after : ShelfState) (no
   }
     where
       no_fault : (result : Result ListedSource CopyError) → Finishes held.0 held.1.taken.lines result → ListFaultEnds result found.questions
-      no_fault (Ok listed) finishes = tt
-      no_fault (Err (At file line cause)) finishes = tt
-      no_fault (Err TooLarge) finishes = tt
       no_fault (Err Fault) finishes = cc finishes
-      no_fault (Err Memory) finishes = tt
+      no_fault _ finishes = tt
 
   -- one is refused before
   before_by : (error : CopyError) (found : Copied) (listed : ListedSource) (asked : ℕ) → Stopped [] found new → new.kept ≡ Some listed.lines → CopyRefuses error (laid_copied found)
@@ -167,31 +154,24 @@ module _ (source : List ℕ) (old new : Copying) (before after : ShelfState) (no
     gives = λ contents agrees.
         let here = agrees_first old contents found.questions first agrees in
         subst (λ copies. GivesListed (length found.questions) result (whole_by copies source contents)) first
-        (by_result result stops (whole_by old.copies source contents) (found.leads contents here [] none) (found.stops contents here));
+        (by_result result stops (whole_by old.copies source contents) (found.leads contents here [] none));
   }
     where
       fault : (result : Result ListedSource CopyError) (error : CopyError) → StopsAt new.kept error result → EndsBy (Some error) found.questions
           → ListFaultEnds result found.questions
-      fault (Ok listed) error stops ends = tt
-      fault (Err (At file line cause)) error stops ends = tt
-      fault (Err TooLarge) error stops ends = tt
       fault (Err Fault) error stops ends = subst (λ error. EndsBy (Some error) found.questions) (sym stops.0) ends
-      fault (Err Memory) error stops ends = tt
+      fault _ error stops ends = tt
 
-      by_result : (result : Result ListedSource CopyError) → StopsAt new.kept error result → (whole : Copied) → CopyRefuses error (laid_copied whole)
-          → WhereTold error ((done : List PlacedLine) → Holds done old → Stopped done whole new) → GivesListed (length found.questions) result whole
-      by_result (Err other) stops whole refuses stopped = tt
-      by_result (Ok listed) stops whole refuses stopped =
-          before_by error whole listed (length found.questions) (told_out _ error stops.2 stopped [] none) stops.0 refuses stops.1 stops.2
+      by_result : (result : Result ListedSource CopyError) → StopsAt new.kept error result → (whole : Copied) → LeadsTo (Some error) [] whole new
+          → GivesListed (length found.questions) result whole
+      by_result (Err other) stops whole refused = tt
+      by_result (Ok listed) stops whole refused =
+          before_by error whole listed (length found.questions) (told_out _ error stops.2 refused.1) stops.0 refused.0 stops.1 stops.2
 
 -- an error that the definitions do not tell, and the causes of all
 pub untold_all : (done : List PlacedLine) (lines : List Line) (result : Result ListedSource CopyError) → Finishes done lines result → IfErr result IsUntold
 untold_all done lines (Ok listed) finishes = tt
 untold_all done lines (Err error) finishes = subst IsUntold (sym finishes) tt
-
-pub untold_before : (kept : Option (Vec KeptLine Global)) (error : CopyError) (result : Result ListedSource CopyError) → StopsAt kept error result → IfErr result IsUntold
-untold_before kept error (Ok listed) stops = tt
-untold_before kept error (Err found) stops = subst IsUntold (sym stops.0) stops.1
 
 pub causes_all : (a b : ShelfState) (done : List PlacedLine) (lines : List Line) (result : Result ListedSource CopyError) → Finishes done lines result
     → TookNoMore most_bytes a b → ListCauses result a b
@@ -203,11 +183,6 @@ causes_all a b done lines (Ok listed) finishes within = by_ending listed.ending 
         subst (λ error. ShelfCauses error a b) (sym finishes.1.is) (finishes.1.own, within)
     by_ending (Before error) finishes = absurd finishes
 causes_all a b done lines (Err error) finishes within = subst (λ error. ShelfCauses error a b) (sym finishes) within
-
-pub causes_before : (a b : ShelfState) (kept : Option (Vec KeptLine Global)) (error : CopyError) (result : Result ListedSource CopyError) → StopsAt kept error result
-    → ShelfCauses error a b → ListCauses result a b
-causes_before a b kept error (Ok listed) stops causes = subst (λ ending. EndingCauses ending a b) (sym stops.1) causes
-causes_before a b kept error (Err found) stops causes = subst (λ error. ShelfCauses error a b) (sym stops.0) causes
 
 abbrev module_answers : Result object.Module (Refusal AsmCause) → Result object.Module (Refusal AsmCause) → Type 0
 module_answers a b = a ≡ b
@@ -253,7 +228,3 @@ module _ (done : List PlacedLine) (builder : AsmLines) (has : HasTaken (texts do
       refused_behind found.number cause told.at found.error
       (subst (λ n. RefusesAt (asm.At n cause) (module_of_lines (texts done))) (sym told.number) refuses) told.is
       (told.place ∙ ap (λ places. place_of places found.number) kept)
-
-pub memory_told : (runs : List Run) (error : AsmError) (found : CopyError) → RefusesLine runs error (Err found) → found ≡ Memory
-memory_told runs (asm.At line cause) found told = absurd told
-memory_told runs asm.Memory found told = told

@@ -16,11 +16,10 @@ use Rattle.source_defs.specs.declared.text.Line.{Line as TextLine}
 use Rattle.source_defs.specs.Lines.{lines, part}
 use Rattle.source_defs.proofs.LaidLaws.{texts_of}
 use Rattle.shelf_defs.specs.Questions.{Question, Agrees}
-use Rattle.bench_shelf.specs.Leading.{Leads, Stops, IsHeld, HasRoom, Grows, count, AllGiven, EndsBy, Asking, Copies}
+use Rattle.bench_shelf.specs.Leading.{Leads, IsHeld, HasRoom, Grows, count, AllGiven, EndsBy, Asking, Copies}
 use Rattle.bench_shelf.specs.Causes.{Later}
 use Rattle.bench_shelf.proofs.CountLaws.{few_lines}
 use Rattle.bench_shelf.proofs.LeadingLaws.{leads_none, leads_then, leads_ended, leads_refused}
-use Rattle.bench_shelf.proofs.StoppingLaws.{stops_then, stops_refused}
 use Rattle.bench_shelf.proofs.AskingLaws.{agrees_front, agrees_back, all_given, asking_none, asking_then, ends_then}
 
 abbrev pub Numbered : Type 0
@@ -35,14 +34,12 @@ line_by levels place copies text contents = one_line (copy_line contents levels)
 
 -- a line that stands for itself asks for no file, and leads to what it leads to as any line
 pub own_copies : (levels : ℕ) (s : ShelfState) (old new : Copying) (place : Place) (text : List ℕ) (error : Option CopyError) → asked text ≡ Itself
-    → new.copies ≡ old.copies → EndsBy error [] → Leads old (own_line place old.copies text) error new → Stops old (own_line place old.copies text) error new
-    → Copies old new (line_by levels place old.copies text) error s s
-own_copies levels s old new place text error own same ends leads stops = record {
+    → new.copies ≡ old.copies → EndsBy error [] → Leads old (own_line place old.copies text) error new → Copies old new (line_by levels place old.copies text) error s s
+own_copies levels s old new place text error own same ends leads = record {
   questions = [];
   asking = asking_none old new (line_by levels place old.copies text) s same;
   ends = ends;
   leads = λ contents agrees. subst (λ request. Leads old (asked_line (copy_line contents levels) request place old.copies text) error new) (sym own) leads;
-  stops = λ contents agrees. subst (λ request. Stops old (asked_line (copy_line contents levels) request place old.copies text) error new) (sym own) stops;
 }
 
 -- what a line comes to by what it asks for
@@ -59,11 +56,10 @@ no_fault at failure.Memory = tt
 -- such a line is refused
 pub own_refuses : (levels : ℕ) (s : ShelfState) (old new : Copying) (place : Place) (text : List ℕ) (at : KeptPlace) (failure : Failure) (error : CopyError)
     → failed_at at failure ≡ error → asked text ≡ Itself → new.copies ≡ old.copies → Leads old (own_line place old.copies text) (Some (failed_at at failure)) new
-    → Stops old (own_line place old.copies text) (Some (failed_at at failure)) new
     → Copies old new (line_by levels place old.copies text) (Some error) s s
-own_refuses levels s old new place text at failure error is own same leads stops =
+own_refuses levels s old new place text at failure error is own same leads =
     subst (λ error. Copies old new (line_by levels place old.copies text) (Some error) s s) is
-    (own_copies levels s old new place text (Some (failed_at at failure)) own same (no_fault at failure) leads stops)
+    (own_copies levels s old new place text (Some (failed_at at failure)) own same (no_fault at failure) leads)
 
 -- lines were taken, so that what the lines that are left lead to, all lines lead to
 pub record Follows (levels : ℕ) (file : Option (List ℕ)) (old : Copying) (all : Numbered) (now : Copying) (left : Numbered) (a b : ShelfState)
@@ -73,8 +69,6 @@ pub record Follows (levels : ℕ) (file : Option (List ℕ)) (old : Copying) (al
   pub given : AllGiven questions
   pub leads : (contents : Contents) → Agrees most_bytes contents old.copies questions → (error : Option CopyError) (last : Copying)
       → Leads now (lines_by levels file now.copies left contents) error last → Leads old (lines_by levels file old.copies all contents) error last
-  pub stops : (contents : Contents) → Agrees most_bytes contents old.copies questions → (error : Option CopyError) (last : Copying)
-      → Stops now (lines_by levels file now.copies left contents) error last → Stops old (lines_by levels file old.copies all contents) error last
 
 -- the place of a line
 abbrev pub line_place : Option (List ℕ) → ℕ → Place
@@ -87,7 +81,6 @@ follows_first levels file a b old all left is same = rw (is, same) (record {
   asking = asking_none old old (lines_by levels file old.copies all) a refl;
   given = tt;
   leads = λ contents agrees error last leads. leads;
-  stops = λ contents agrees error last stops. stops;
 })
 
 module _ {levels : ℕ} {file : Option (List ℕ)} {old now : Copying} {all left : Numbered} {a b : ShelfState} (follows : Follows levels file old all now left a b) where
@@ -99,7 +92,6 @@ module _ {levels : ℕ} {file : Option (List ℕ)} {old now : Copying} {all left
     ends = follows.given;
     leads = λ contents agrees. follows.leads contents agrees None now
         (subst (λ lines. Leads now (lines_by levels file now.copies lines contents) None now) (sym none) (leads_none now going));
-    stops = λ contents agrees. tt;
   }
 
   module _ {rest : Numbered} {number : ℕ} {text : List ℕ} (first : left ≡ (number, text) ∷ rest) where
@@ -114,22 +106,12 @@ module _ {levels : ℕ} {file : Option (List ℕ)} {old now : Copying} {all left
     from_first contents agrees error last leads =
         follows.leads contents agrees error last (subst (λ lines. Leads now (lines_by levels file now.copies lines contents) error last) (sym first) leads)
 
-    -- where all lines stop, by where those behind the ones that were taken stop
-    stops_on : (contents : Contents) (questions : List Question) → Agrees most_bytes contents old.copies (follows.questions ++ questions)
-        → (end : Option CopyError) (last : Copying)
-        → (Agrees most_bytes contents now.copies questions → Stops now (lines_by levels file now.copies ((number, text) ∷ rest) contents) end last)
-        → Stops old (lines_by levels file old.copies all contents) end last
-    stops_on contents questions agrees end last more =
-        follows.stops contents (agrees_front most_bytes contents old.copies follows.questions questions agrees) end last
-        (subst (λ lines. Stops now (lines_by levels file now.copies lines contents) end last) (sym first)
-        (more (rw follows.asking.number (agrees_back most_bytes contents old.copies follows.questions questions agrees))))
-
     module _ {mid : Copying} {c : ShelfState} where
       -- what is asked by the next line
       asking : (questions : List Question) → Asking now mid line questions b c → Asking old mid (lines_by levels file old.copies all) (follows.questions ++ questions) a c
       asking questions one =
           asking_then old now (lines_by levels file old.copies all) line follows.questions follows.asking.number
-          (λ contents agrees error leads. from_first contents agrees (Some error) old (leads_refused now now now (line contents) (next contents) error leads))
+          (λ contents agrees error last leads. from_first contents agrees (Some error) last (leads_refused now last (line contents) (next contents) error leads))
           mid a b c questions follows.given follows.asking one
 
       -- what all lines lead to, by what the next one leads to
@@ -148,33 +130,28 @@ module _ {levels : ℕ} {file : Option (List ℕ)} {old now : Copying} {all left
         given = all_given follows.questions one.questions follows.given one.ends;
         leads = λ contents agrees error last more.
             goes_on None error last contents one agrees (λ leads. leads_then now mid last (line contents) (next contents) error going leads more);
-        stops = λ contents agrees error last more.
-            stops_on contents one.questions agrees error last
-            (λ here. stops_then now mid last (line contents) (next contents) error going (one.leads contents here) more);
       }
 
       -- the next line is the last
       ends : (error : Option CopyError) (one : Copies now mid line error b c) → EndsBy error (follows.questions ++ one.questions)
           → ((contents : Contents) → Leads now (line contents) error mid → Leads now (lines_by levels file now.copies ((number, text) ∷ rest) contents) error mid)
-          → ((contents : Contents) → Stops now (line contents) error mid → Stops now (lines_by levels file now.copies ((number, text) ∷ rest) contents) error mid)
           → Copies old mid (lines_by levels file old.copies all) error a c
-      ends error one given more halts = record {
+      ends error one given more = record {
         questions = follows.questions ++ one.questions;
         asking = asking one.questions one.asking;
         ends = given;
         leads = λ contents agrees. goes_on error error mid contents one agrees (more contents);
-        stops = λ contents agrees. stops_on contents one.questions agrees error mid (λ here. halts contents (one.stops contents here));
       }
 
       pub follows_end : (IsOpen mid.builder → ⊥) → Copies now mid line None b c → Copies old mid (lines_by levels file old.copies all) None a c
       follows_end closed one =
           ends None one (all_given follows.questions one.questions follows.given one.ends)
-          (λ contents. leads_ended now mid (line contents) (next contents) closed) (λ contents stops. tt)
+          (λ contents. leads_ended now mid (line contents) (next contents) closed)
 
       pub follows_refused : (error : CopyError) → Copies now mid line (Some error) b c → Copies old mid (lines_by levels file old.copies all) (Some error) a c
       follows_refused error one =
           ends (Some error) one (ends_then error follows.questions one.questions one.ends)
-          (λ contents. leads_refused now mid mid (line contents) (next contents) error) (λ contents. stops_refused now mid (line contents) (next contents) error)
+          (λ contents. leads_refused now mid (line contents) (next contents) error)
 
 -- the text of the first of some lines, and those of the others
 pub first_text : (text : List ℕ) {left rest : List TextLine} {line : TextLine} {own : List ℕ} → left ≡ line ∷ rest → own ≡ part text line.span

@@ -80,7 +80,7 @@ next_asked old source none first front x (place, next) = (
       let at : length front ≡ old.copies + length front = omega (arith, first) in
       let here : CopyRefuses (At place.file place.line (Missing x.name)) (module_of_copied (whole_by old.copies source contents)) =
       refusal_by (whole_by old.copies source contents) (At place.file place.line (Missing x.name))
-      (next contents (agrees_first old contents front first agrees) (subst (λ n. contents n x.name ≡ None) at missing) [] none) in
+      ((next contents (agrees_first old contents front first agrees) (subst (λ n. contents n x.name ≡ None) at missing)).1 [] none).0 in
       (subst (λ copies. CopyRefuses (At place.file place.line (Missing x.name)) (module_of_copied (whole_by copies source contents))) first here).1,
 )
 
@@ -148,5 +148,5 @@ module _ (source : List ℕ) (old new : Copying) (before after : ShelfState) (no
     ends = found.ends;
     gives = λ contents agrees.
         subst (λ copies. CopyRefuses error (module_of_copied (whole_by copies source contents))) first
-        (refusal_by (whole_by old.copies source contents) error (found.leads contents (agrees_first old contents found.questions first agrees) [] none));
+        (refusal_by (whole_by old.copies source contents) error (found.leads contents (agrees_first old contents found.questions first agrees) [] none).0);
   }

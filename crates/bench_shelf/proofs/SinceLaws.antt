@@ -1,14 +1,24 @@
 -- What an answer tells of a shelf holds of an earlier shelf too.
-use Rattle.std.proofs.Common.{Ok, Err, arith}
+use Rattle.std.proofs.Common.{◌≡◌, Ok, Err, arith}
 use Rattle.std.specs.Prelude.{Result, IfErr}
 use Rattle.bench_io.proofs.Taking.{rose_since}
 use Rattle.shelf_defs.specs.Copied.{most_bytes}
 use Rattle.bench_shelf.specs.States.{ShelfState}
+use Rattle.bench_shelf.specs.declared.error.FileError.{FileError}
+use Rattle.bench_shelf.specs.declared.error.FileError.TheVariants as unread
+use Rattle.bench_shelf.specs.declared.place.Place.{Place}
 use Rattle.bench_shelf.specs.declared.copy_error.CopyCause.TheVariants.{Missing}
 use Rattle.bench_shelf.specs.declared.copy_error.CopyError.{CopyError}
 use Rattle.bench_shelf.specs.declared.copy_error.CopyError.TheVariants.{At, TooLarge, Fault, Memory}
-use Rattle.bench_shelf.specs.Causes.{Later, ShelfCauses, TookNoMore}
+use Rattle.bench_shelf.specs.Causes.{Later, FileCauses, ShelfCauses, TookNoMore}
+use Rattle.bench_shelf.specs.CopyAnswers.{unread_at}
 use Rattle.bench_shelf.proofs.Keeping.{within_then}
+
+-- and so does what is told of a file that was not read, of its COPY line
+pub causes_unread : (a b : ShelfState) (place : Place) (error : FileError) (said : CopyError) → said ≡ unread_at place error → FileCauses most_bytes error a b
+    → ShelfCauses said a b
+causes_unread a b place unread.TooLarge said is causes = rw is causes
+causes_unread a b place _ said is causes = rw is causes
 
 module _ (a b c : ShelfState) (later : Later a b) (within : TookNoMore most_bytes a b) where
   pub causes_since : (error : CopyError) → ShelfCauses error b c → ShelfCauses error a c

@@ -5,7 +5,7 @@ use Rattle.std.specs.Prelude.{⊤, Result, if◌then◌else◌, Option, Some, ma
 use Rattle.std.proofs.Math.Bool.{or-false}
 use Rattle.std.proofs.Math.Seq.{get_or-append_seam}
 use Rattle.std.proofs.lemmas.Option.{unwrap_or-slice_get}
-use Rattle.std.proofs.lemmas.List.{length-map}
+use Rattle.std.proofs.lemmas.List.{length-map, map-append}
 use Rattle.source_defs.specs.declared.causes.ExprError.TheVariants as expr
 use Rattle.source_defs.specs.Refusals.{Refusal, ◌>>=◌, at_line}
 use Rattle.source_defs.specs.Layout.{laid, numbered, has_ended}
@@ -30,13 +30,12 @@ use Rattle.bench_shelf.specs.declared.place.Place.{Place as KeptPlace}
 use Rattle.bench_shelf.specs.declared.run.Run.{Run}
 use Rattle.bench_shelf.specs.declared.copying.Copying.{Copying}
 use Rattle.bench_shelf.specs.declared.copy_error.CopyCause.TheVariants.{Asm}
-use Rattle.bench_shelf.specs.CopyAnswers.{defined_place, refused_at, CopyRefuses}
+use Rattle.bench_shelf.specs.CopyAnswers.{defined_place, refused_at}
 use Rattle.bench_shelf.specs.Runs.{places_of}
 use Rattle.bench_shelf.specs.declared.kept_line.KeptLine.{KeptLine}
 use Rattle.bench_shelf.specs.Kept.{defined_kept, IsKept, KeepsLine}
 use Rattle.asm_list_defs.specs.Listed.{heres}
-use Rattle.bench_shelf.specs.Leading.{Holds, EndsAs, GoesOn, Stopped}
-use Rattle.bench_shelf.proofs.LeadingLaws.{map_append}
+use Rattle.bench_shelf.specs.Leading.{Holds, EndsAs, GoesOn, LeadsTo}
 
 -- a refusal of the assembler is the definitions' own
 pub refusal_is : {B : Type 0} (line : ℕ) (refused : AsmCause) (defined : Result B (Refusal AsmCause)) → RefusesAt (asm.At line refused) defined
@@ -75,7 +74,7 @@ module _ (done : List PlacedLine) (place : Place) (text : List ℕ) where
   all = done ++ more
 
   texts_are : texts all ≡ texts done ++ text ∷ []
-  texts_are = map_append (λ line. line.text) done more
+  texts_are = map-append (λ line. line.text) done more
 
   module _ (builder : AsmLines) (taken : HasTaken (texts done) builder) (going : IsOpen builder) where
     still : has_ended taken.lines ≡ false
@@ -121,7 +120,7 @@ module _ (done : List PlacedLine) (place : Place) (text : List ℕ) where
     last_place =
         let at : 1 + length (texts done) - 1 ≡ length (places done) = omega (arith, size) in
         let none : Place = record { file = None; line = 1 + length (texts done) } in
-        rw (unwrap_or-slice_get (places all) (1 + length (texts done) - 1) none, at, map_append (λ line. line.place) done more)
+        rw (unwrap_or-slice_get (places all) (1 + length (texts done) - 1) none, at, map-append (λ line. line.place) done more)
         (get_or-append_seam (places done) place [] none)
 
     laid_refused : (copies : ℕ) (refusal : Refusal AsmCause) → laid check (numbered 1 (texts done ++ text ∷ [])) ≡ Err refusal
@@ -138,10 +137,10 @@ kept_more done lines next place text here None (Some new) same kept keeps = absu
 kept_more done lines next place text here (Some old) None same kept keeps = absurd keeps
 kept_more done lines next place text here (Some old) (Some new) same kept keeps = record {
   are = ap (map defined_kept) keeps.are
-      ∙ (map_append defined_kept old.items (keeps.line ∷ [])
+      ∙ (map-append defined_kept old.items (keeps.line ∷ [])
       ∙ (ap (λ (front : List PlacedLine). front ++ defined_kept keeps.line ∷ []) kept.are ∙ ap (λ (line : PlacedLine). done ++ line ∷ []) keeps.is));
   heres = ap (map (λ line. line.here)) keeps.are
-      ∙ (map_append (λ line. line.here) old.items (keeps.line ∷ [])
+      ∙ (map-append (λ line. line.here) old.items (keeps.line ∷ [])
       ∙ (ap (λ (front : List Location). front ++ keeps.line.here ∷ []) kept.heres
       ∙ (ap (λ (at : Location). heres lines ++ at ∷ []) keeps.here ∙ sym same)));
 }
@@ -163,44 +162,38 @@ own_taken old new place text done going holds taken kept copies keeps = record {
         (heres_more done (defined_place place) text old.builder holds.taken going new.builder taken) holds.kept (keeps holds.taken);
     places = kept
         ∙ (ap (λ (found : List Place). found ++ defined_place place ∷ []) holds.places
-        ∙ sym (map_append (λ line. line.place) done (record { place = defined_place place; text = text } ∷ [])));
+        ∙ sym (map-append (λ line. line.place) done (record { place = defined_place place; text = text } ∷ [])));
   };
   copies = copies;
   ending = taken_ends done (defined_place place) text old.builder holds.taken going new.builder taken;
 }
 
--- and one that the first checks refuse
-pub own_refused : (old : Copying) (place : KeptPlace) (text : List ℕ) (done : List PlacedLine) (number : ℕ) (refused : AsmCause)
-    → IsOpen old.builder → Holds done old
-    → RefusesAt (asm.At number refused) (laid check (numbered 1 (texts done ++ text ∷ [])))
-    → CopyRefuses (refused_at place (Asm refused)) (laid_copied (prepend done (own_line (defined_place place) old.copies text)))
-own_refused old place text done number refused going holds refuses =
-    let is = refusal_is number refused _ refuses in
-    (is.0, laid_refused done (defined_place place) text old.builder holds.taken going old.copies (record { line = number; cause = refused }) is.1)
-
--- where the taking stops then
-pub own_stops : (old new : Copying) (place : KeptPlace) (text : List ℕ) (done : List PlacedLine) (number : ℕ) (refused : AsmCause)
+-- and one that the first checks refuse: there the taking stops
+pub own_refused : (old new : Copying) (place : KeptPlace) (text : List ℕ) (done : List PlacedLine) (number : ℕ) (refused : AsmCause)
     → IsOpen old.builder → Holds done old → RefusesAt (asm.At number refused) (laid check (numbered 1 (texts done ++ text ∷ [])))
-    → HasTaken (texts done) new.builder
-    → new.runs ≡ old.runs → new.kept ≡ old.kept → Stopped done (own_line (defined_place place) old.copies text) new
-own_stops old new place text done number refused going holds refuses taken runs kept =
+    → HasTaken (texts done) new.builder → new.runs ≡ old.runs → new.kept ≡ old.kept
+    → LeadsTo (Some (refused_at place (Asm refused))) done (own_line (defined_place place) old.copies text) new
+own_refused old new place text done number refused going holds refuses taken runs kept =
     let is = refusal_is number refused _ refuses in
     let lines : holds.taken.lines ≡ taken.lines = cc (sym holds.taken.laid ∙ taken.laid) in
-    record {
-      taken = done;
-      holds = record {
-        taken = taken;
-        places = ap (λ (runs : Vec Run Global). places_of runs.items) runs ∙ holds.places;
-        kept = subst (λ (found : Option (Vec KeptLine Global)). IsKept done taken.lines found) (sym kept)
-            (subst (λ (found : List Line). IsKept done found old.kept) lines holds.kept);
-      };
-      halts = inr (record {
-        line = record { place = defined_place place; text = text };
-        rest = [];
-        are = refl;
-        refusal = record { line = number; cause = refused };
-        number = refused_last done (defined_place place) text old.builder holds.taken going (record { line = number; cause = refused }) is.1
-            ∙ ap (λ n. 1 + n) (length-map done (λ line. line.text));
-        is = ap (λ found. laid check (numbered 1 found)) (texts_are done (defined_place place) text) ∙ is.1;
-      });
-    }
+    let refusal : Refusal AsmCause = record { line = number; cause = refused } in (
+      (is.0, laid_refused done (defined_place place) text old.builder holds.taken going old.copies refusal is.1),
+      record {
+        taken = done;
+        holds = record {
+          taken = taken;
+          places = ap (λ (runs : Vec Run Global). places_of runs.items) runs ∙ holds.places;
+          kept = subst (λ (found : Option (Vec KeptLine Global)). IsKept done taken.lines found) (sym kept)
+              (subst (λ (found : List Line). IsKept done found old.kept) lines holds.kept);
+        };
+        halts = inr (record {
+          line = record { place = defined_place place; text = text };
+          rest = [];
+          are = refl;
+          refusal = refusal;
+          number = refused_last done (defined_place place) text old.builder holds.taken going refusal is.1
+              ∙ ap (λ n. 1 + n) (length-map done (λ line. line.text));
+          is = ap (λ found. laid check (numbered 1 found)) (texts_are done (defined_place place) text) ∙ is.1;
+        });
+      },
+    )

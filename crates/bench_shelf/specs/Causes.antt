@@ -9,11 +9,10 @@ use Rattle.shelf_defs.specs.Amounts.{AreTaken}
 use Rattle.bench_shelf.specs.States.{ShelfState, asked_more}
 use Rattle.bench_shelf.specs.declared.error.FileError.{FileError}
 use Rattle.bench_shelf.specs.declared.error.FileError.TheVariants as unread
-use Rattle.bench_shelf.specs.declared.place.Place.{Place}
 use Rattle.bench_shelf.specs.declared.copy_error.CopyCause.TheVariants.{Asm, Missing}
 use Rattle.bench_shelf.specs.declared.copy_error.CopyError.{CopyError}
 use Rattle.bench_shelf.specs.declared.copy_error.CopyError.TheVariants.{At, TooLarge, Fault, Memory}
-use Rattle.bench_shelf.specs.CopyAnswers.{IsNoMemory, refused_at}
+use Rattle.bench_shelf.specs.CopyAnswers.{IsNoMemory}
 
 -- a shelf after some calls: it has the same files, and none of its counts fell, but for that of the file opened last
 pub record Later (before after : ShelfState) : Type 0 where
@@ -39,7 +38,7 @@ TookNoMore limit before after = after.source.largest ≤ max before.source.large
 -- A missing name is counted, and so is a failure. A file is too large exactly where more bytes of one were taken than
 -- it may have.
 abbrev pub FileCauses : ℕ → FileError → ShelfState → ShelfState → Type 0
-FileCauses limit unread.Missing before after = Rose before.misses after.misses × TookNoMore limit before after
+FileCauses limit (unread.Missing name) before after = Rose before.misses after.misses × TookNoMore limit before after
 FileCauses limit unread.TooLarge before after = TookMore limit before after
 FileCauses limit unread.Fault before after =
     Rose before.source.faults after.source.faults × TookNoMore limit before after
@@ -57,24 +56,15 @@ ShelfCauses Memory before after = TookNoMore most_bytes before after
 
 -- the answer to a question for a file that was not read
 abbrev pub answer_by : FileError → Answer
-answer_by unread.Missing = NoFile
+answer_by (unread.Missing name) = NoFile
 answer_by unread.TooLarge = OverLimit
 answer_by unread.Fault = Unanswered
 answer_by unread.Memory = Unanswered
 
--- the same of a file that a COPY line names
-abbrev pub answer_by_copy : CopyError → Answer
-answer_by_copy (At file line cause) = NoFile
-answer_by_copy TooLarge = OverLimit
-answer_by_copy Fault = Unanswered
-answer_by_copy Memory = Unanswered
-
--- a line that is refused is the COPY line at this place, whose file is missing
-abbrev pub IsOfFile : Place → List ℕ → CopyError → Type 0
-IsOfFile place name (At file line cause) = At file line cause ≡ refused_at place (Missing name)
-IsOfFile place name TooLarge = ⊤
-IsOfFile place name Fault = ⊤
-IsOfFile place name Memory = ⊤
+-- a name that is missing is the one that was asked for
+abbrev pub IsOfName : List ℕ → FileError → Type 0
+IsOfName name (unread.Missing other) = other ≡ name
+IsOfName name error = ⊤
 
 -- an error that says nothing of a shelf: the assembler refuses a line, or memory ran out
 abbrev pub IsOfLine : CopyError → Type 0

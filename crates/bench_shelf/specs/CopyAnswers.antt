@@ -10,6 +10,8 @@ use Rattle.asm_checks.specs.Answers.{Causes}
 use Rattle.asm_checks.specs.declared.failure.Failure.{Failure}
 use Rattle.asm_checks.specs.declared.failure.Failure.TheVariants.{Refused}
 use Rattle.asm_checks.specs.declared.failure.Failure.TheVariants as failure
+use Rattle.bench_shelf.specs.declared.error.FileError.{FileError}
+use Rattle.bench_shelf.specs.declared.error.FileError.TheVariants as unread
 use Rattle.bench_shelf.specs.declared.place.Place.{Place}
 use Rattle.bench_shelf.specs.declared.copy_error.CopyCause.{CopyCause}
 use Rattle.bench_shelf.specs.declared.copy_error.CopyCause.TheVariants.{Asm, BadCopy, TooDeep, TooMany, Missing}
@@ -39,6 +41,13 @@ abbrev pub failed_at : Place → Failure → CopyError
 failed_at place (Refused cause) = refused_at place (Asm cause)
 failed_at place failure.Memory = Memory
 
+-- the error of a COPY line at a place whose file was not read
+abbrev pub unread_at : Place → FileError → CopyError
+unread_at place (unread.Missing name) = refused_at place (Missing name)
+unread_at place unread.TooLarge = TooLarge
+unread_at place unread.Fault = Fault
+unread_at place unread.Memory = Memory
+
 -- a cause of the assembler that does not stand for want of memory
 abbrev pub IsOwnCause : AsmCause → Type 0
 IsOwnCause cause = Causes {B = ⊤} cause (Err cause)
@@ -53,8 +62,7 @@ abbrev pub CopyRefuses : {B : Type 0} → CopyError → Result B CopyRefusal →
 CopyRefuses (At file line cause) defined =
     IsNoMemory cause × (defined ≡ Err (spec.At (record { file = file; line = line }) (defined_cause cause)))
 CopyRefuses TooLarge defined = defined ≡ Err spec.TooLarge
-CopyRefuses Fault defined = ⊤
-CopyRefuses Memory defined = ⊤
+CopyRefuses other defined = ⊤
 
 -- the module that is defined, or the refusal
 abbrev pub GivesCopied : Result Module CopyError → Result object.Module CopyRefusal → Type 0

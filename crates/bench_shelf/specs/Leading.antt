@@ -14,7 +14,7 @@ use Rattle.asm_core.specs.Building.{HasTaken, IsOpen}
 use Rattle.asm_core.specs.declared.lines.AsmLines.{AsmLines}
 use Rattle.bench_shelf.specs.declared.copying.Copying.{Copying}
 use Rattle.bench_shelf.specs.declared.copy_error.CopyError.{CopyError}
-use Rattle.bench_shelf.specs.declared.copy_error.CopyError.TheVariants.{At, TooLarge, Fault, Memory}
+use Rattle.bench_shelf.specs.declared.copy_error.CopyError.TheVariants.{At, Fault, Memory}
 use Rattle.bench_shelf.specs.declared.copy_error.CopyCause.TheVariants.{Missing}
 use Rattle.asm_checks.specs.declared.failure.Failure.{Failure}
 use Rattle.bench_shelf.specs.declared.place.Place.{Place}
@@ -52,20 +52,10 @@ abbrev pub trouble_at : {A : Type 0} → Place → Result A Failure → Option C
 trouble_at place (Ok value) = None
 trouble_at place (Err failure) = Some (failed_at place failure)
 
--- they were taken, or one of all lines is refused
-abbrev pub LeadsTo : Option CopyError → List PlacedLine → Copied → Copying → Type 0
-LeadsTo None done found new = GoesOn done found new
-LeadsTo (Some error) done found new = CopyRefuses error (laid_copied (prepend done found))
-
--- the same, whatever lines were taken before
-abbrev pub Leads : Copying → Copied → Option CopyError → Copying → Type 0
-Leads old found error new = (done : List PlacedLine) → Holds done old → LeadsTo error done found new
-
 -- what stands behind lines is refused
 abbrev pub IsRefusal : Ending → Type 0
-IsRefusal Open = ⊥
-IsRefusal Ended = ⊥
 IsRefusal (Refused refusal) = ⊤
+IsRefusal other = ⊥
 
 -- the first checks refuse the next of some lines behind those that were taken
 pub record RefusesNext (all taken : List PlacedLine) : Type 0 where
@@ -88,16 +78,19 @@ pub record Stopped (done : List PlacedLine) (found : Copied) (new : Copying) : T
 
 -- of an error that the definitions tell
 abbrev pub WhereTold : CopyError → Type 0 → Type 0
-WhereTold (At file line cause) P = P
-WhereTold TooLarge P = P
 WhereTold Fault P = ⊤
 WhereTold Memory P = ⊤
+WhereTold other P = P
 
--- where lines stop of which one is refused
-abbrev pub Stops : Copying → Copied → Option CopyError → Copying → Type 0
-Stops old found None new = ⊤
-Stops old found (Some error) new =
-    WhereTold error ((done : List PlacedLine) → Holds done old → Stopped done found new)
+-- they were taken, or one of all lines is refused, and those before it were taken
+abbrev pub LeadsTo : Option CopyError → List PlacedLine → Copied → Copying → Type 0
+LeadsTo None done found new = GoesOn done found new
+LeadsTo (Some error) done found new =
+    CopyRefuses error (laid_copied (prepend done found)) × WhereTold error (Stopped done found new)
+
+-- the same, whatever lines were taken before
+abbrev pub Leads : Copying → Copied → Option CopyError → Copying → Type 0
+Leads old found error new = (done : List PlacedLine) → Holds done old → LeadsTo error done found new
 
 -- After the lines that were taken and these answers this file is the next: if no file had the name, that would be the
 -- refusal.
@@ -105,7 +98,7 @@ abbrev pub IsNextAfter : Copying → (Contents → Copied) → List Question →
 IsNextAfter old found front question =
     (place : spec.Place) × ((contents : Contents) → Agrees most_bytes contents old.copies front
     → contents (old.copies + length front) question.name ≡ None
-    → Leads old (found contents) (Some (At place.file place.line (Missing question.name))) old)
+    → (last : Copying) × Leads old (found contents) (Some (At place.file place.line (Missing question.name))) last)
 
 -- A file was asked for by each COPY line that may be followed, in their order, and no other. Where the shelf shows its
 -- files, the answers are those of the files.
@@ -127,10 +120,8 @@ AllGiven (question ∷ questions) = IsGiven question.answer × AllGiven question
 -- where all lines were taken, each file was given; the shelf fails at the file that was asked for last
 abbrev pub EndsBy : Option CopyError → List Question → Type 0
 EndsBy None questions = AllGiven questions
-EndsBy (Some (At file line cause)) questions = ⊤
-EndsBy (Some TooLarge) questions = ⊤
 EndsBy (Some Fault) questions = EndsWith Unanswered questions
-EndsBy (Some Memory) questions = ⊤
+EndsBy (Some other) questions = ⊤
 
 -- There are questions and answers such that lines lead by these answers to what they led to, whatever else the shelf
 -- would have answered.
@@ -141,8 +132,6 @@ pub record Copies (old new : Copying) (found : Contents → Copied) (error : Opt
   pub ends : EndsBy error questions
   pub leads : (contents : Contents) → Agrees most_bytes contents old.copies questions
       → Leads old (found contents) error new
-  pub stops : (contents : Contents) → Agrees most_bytes contents old.copies questions
-      → Stops old (found contents) error new
 
 -- how many lines were taken
 abbrev pub count : Copying → ℕ

@@ -15,7 +15,7 @@ use Rattle.asm_list_defs.specs.Listed.{front, first_answer}
 use Rattle.asm_list_defs.specs.Listed as listed
 use Rattle.bench_shelf.specs.States.{ShelfState}
 use Rattle.bench_shelf.specs.declared.copy_error.CopyError.{CopyError}
-use Rattle.bench_shelf.specs.declared.copy_error.CopyError.TheVariants.{At, TooLarge, Fault, Memory}
+use Rattle.bench_shelf.specs.declared.copy_error.CopyError.TheVariants.{Fault, Memory}
 use Rattle.bench_shelf.specs.declared.kept_line.KeptLine.{KeptLine}
 use Rattle.bench_shelf.specs.declared.listed.ListedEnding.{ListedEnding}
 use Rattle.bench_shelf.specs.declared.listed.ListedEnding.TheVariants.{Whole, Behind, Before}
@@ -29,10 +29,9 @@ use Rattle.bench_shelf.specs.Kept.{defined_kept, AreKept}
 
 -- the definitions say nothing of a shelf that failed and of want of memory
 abbrev pub IsUntold : CopyError → Type 0
-IsUntold (At file line cause) = ⊥
-IsUntold TooLarge = ⊥
 IsUntold Fault = ⊤
 IsUntold Memory = ⊤
+IsUntold other = ⊥
 
 abbrev pub IsTold : CopyError → Type 0
 IsTold error = IsUntold error → ⊥
@@ -90,11 +89,8 @@ GivesListed asked (Err error) found = ⊤
 
 -- the shelf failed at the file that was asked for last
 abbrev pub ListFaultEnds : Result ListedSource CopyError → List Question → Type 0
-ListFaultEnds (Ok listed) questions = ⊤
-ListFaultEnds (Err (At file line cause)) questions = ⊤
-ListFaultEnds (Err TooLarge) questions = ⊤
 ListFaultEnds (Err Fault) questions = EndsWith Unanswered questions
-ListFaultEnds (Err Memory) questions = ⊤
+ListFaultEnds other questions = ⊤
 
 -- There are questions and answers such that what is listed is that of the definitions by these answers, whatever else
 -- the shelf would have answered.

@@ -9,17 +9,20 @@ ghost use Rattle.bench_shelf.specs.CopyAnswers.{defined_place};
 ghost use Rattle.bench_shelf.specs.Leading.{Copies, HasRoom, Grows, trouble};
 ghost use Rattle.bench_shelf.specs.Causes.{Later, ShelfCauses, TookNoMore};
 
-use crate::copied_file::read_copied;
 use crate::copy_error::{CopyCause, CopyError};
 use crate::copy_line::{Asked, asked_by};
 use crate::copying::Copying;
 use crate::file_name::FileName;
+use crate::named_file::read_named;
 use crate::place::{Place, place_in};
 use crate::shelf::Shelf;
 use asm_text::{lines, part};
 
 /// The most COPY lines of a source with its files.
 const MOST_COPIES: u32 = 64;
+
+/// The most bytes of a file that is copied.
+const MOST_BYTES: usize = 262144;
 
 impl Copying {
     /// Takes the lines of a file, or of the source itself, with those of the files that they copy, which may be copied
@@ -120,9 +123,9 @@ impl Copying {
             return Err(place.refused(CopyCause::TooMany));
         }
         self.copies += 1;
-        let bytes = match read_copied(self.alloc, shelf, place, &name) {
+        let bytes = match read_named(self.alloc, shelf, &name, MOST_BYTES) {
             Ok(bytes) => bytes,
-            Err(error) => return Err(error),
+            Err(error) => return Err(place.unread(error)),
         };
         self.copy_lines(shelf, levels - 1, &Some(name), bytes.as_slice())
     }

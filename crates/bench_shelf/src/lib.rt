@@ -2,7 +2,6 @@
 #![tactic(auto)]
 
 mod assemble;
-mod copied_file;
 mod copied_lines;
 mod copy_error;
 mod copy_line;

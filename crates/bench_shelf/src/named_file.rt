@@ -2,7 +2,7 @@
 
 ghost use Rattle.std.specs.Prelude.{◌<◌, ◌≤◌, IfOk, IfErr, OnOk, length};
 ghost use Rattle.shelf_defs.specs.Questions.{Bytes};
-ghost use Rattle.bench_shelf.specs.Causes.{AsksOne, Later, FileCauses, TookNoMore, answer_by};
+ghost use Rattle.bench_shelf.specs.Causes.{AsksOne, Later, FileCauses, IsOfName, TookNoMore, answer_by};
 
 use crate::error::{FileError, OpenError};
 use crate::file_name::FileName;
@@ -14,7 +14,7 @@ use std::alloc::Global;
 /// past the limit is taken.
 ///
 /// # Errors
-/// `Missing` comes only where the shelf's count of misses rose, and `Fault` only where that of faults rose. `TooLarge`
+/// `Missing` carries the name. It comes only where the shelf's count of misses rose, and `Fault` only where that of faults rose. `TooLarge`
 /// comes exactly where more than `limit` bytes were taken of the file, and `Memory` is want of memory.
 pub fn read_named<F: Shelf>(
     alloc: Global,
@@ -27,6 +27,7 @@ pub fn read_named<F: Shelf>(
         AsksOne limit name.now (Bytes bytes.items) (F.shelf shelf.old) (F.shelf shelf.new)) }
     ensures refused { IfErr result (λ error.
         AsksOne limit name.now (answer_by error) (F.shelf shelf.old) (F.shelf shelf.new)) }
+    ensures missed { IfErr result (IsOfName name.now) }
     ensures size { IfOk result (λ bytes. length bytes.items ≤ limit) }
     ensures causes { IfErr result (λ error. FileCauses limit error (F.shelf shelf.old) (F.shelf shelf.new)) }
     ensures within { OnOk result (TookNoMore limit (F.shelf shelf.old) (F.shelf shelf.new)) }
@@ -35,7 +36,7 @@ pub fn read_named<F: Shelf>(
     match shelf.open_file(name) {
         Ok(()) => {}
         Err(OpenError::Failed) => return Err(FileError::Fault),
-        Err(OpenError::Missing) => return Err(FileError::Missing),
+        Err(OpenError::Missing) => return Err(FileError::Missing(*name)),
     }
     match read_all(alloc, shelf, limit) {
         Ok(bytes) => Ok(bytes),

@@ -1,9 +1,10 @@
 //! Where a line stands: in the source or a file that it copies, with its number there.
 
 ghost use Rattle.std.specs.Prelude.{◌≡◌};
-ghost use Rattle.bench_shelf.specs.CopyAnswers.{failed_at, place_in, refused_at};
+ghost use Rattle.bench_shelf.specs.CopyAnswers.{failed_at, place_in, refused_at, unread_at};
 
 use crate::copy_error::{CopyCause, CopyError};
+use crate::error::FileError;
 use crate::file_name::FileName;
 use asm_checks::Failure;
 
@@ -35,6 +36,18 @@ impl Place {
         match failure {
             Failure::Refused(cause) => self.refused(CopyCause::Asm(cause)),
             Failure::Memory => CopyError::Memory,
+        }
+    }
+
+    /// The error of a COPY line that stands here and whose file was not read.
+    pub(crate) fn unread(self, error: FileError) -> CopyError
+        ensures { result ≡ unread_at self error }
+    {
+        match error {
+            FileError::Missing(name) => self.refused(CopyCause::Missing(name)),
+            FileError::TooLarge => CopyError::TooLarge,
+            FileError::Fault => CopyError::Fault,
+            FileError::Memory => CopyError::Memory,
         }
     }
 }

@@ -4,20 +4,20 @@ use Rattle.std.specs.Prelude.{Result}
 use Rattle.source_defs.specs.Refusals.{seen, ◌>>=◌}
 use Rattle.object_defs.specs.Modules.{Module}
 use Rattle.link_defs.specs.LinkedMemory.{linked}
+use Rattle.bench_shelf.specs.declared.error.FileError.{FileError}
+use Rattle.bench_shelf.specs.declared.error.FileError.TheVariants.{Missing, TooLarge, Fault, Memory}
 use Rattle.bench_shelf.specs.States.{ShelfState}
-use Rattle.bench_shelf.specs.Causes.{TookNoMore}
+use Rattle.bench_shelf.specs.Causes.{FileCauses, TookNoMore}
 use Rattle.report_defs.specs.declared.status.Status.{Status}
 use Rattle.report_defs.specs.Report.{Report, largest_input}
 use Rattle.report_defs.specs.LinkedFiles as spec
 use Rattle.report_defs.specs.LinkedFiles.{FilesRefusal, modules_of, as_linked, linked_texts}
 use Rattle.report_defs.specs.FileReports.{files_report}
 use Rattle.file_commands.specs.declared.file_text.FileText.{FileText}
-use Rattle.file_commands.specs.declared.error.ReadingError.{ReadingError}
-use Rattle.file_commands.specs.declared.error.ReadingError.TheVariants.{Missing, TooLarge, Fault, Memory}
 use Rattle.file_commands.specs.Modules.{ReportsRefused}
 use Rattle.reports.specs.declared.unreported.Unreported.{Unreported}
 use Rattle.reports.specs.Answers.{WantsMemory, Reported, error_answer}
-use Rattle.file_commands.specs.Reading.{defined_texts, ErrorCauses, Reads, refusal_of}
+use Rattle.file_commands.specs.Reading.{defined_texts, Reads, refusal_of}
 use Rattle.file_commands.specs.Reported.{LinkReported, LinkFails}
 
 module _ (before after : ShelfState) (names : List (List ℕ)) where
@@ -35,8 +35,8 @@ module _ (before after : ShelfState) (names : List (List ℕ)) where
   }
   texts_reported see value linked (Err end) reads within same memory = rw memory (reads.questions, reads.dialogue, within)
 
-  pub error_reported : {A : Type 0} (see : A → List (List ℕ × List ℕ)) (error : ReadingError) (unreported : Unreported)
-      → Reads see names (Err error) before after → ErrorCauses error before after
+  pub error_reported : {A : Type 0} (see : A → List (List ℕ × List ℕ)) (error : FileError) (unreported : Unreported)
+      → Reads see names (Err error) before after → FileCauses largest_input error before after
       → error_answer unreported ≡ seen (λ refusal. files_report (Err refusal)) (refusal_of error)
       → Reported (LinkReported before after names) (LinkFails names before after) (error_answer unreported)
   error_reported see (Missing name) unreported reads causes is = rw is (record {

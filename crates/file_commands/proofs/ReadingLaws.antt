@@ -9,8 +9,10 @@ use Rattle.source_defs.specs.Refusals.{◌>>=◌}
 use Rattle.shelf_defs.specs.Files.{Contents, of_files}
 use Rattle.shelf_defs.specs.Questions.{Answer, Bytes, NoFile, OverLimit, Unanswered, Question, Fits, Agrees, InTurn, IsNextOf}
 use Rattle.shelf_defs.specs.Questions.{names_of}
+use Rattle.bench_shelf.specs.declared.error.FileError.{FileError}
+use Rattle.bench_shelf.specs.declared.error.FileError.TheVariants as unread
 use Rattle.bench_shelf.specs.States.{ShelfState}
-use Rattle.bench_shelf.specs.Causes.{ReadsOnce, AsksOne, Later, TookNoMore}
+use Rattle.bench_shelf.specs.Causes.{ReadsOnce, AsksOne, Later, FileCauses, IsOfName, TookNoMore, answer_by}
 use Rattle.bench_shelf.specs.Leading.{AllGiven}
 use Rattle.bench_shelf.proofs.Keeping.{within_then}
 use Rattle.bench_shelf.proofs.AskingLaws.{agrees_front, agrees_back, shown_then, shown_one, shown_none, reads_none, reads_then, none_follow, turns_then}
@@ -18,9 +20,7 @@ use Rattle.report_defs.specs.Report.{largest_input}
 use Rattle.report_defs.specs.LinkedFiles as spec
 use Rattle.report_defs.specs.LinkedFiles.{FilesRefusal, TooLarge, bytes_of, read_by}
 use Rattle.file_commands.specs.declared.file_text.FileText.{FileText}
-use Rattle.file_commands.specs.declared.error.ReadingError.{ReadingError}
-use Rattle.file_commands.specs.declared.error.ReadingError.TheVariants as unread
-use Rattle.file_commands.specs.Reading.{defined_text, defined_texts, Refuses, ErrorCauses, IsOfName, answer_by, LinkDialogue, EndsReading, Reads}
+use Rattle.file_commands.specs.Reading.{defined_text, defined_texts, Refuses, LinkDialogue, EndsReading, Reads}
 
 by_size : (large : Bool) (name bytes : List ℕ) → nat_lt largest_input (length bytes) ≡ large
     → bytes_of name (Some bytes) ≡ (if large then Err TooLarge else Ok (name, bytes))
@@ -84,19 +84,17 @@ module _ (contents : Contents) where
       (read_stops (number + 1) texts rest name refusal agrees.1 (subst (λ n. bytes_of name (contents n name) ≡ Err refusal) here is))
 
 -- a file that is not read
-refuses_one : (error : ReadingError) (name : List ℕ) (content : Option (List ℕ)) → IsOfName name error → Fits largest_input (answer_by error) content
+refuses_one : (error : FileError) (name : List ℕ) (content : Option (List ℕ)) → IsOfName name error → Fits largest_input (answer_by error) content
     → Refuses error (bytes_of name content)
 refuses_one (unread.Missing other) name content is none = ap (bytes_of name) none ∙ ap (λ n. Err (spec.Missing n)) (sym is)
 refuses_one unread.TooLarge name content is more = ap (bytes_of name) more.1 ∙ large name more.0 more.2
-refuses_one unread.Fault name content is fits = tt
-refuses_one unread.Memory name content is fits = tt
+refuses_one _ name content is fits = tt
 
-refused_by : {A B : Type 0} (error : ReadingError) (a : Result A FilesRefusal) (b : Result B FilesRefusal)
+refused_by : {A B : Type 0} (error : FileError) (a : Result A FilesRefusal) (b : Result B FilesRefusal)
     → ((refusal : FilesRefusal) → a ≡ Err refusal → b ≡ Err refusal) → Refuses error a → Refuses error b
 refused_by (unread.Missing name) a b same refused = same _ refused
 refused_by unread.TooLarge a b same refused = same _ refused
-refused_by unread.Fault a b same refused = tt
-refused_by unread.Memory a b same refused = tt
+refused_by _ a b same refused = tt
 
 -- ---- what is asked
 
@@ -180,7 +178,7 @@ module _ (texts : List FileText) (s t u : ShelfState) (so_far : ReadSoFar texts 
     }
 
     -- it was not read
-    pub reads_stopped : {A : Type 0} (see : A → List (List ℕ × List ℕ)) (error : ReadingError) → IsOfName name error
+    pub reads_stopped : {A : Type 0} (see : A → List (List ℕ × List ℕ)) (error : FileError) → IsOfName name error
         → AsksOne largest_input name (answer_by error) t u → Reads see names (Err error) s u
     reads_stopped see error is asks = record {
       questions = questions_of texts ++ last ∷ [];
@@ -198,12 +196,12 @@ module _ (texts : List FileText) (s t u : ShelfState) (so_far : ReadSoFar texts 
         last : Question
         last = record { name = name; answer = answer_by error }
 
-        by_error : (error : ReadingError) → IsOfName name error
+        by_error : (error : FileError) → IsOfName name error
             → EndsReading {A = ⊤} names (Err error) (questions_of texts ++ record { name = name; answer = answer_by error } ∷ [])
         by_error (unread.Missing other) is = (record { front = questions_of texts; last = record { name = name; answer = NoFile }; are = refl; is = refl }, sym is)
         by_error unread.TooLarge is = record { front = questions_of texts; last = record { name = name; answer = OverLimit }; are = refl; is = refl }
         by_error unread.Fault is = record { front = questions_of texts; last = record { name = name; answer = Unanswered }; are = refl; is = refl }
-        by_error unread.Memory is = tt
+        by_error _ is = tt
 
 -- all were read
 pub reads_all : {A : Type 0} (texts : List FileText) (s t : ShelfState) → ReadSoFar texts s t → (see : A → List (List ℕ × List ℕ)) (value : A) (names : List (List ℕ))
@@ -234,14 +232,14 @@ next_name names front i name inside is taken =
     ∙ ap (λ front. front ++ name ∷ drop (i + 1) names) (sym taken))
 
 -- an error that comes of a refused growth
-pub memory_ran_out : {A : Type 0} (s u : ShelfState) (names : List (List ℕ)) (see : A → List (List ℕ × List ℕ)) (result : Result A ReadingError)
+pub memory_ran_out : {A : Type 0} (s u : ShelfState) (names : List (List ℕ)) (see : A → List (List ℕ × List ℕ)) (result : Result A FileError)
     → IsErrAnd result (λ error. error ≡ unread.Memory) → Reads see names (Err unread.Memory) s u → Reads see names result s u
 memory_ran_out s u names see (Ok value) is reads = absurd is
 memory_ran_out s u names see (Err error) is reads = subst (λ error. Reads see names (Err error) s u) (sym is) reads
 
 -- what an error says of the shelf holds since an earlier one
 module _ (a b c : ShelfState) (later : Later a b) (within : TookNoMore largest_input a b) where
-  pub causes_since : (error : ReadingError) → ErrorCauses error b c → ErrorCauses error a c
+  pub causes_since : (error : FileError) → FileCauses largest_input error b c → FileCauses largest_input error a c
   causes_since (unread.Missing name) causes = (λ top. omega (arith, later.misses, causes.0 top), within_then largest_input a b c within causes.1)
   causes_since unread.TooLarge causes = record { given = causes.given; largest = causes.largest; taken = omega (arith, later.taken, causes.taken) }
   causes_since unread.Fault causes = (λ top. omega (arith, later.faults, causes.0 top), within_then largest_input a b c within causes.1)

@@ -1,11 +1,11 @@
 -- What is read of files.
 use Rattle.std.specs.Prelude.{◌≡◌, ⊤, ℕ, List, length, map, Result, Ok, Err}
-use Rattle.count_defs.specs.Counts.{Rose}
 use Rattle.shelf_defs.specs.Files.{Contents}
-use Rattle.shelf_defs.specs.Questions.{Answer, NoFile, OverLimit, Unanswered, Question, Agrees, EndsWith, IsNextOf}
+use Rattle.shelf_defs.specs.Questions.{NoFile, OverLimit, Unanswered, Question, Agrees, EndsWith, IsNextOf}
 use Rattle.shelf_defs.specs.Questions.{names_of}
+use Rattle.bench_shelf.specs.declared.error.FileError.{FileError}
+use Rattle.bench_shelf.specs.declared.error.FileError.TheVariants.{Missing, TooLarge, Fault, Memory}
 use Rattle.bench_shelf.specs.States.{ShelfState}
-use Rattle.bench_shelf.specs.Causes.{TookMore, TookNoMore}
 use Rattle.bench_shelf.specs.Dialogue.{Dialogue}
 use Rattle.report_defs.specs.declared.status.Status.{Status}
 use Rattle.report_defs.specs.declared.status.Status.TheVariants as status
@@ -13,8 +13,6 @@ use Rattle.report_defs.specs.Report.{largest_input}
 use Rattle.report_defs.specs.LinkedFiles as spec
 use Rattle.report_defs.specs.LinkedFiles.{FilesRefusal, read_by}
 use Rattle.file_commands.specs.declared.file_text.FileText.{FileText}
-use Rattle.file_commands.specs.declared.error.ReadingError.{ReadingError}
-use Rattle.file_commands.specs.declared.error.ReadingError.TheVariants.{Missing, TooLarge, Fault, Memory}
 
 -- a file with its name
 abbrev pub defined_text : FileText → List ℕ × List ℕ
@@ -23,37 +21,15 @@ defined_text text = (text.name, text.bytes.items)
 abbrev pub defined_texts : List FileText → List (List ℕ × List ℕ)
 defined_texts texts = map defined_text texts
 
-abbrev pub Refuses : {B : Type 0} → ReadingError → Result B FilesRefusal → Type 0
+abbrev pub Refuses : {B : Type 0} → FileError → Result B FilesRefusal → Type 0
 Refuses (Missing name) defined = defined ≡ Err (spec.Missing name)
 Refuses TooLarge defined = defined ≡ Err spec.TooLarge
-Refuses Fault defined = ⊤
-Refuses Memory defined = ⊤
+Refuses other defined = ⊤
 
 -- what is read is what is defined; of a shelf that failed and of want of memory the definitions say nothing
-abbrev pub Gives : {A B : Type 0} → (A → B) → Result A ReadingError → Result B FilesRefusal → Type 0
+abbrev pub Gives : {A B : Type 0} → (A → B) → Result A FileError → Result B FilesRefusal → Type 0
 Gives see (Ok value) defined = defined ≡ Ok (see value)
 Gives see (Err error) defined = Refuses error defined
-
--- what an error says of the shelf
-abbrev pub ErrorCauses : ReadingError → ShelfState → ShelfState → Type 0
-ErrorCauses (Missing name) before after =
-    Rose before.misses after.misses × TookNoMore largest_input before after
-ErrorCauses TooLarge before after = TookMore largest_input before after
-ErrorCauses Fault before after =
-    Rose before.source.faults after.source.faults × TookNoMore largest_input before after
-ErrorCauses Memory before after = TookNoMore largest_input before after
-
--- the answer to a question for a file that was not read
-abbrev pub answer_by : ReadingError → Answer
-answer_by (Missing name) = NoFile
-answer_by TooLarge = OverLimit
-answer_by Fault = Unanswered
-answer_by Memory = Unanswered
-
--- a name that is missing is the one that was asked for
-abbrev pub IsOfName : List ℕ → ReadingError → Type 0
-IsOfName name (Missing other) = other ≡ name
-IsOfName name error = ⊤
 
 -- a shelf was asked for files by their names, in the order of the names
 abbrev pub LinkDialogue : ShelfState → ShelfState → List (List ℕ) → List Question → Type 0
@@ -65,7 +41,7 @@ abbrev pub EndsMissing : List ℕ → List Question → Type 0
 EndsMissing name questions = (ends : EndsWith NoFile questions) × (ends.last.name ≡ name)
 
 -- where the reading ends: after all names, or at the file that was asked for last
-abbrev pub EndsReading : {A : Type 0} → List (List ℕ) → Result A ReadingError → List Question → Type 0
+abbrev pub EndsReading : {A : Type 0} → List (List ℕ) → Result A FileError → List Question → Type 0
 EndsReading names (Ok texts) questions = names_of questions ≡ names
 EndsReading names (Err (Missing name)) questions = EndsMissing name questions
 EndsReading names (Err TooLarge) questions = EndsWith OverLimit questions
@@ -75,7 +51,7 @@ EndsReading names (Err Memory) questions = ⊤
 -- Files were read by their names. There are questions and answers such that the result is that of the definitions by
 -- these answers.
 pub record Reads {A : Type 0} (see : A → List (List ℕ × List ℕ)) (names : List (List ℕ))
-    (result : Result A ReadingError) (before after : ShelfState) : Type 0 where
+    (result : Result A FileError) (before after : ShelfState) : Type 0 where
   pub questions : List Question
   pub dialogue : LinkDialogue before after names questions
   pub ends : EndsReading names result questions
@@ -83,7 +59,7 @@ pub record Reads {A : Type 0} (see : A → List (List ℕ × List ℕ)) (names :
       → Gives see result (read_by contents 0 names)
 
 -- the refusal of the definitions; a shelf that failed and want of memory have none
-abbrev pub refusal_of : ReadingError → Result FilesRefusal Status
+abbrev pub refusal_of : FileError → Result FilesRefusal Status
 refusal_of (Missing name) = Ok (spec.Missing name)
 refusal_of TooLarge = Ok spec.TooLarge
 refusal_of Fault = Err status.ReadFault

@@ -3,7 +3,6 @@
 
 mod asm;
 mod causes;
-mod error;
 mod file_text;
 mod link;
 mod modules;

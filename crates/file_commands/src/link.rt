@@ -11,11 +11,10 @@ ghost use Rattle.file_commands.specs.Reported.{LinkReported, LinkFails};
 ghost use Rattle.reports.specs.Answers.{answer, WantsMemory, Reported, error_answer};
 
 use crate::causes::missing_line;
-use crate::error::ReadingError;
 use crate::file_text::FileText;
 use crate::modules::modules_of;
 use crate::reading::read_files;
-use bench_shelf::{FileName, Shelf};
+use bench_shelf::{FileError, FileName, Shelf};
 use link_loader::link;
 use report_defs::Fault;
 use reports::{Report, Unreported};
@@ -48,14 +47,14 @@ pub fn link_files<F: Shelf>(
 }
 
 /// Why files are not read.
-fn unread(error: ReadingError) -> Unreported
+fn unread(error: FileError) -> Unreported
     ensures { error_answer result ≡ seen (λ refusal. files_report (Err refusal)) (refusal_of error) }
 {
     match error {
-        ReadingError::Missing(name) => Unreported::Refused(missing_line(name)),
-        ReadingError::TooLarge => Unreported::Fault(Fault::TooLarge),
-        ReadingError::Fault => Unreported::ReadFault,
-        ReadingError::Memory => Unreported::Memory,
+        FileError::Missing(name) => Unreported::Refused(missing_line(name)),
+        FileError::TooLarge => Unreported::Fault(Fault::TooLarge),
+        FileError::Fault => Unreported::ReadFault,
+        FileError::Memory => Unreported::Memory,
     }
 }
 

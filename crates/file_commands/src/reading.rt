@@ -1,12 +1,10 @@
 //! Files that are read whole, one after the other.
 
-ghost use Rattle.std.specs.Prelude.{◌≡◌, IfOk, IfErr, OnOk};
-ghost use Rattle.shelf_defs.specs.Questions.{Bytes};
-ghost use Rattle.bench_shelf.specs.Causes.{AsksOne, Later, TookNoMore};
+ghost use Rattle.std.specs.Prelude.{IfErr, OnOk};
+ghost use Rattle.bench_shelf.specs.Causes.{FileCauses, Later, TookNoMore};
 ghost use Rattle.report_defs.specs.Report.{largest_input};
-ghost use Rattle.file_commands.specs.Reading.{Reads, ErrorCauses, IsOfName, answer_by, defined_texts};
+ghost use Rattle.file_commands.specs.Reading.{Reads, defined_texts};
 
-use crate::error::ReadingError;
 use crate::file_text::FileText;
 use bench_shelf::{FileError, FileName, Shelf, read_named};
 use report_defs::LARGEST_INPUT;
@@ -18,44 +16,19 @@ pub(crate) fn read_files<F: Shelf>(
     alloc: Global,
     shelf: &mut F,
     names: &[FileName],
-) -> Result<Vec<FileText>, ReadingError>
+) -> Result<Vec<FileText>, FileError>
     ensures reads { Reads (λ texts. defined_texts texts.items) names.now result
         (F.shelf shelf.old) (F.shelf shelf.new) }
-    ensures causes { IfErr result (λ error. ErrorCauses error (F.shelf shelf.old) (F.shelf shelf.new)) }
+    ensures causes { IfErr result (λ error. FileCauses largest_input error (F.shelf shelf.old) (F.shelf shelf.new)) }
     ensures within { OnOk result (TookNoMore largest_input (F.shelf shelf.old) (F.shelf shelf.new)) }
     ensures later { Later (F.shelf shelf.old) (F.shelf shelf.new) }
 {
     let mut texts = Vec::new(alloc);
     for name in names {
-        match read_one(alloc, shelf, name) {
-            Ok(text) => texts.push(text)?,
+        match read_named(alloc, shelf, name, LARGEST_INPUT) {
+            Ok(bytes) => texts.push(FileText { name: *name, bytes })?,
             Err(error) => return Err(error),
         }
     }
     Ok(texts)
-}
-
-/// Reads the file of a name.
-fn read_one<F: Shelf>(
-    alloc: Global,
-    shelf: &mut F,
-    name: &FileName,
-) -> Result<FileText, ReadingError>
-    ensures given { IfOk result (λ text.
-        AsksOne largest_input text.name (Bytes text.bytes.items) (F.shelf shelf.old) (F.shelf shelf.new)) }
-    ensures refused { IfErr result (λ error.
-        AsksOne largest_input name.now (answer_by error) (F.shelf shelf.old) (F.shelf shelf.new)) }
-    ensures missed { IfErr result (IsOfName name.now) }
-    ensures name { IfOk result (λ text. text.name ≡ name.now) }
-    ensures causes { IfErr result (λ error. ErrorCauses error (F.shelf shelf.old) (F.shelf shelf.new)) }
-    ensures within { OnOk result (TookNoMore largest_input (F.shelf shelf.old) (F.shelf shelf.new)) }
-    ensures later { Later (F.shelf shelf.old) (F.shelf shelf.new) }
-{
-    match read_named(alloc, shelf, name, LARGEST_INPUT) {
-        Ok(bytes) => Ok(FileText { name: *name, bytes }),
-        Err(FileError::Missing) => Err(ReadingError::Missing(*name)),
-        Err(FileError::TooLarge) => Err(ReadingError::TooLarge),
-        Err(FileError::Fault) => Err(ReadingError::Fault),
-        Err(FileError::Memory) => Err(ReadingError::Memory),
-    }
 }

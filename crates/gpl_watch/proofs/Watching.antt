@@ -84,12 +84,12 @@ halted_by items z w u v reason (Err other) t =
     same_watching items (shown_by z.cpu.memory) (shown_by w.cpu.memory) (sym t.2.cells) (sym t.2.vdp)
 
 -- the first that holds, where the address that a session stands at was told
-pub first_told : (z : SessionState) (watched : List WatchedItem) (pc : ℕ) (o : Option ℕ)
+pub first_told : {z : SessionState} {watched : List WatchedItem} {pc : ℕ} {o : Option ℕ}
     → pc ≡ address_in z.ended z.machine → o ≡ first_kept (at_address pc (seen z)) watched
     → first_kept (seen z) watched ≡ o
-first_told z watched pc o e is = sym (is ∙ ap (λ (n : ℕ). first_kept (at_address n (seen z)) watched) e)
+first_told {z} {watched} e is = sym (is ∙ ap (λ (n : ℕ). first_kept (at_address n (seen z)) watched) e)
 
-module _ (items : List Item) (x y z : SessionState) (t u v made : ℕ) (watched : List WatchedItem)
+module _ {items : List Item} {x y : SessionState} {t u v made : ℕ} {watched : List WatchedItem} (z : SessionState)
     (p : Watching items x y t u made watched) where
   -- the state before the step
   before_is : seen y ≡ behind (seen x) made
@@ -102,7 +102,7 @@ module _ (items : List Item) (x y z : SessionState) (t u v made : ℕ) (watched 
   Made turn = Turned (shown_by y.machine.cpu.memory) 0 y.machine z.machine u v turn
 
   -- a step that stops
-  module _ (turn : Turn) (reason : Reason) (is : turn ≡ Stopped reason) (turned : Made turn)
+  module _ {turn : Turn} {reason : Reason} (is : turn ≡ Stopped reason) (turned : Made turn)
       (ended : z.ended ≡ ended_by turn) where
     abbrev stops : Made (Stopped reason)
     stops = subst Made is turned
@@ -126,7 +126,7 @@ module _ (items : List Item) (x y z : SessionState) (t u v made : ℕ) (watched 
         ∙ same_watching items (shown_by z.machine.cpu.memory) (seen z) refl refl)
 
   -- a step that is made
-  module _ (turn : Turn) (is : turn ≡ Stepped) (turned : Made turn) (ended : z.ended ≡ ended_by turn) where
+  module _ {turn : Turn} (is : turn ≡ Stepped) (turned : Made turn) (ended : z.ended ≡ ended_by turn) where
     more : Stepping (made + 1) (seen x) x.machine z.machine t v
     more = stepped made p.stepping z.machine v (subst Made is turned)
 
@@ -160,9 +160,8 @@ module _ (items : List Item) (x y z : SessionState) (t u v made : ℕ) (watched 
     }
 
     -- an item holds
-    pub hit_runs : (limit from number : ℕ) (change : Option (ℕ × ℕ)) (hit : Found)
-        → hit ≡ result.Hit (made + 1) from number change → Watches limit x z t v hit
-    hit_runs limit from number change hit is =
+    pub hit_runs : {limit from number : ℕ} {change : Option (ℕ × ℕ)} {hit : Found} → hit ≡ result.Hit (made + 1) from number change → Watches limit x z t v hit
+    hit_runs {limit} is =
         subst (Watches limit x z t v) (sym is) (
           within_bounds (made + 1) x z t v (made + 1)
               (subst (RunsTurns (seen x) (made + 1) x.machine z.machine t v (made + 1)) (sym runs_on)
@@ -170,12 +169,11 @@ module _ (items : List Item) (x y z : SessionState) (t u v made : ℕ) (watched 
           runs_on,
         )
 
-    pub hit_found : (place : ℕ) → first_kept (seen z) watched ≡ Some place → (limit : ℕ) (w : WatchedItem)
-        → made < limit → slice_get watched place ≡ Some w → (hit : Found) (from : ℕ) (shown : Option (ℕ × ℕ))
-        → hit ≡ result.Hit (made + 1) from (place + 1) shown → from ≡ address_in y.ended y.machine
+    pub hit_found : (place limit : ℕ) {w : WatchedItem} {hit : Found} {from : ℕ} {shown : Option (ℕ × ℕ)}
+        → first_kept (seen z) watched ≡ Some place → made < limit → slice_get watched place ≡ Some w → hit ≡ result.Hit (made + 1) from (place + 1) shown → from ≡ address_in y.ended y.machine
         → shown ≡ change_since w.item w.kept (seen z) → hit ≡ found items limit (seen x)
     unfolding hit_by
-    hit_found place first limit w less at hit from shown is from_is shown_is =
+    hit_found place limit {w} {hit} {from} {shown} first less at is from_is shown_is =
         is ∙ ap (λ n. result.Hit (made + 1) n (place + 1) shown) from_is
         ∙ ap (λ (c : Option (ℕ × ℕ)). result.Hit (made + 1) (seen y).pc (place + 1) c)
         (shown_is ∙ change_kept items (seen y) watched (seen z) place w p.kept at)
@@ -183,7 +181,7 @@ module _ (items : List Item) (x y z : SessionState) (t u v made : ℕ) (watched 
         (done_at_least (made + 1) limit (seen x) more.now more.steps_are (omega arith)))
 
 -- all steps were made, and no item held
-module _ (items : List Item) (limit made : ℕ) (x y : SessionState) (t u : ℕ) (watched : List WatchedItem)
+module _ {items : List Item} {limit made : ℕ} {x y : SessionState} {t u : ℕ} {watched : List WatchedItem}
     (all : made ≡ limit) (p : Watching items x y t u made watched) where
   all_made : Watching items x y t u limit watched
   all_made = subst (λ (m : ℕ). Watching items x y t u m watched) all p

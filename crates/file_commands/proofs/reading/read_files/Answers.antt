@@ -17,12 +17,10 @@ loop-name-preserved g c =
     take_more names i name (omega arith) ∙ ap (λ (x : List ℕ). take i names ++ x ∷ []) (sym c.name-item.is) in
     let items = c.in_ok-push-in-Ok.ensures.items in
     record {
-      read = read_more c.loop-name.texts.items _ _ _ c.loop-name.invariant.read c.in-Ok.text _ items c.in-Ok.ensures.given;
-      names = ap names_in items ∙ (names_more c.loop-name.texts.items c.in-Ok.text
-          ∙ (ap (λ (x : List ℕ). names_in c.loop-name.texts.items ++ x ∷ []) c.in-Ok.ensures.name
-          ∙ (ap (λ front. front ++ name ∷ []) c.loop-name.invariant.names ∙ sym next)));
+      read = read_more c.loop-name.texts.items _ _ _ c.loop-name.invariant.read _ _ items c.in-Ok.ensures.given;
+      names = ap names_in items ∙ (names_more c.loop-name.texts.items _ ∙ (ap (λ front. front ++ name ∷ []) c.loop-name.invariant.names ∙ sym next));
       within = omega (arith, c.loop-name.invariant.within, c.in-Ok.ensures.within);
-      later = later_then _ _ _ c.loop-name.invariant.later c.read_one.ensures.later;
+      later = later_then _ _ _ c.loop-name.invariant.later c.read_named.ensures.later;
     }
 
 pub returns-in-Err-clause-reads : goal.returns-in-Err-clause-reads
@@ -40,16 +38,14 @@ returns-in-Err-clause-causes g c =
 
 pub returns-in_err-push-in-Ok-clause-reads : goal.returns-in_err-push-in-Ok-clause-reads
 returns-in_err-push-in-Ok-clause-reads g c =
-    let state = g.F.Shelf.shelf in
     let names = c.args.names.now in
     let i = c.loop-name.name-index in
     let name = c.name-item.result in
-    let bytes = c.in-Ok.text.bytes.items in
-    let asks = subst (λ (n : List ℕ). AsksOne largest_input n (Bytes bytes) (state c.loop-name.shelf) (state c.read_one.new.shelf)) c.in-Ok.ensures.name c.in-Ok.ensures.given in
+    let bytes = c.in-Ok.bytes.items in
     memory_ran_out _ _ names (λ texts. defined_texts texts.items) c.from_residual.result c.from_residual.ensures.1
     (reads_kept c.loop-name.texts.items _ _ _ c.loop-name.invariant.read names name (drop (i + 1) names)
     (next_name names (names_in c.loop-name.texts.items) i name (omega arith) c.name-item.is c.loop-name.invariant.names)
-    (λ texts. defined_texts texts.items) bytes asks)
+    (λ texts. defined_texts texts.items) bytes c.in-Ok.ensures.given)
 
 pub returns-clause-reads : goal.returns-clause-reads
 returns-clause-reads g c =

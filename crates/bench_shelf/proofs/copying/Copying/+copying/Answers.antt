@@ -9,7 +9,7 @@ use Rattle.bench_shelf.specs.declared.copy_error.CopyCause.TheVariants as cause
 use Rattle.bench_shelf.specs.CopyAnswers.{defined_place}
 use Rattle.bench_shelf.proofs.CountLaws.{file_room}
 use Rattle.bench_shelf.proofs.FileLaws.{refuses_none, deep_copies, many_copies, copies_unread, copies_read}
-use Rattle.bench_shelf.proofs.SinceLaws.{causes_since, each_since}
+use Rattle.bench_shelf.proofs.SinceLaws.{causes_unread, causes_since, each_since}
 use Rattle.bench_shelf.proofs.Keeping.{within_then}
 use Rattle.bench_shelf.proofs.LoopLaws.{first_text, own_copies, own_refuses, asked_copies, all_taken, follows_first, follows_more, follows_end}
 use Rattle.bench_shelf.proofs.LoopLaws.{follows_refused, later_first, later_then, counts_first, counts_more, counts_grow}
@@ -18,12 +18,12 @@ use Rattle.bench_shelf.proofs.copying.Copying.+copying.Goals as goal
 pub copy_asked-returns-in-Ok-clause-copies : goal.copy_asked-returns-in-Ok-clause-copies
 copy_asked-returns-in-Ok-clause-copies g t c =
     own_copies c.args.levels _ c.args.self.now c.take.new.self (defined_place c.args.place) c.args.text.now None (sym c.in-Itself.ensures) c.take.ensures.copies tt
-    c.in-Ok.ensures.leads tt
+    c.in-Ok.ensures.leads
 
 pub copy_asked-returns-in-Err-clause-copies : goal.copy_asked-returns-in-Err-clause-copies
 copy_asked-returns-in-Err-clause-copies g t c =
     own_refuses c.args.levels _ c.args.self.now c.take.new.self (defined_place c.args.place) c.args.text.now c.args.place c.in-Err.failure c.failed.result
-    (sym c.failed.ensures) (sym c.in-Itself.ensures) c.take.ensures.copies c.in-Err.ensures.leads c.in-Err.ensures.stops
+    (sym c.failed.ensures) (sym c.in-Itself.ensures) c.take.ensures.copies c.in-Err.ensures.leads
 
 pub copy_asked-returns-in-File-clause-copies : goal.copy_asked-returns-in-File-clause-copies
 copy_asked-returns-in-File-clause-copies g t c =
@@ -47,8 +47,8 @@ copy_file-returns-then-self-ge-MOST_COPIES-clause-copies g t c =
 pub copy_file-returns-in-Err-clause-copies : goal.copy_file-returns-in-Err-clause-copies
 copy_file-returns-in-Err-clause-copies g t c =
     let some : 0 < c.args.levels = omega (arith, c.if-levels-eq0.false) in
-    copies_unread c.args.self.now c.args.levels c.args.place c.args.name some _ c.if-self-ge-MOST_COPIES.false _ _ c.in-Err.error refl
-    c.in-Err.ensures.refused c.in-Err.ensures.place (λ done holds. record { taken = holds.taken; places = holds.places; kept = holds.kept })
+    copies_unread c.args.self.now c.args.levels c.args.place c.args.name some _ c.if-self-ge-MOST_COPIES.false _ _ c.in-Err.error c.unread.result
+    c.unread.ensures refl c.in-Err.ensures.refused c.in-Err.ensures.missed (λ done holds. record { taken = holds.taken; places = holds.places; kept = holds.kept })
 
 pub copy_file-returns-clause-copies : goal.copy_file-returns-clause-copies
 copy_file-returns-clause-copies g t c =
@@ -57,9 +57,13 @@ copy_file-returns-clause-copies g t c =
     c.in-Ok.ensures.given c.in-Ok.ensures.size (λ done holds. record { taken = holds.taken; places = holds.places; kept = holds.kept }) _ _
     c.as_slice.ensures.value c.copy_lines.ensures.copies
 
+pub copy_file-returns-in-Err-clause-causes : goal.copy_file-returns-in-Err-clause-causes
+copy_file-returns-in-Err-clause-causes g t c =
+    causes_unread _ _ c.args.place c.in-Err.error c.unread.result c.unread.ensures c.in-Err.ensures.causes
+
 pub copy_file-returns-clause-causes : goal.copy_file-returns-clause-causes
 copy_file-returns-clause-causes g t c =
-    each_since _ _ _ c.read_copied.ensures.later c.in-Ok.ensures.within _ c.copy_lines.ensures.causes
+    each_since _ _ _ c.read_named.ensures.later c.in-Ok.ensures.within _ c.copy_lines.ensures.causes
 
 pub copy_lines-loop-line-init : goal.copy_lines-loop-line-init
 copy_lines-loop-line-init g t c =

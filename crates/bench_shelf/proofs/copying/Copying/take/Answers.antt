@@ -10,7 +10,7 @@ use Rattle.bench_shelf.specs.declared.copy_error.CopyCause.TheVariants.{Asm}
 use Rattle.bench_shelf.specs.Kept.{KeepsLine}
 use Rattle.bench_shelf.specs.Runs.{places_of}
 use Rattle.bench_shelf.specs.CopyAnswers.{defined_place, place_in, refused_at, CopyRefuses, IsOwnCause}
-use Rattle.bench_shelf.proofs.TakingLaws.{own_taken, own_refused, own_stops}
+use Rattle.bench_shelf.proofs.TakingLaws.{refusal_is, own_taken, own_refused}
 use Rattle.bench_shelf.proofs.copying.Copying.take.Goals as goal
 
 pub returns-in-Err-At-clause-leads : goal.returns-in-Err-At-clause-leads
@@ -18,18 +18,13 @@ returns-in-Err-At-clause-leads c done holds =
     let old = c.args.self.now in
     let place = place_in c.args.file.now c.args.line in
     let text = c.args.text.now in
-    let refuses = (c.in-Err-At.ensures (texts done) holds.taken).0 in
-    subst (λ (cause : AsmCause). CopyRefuses (refused_at place (Asm cause)) (laid_copied (prepend done (own_line (defined_place place) old.copies text))))
-    (sym c.in-Err-At.cause-is)
-    (own_refused old place text done _ c.in-Err-At.cause c.requires.going holds
-    (subst (λ error. RefusesAt error (laid check (numbered 1 (texts done ++ text ∷ [])))) c.in-Err-At.field-0-is refuses))
-
-pub returns-in-Err-At-clause-stops : goal.returns-in-Err-At-clause-stops
-returns-in-Err-At-clause-stops c done holds =
-    let text = c.args.text.now in
     let refuses = c.in-Err-At.ensures (texts done) holds.taken in
-    own_stops c.args.self.now _ (place_in c.args.file.now c.args.line) text done _ c.in-Err-At.cause c.requires.going holds
-    (subst (λ error. RefusesAt error (laid check (numbered 1 (texts done ++ text ∷ [])))) c.in-Err-At.field-0-is refuses.0) refuses.1 refl refl
+    let refused = own_refused old _ place text done _ c.in-Err-At.cause c.requires.going holds
+    (subst (λ error. RefusesAt error (laid check (numbered 1 (texts done ++ text ∷ [])))) c.in-Err-At.field-0-is refuses.0) refuses.1 refl refl in (
+      subst (λ (cause : AsmCause). CopyRefuses (refused_at place (Asm cause)) (laid_copied (prepend done (own_line (defined_place place) old.copies text))))
+          (sym c.in-Err-At.cause-is) refused.0,
+      refused.1,
+    )
 
 pub returns-in-Ok-keep_line-clause-leads : goal.returns-in-Ok-keep_line-clause-leads
 returns-in-Ok-keep_line-clause-leads c done holds =
@@ -59,6 +54,6 @@ pub returns-in-Err-At-clause-causes : goal.returns-in-Err-At-clause-causes
 returns-in-Err-At-clause-causes c =
     let held = c.requires.room.held in
     let refuses = (c.in-Err-At.ensures (texts held.0) held.1.taken).0 in
-    let is = own_refused c.args.self.now (place_in c.args.file.now c.args.line) c.args.text.now held.0 _ c.in-Err-At.cause c.requires.going held.1
+    let own = refusal_is _ c.in-Err-At.cause _
     (subst (λ error. RefusesAt error (laid check (numbered 1 (texts held.0 ++ c.args.text.now ∷ [])))) c.in-Err-At.field-0-is refuses) in
-    subst IsOwnCause (sym c.in-Err-At.cause-is) is.0
+    subst IsOwnCause (sym c.in-Err-At.cause-is) own.0
