@@ -16,7 +16,7 @@ use Rattle.shelf_defs.specs.Assembly.{in_place, laid_copied, module_of_files}
 use Rattle.report_defs.specs.declared.fault.Fault.TheVariants as fault
 use Rattle.report_defs.specs.Report.{Report, Faulty, largest_input, status_of}
 use Rattle.report_defs.specs.FileReports.{copy_report, AsmReport}
-use Rattle.asm_list_defs.specs.Listed.{Listing, listing, listing_by, listing_behind}
+use Rattle.asm_list_defs.specs.Listed.{listing, listing_by, listing_behind}
 use Rattle.asm_list_defs.specs.Rows.{listing_rows}
 use Rattle.debug_report_defs.specs.Listings.{rows_report, list_report}
 use Rattle.debug_report_defs.specs.Laws.{told_of, ListRefusesAsAsm}
