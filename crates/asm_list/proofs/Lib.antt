@@ -1,0 +1,2 @@
+mod ListingLaws
+mod RowLaws
