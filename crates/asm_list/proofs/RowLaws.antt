@@ -4,7 +4,8 @@ use Rattle.std.proofs.lemmas.Bool.Decides.{nat_tests}
 use Rattle.std.proofs.lemmas.List.{drop_all, length-drop}
 use Rattle.asm_defs.specs.declared.location.Location.{Location}
 use Rattle.shelf_defs.specs.Files.{is_file_name}
-use Rattle.asm_list_defs.specs.Rows.{row_below, rows_below, eight_on}
+use Rattle.shelf_defs.specs.Copied.{PlacedLine}
+use Rattle.asm_list_defs.specs.Rows.{first_row, row_below, rows_below, rows_of, eight_on}
 use Rattle.asm_list.specs.Adding.{below}
 
 pub short_name : (name : List ℕ) → is_file_name name ≡ true → length name ≤ 60
@@ -43,3 +44,9 @@ one_row at (byte ∷ text) some =
 -- those behind the first row of a line
 pub rows_are : (at : Location) (text : List ℕ) → rows_below (length text) at (drop 24 text) ≡ below at (drop 24 text)
 rows_are at text = let left = length-drop 24 text in rows_enough (length text) (length (drop 24 text)) at (drop 24 text) (omega (arith, left)) (omega arith)
+
+pub shorter : (text : List ℕ) → 0 < length text → length (drop 24 text) < length text
+shorter text some = let left = length-drop 24 text in omega (arith, some, left)
+
+pub line_by : (line : PlacedLine) (at : Location) (text : List ℕ) → rows_of line at text ≡ first_row line at (take 24 text) ∷ below (eight_on at) (drop 24 text)
+line_by line at text = ap (λ rows. first_row line at (take 24 text) ∷ rows) (rows_are (eight_on at) text)

@@ -1,6 +1,7 @@
 -- The rows of kept lines, as they are added to others.
 use Rattle.std.specs.Prelude.{◌≡◌, ℕ, ◌-◌, List, ◌++◌, length, map, take, Option, Some, None}
 use Rattle.std.specs.List.{flat_map}
+use Rattle.std.specs.Option.{option_map}
 use Rattle.std.proofs.Common.{Vec, Global}
 use Rattle.source_defs.specs.Symbols.{Names, look_up}
 use Rattle.asm_defs.specs.declared.location.Location.{Location}
@@ -8,7 +9,7 @@ use Rattle.asm_defs.specs.Statements.{Statement}
 use Rattle.asm_defs.specs.SecondChecks.{Outcome, outcome}
 use Rattle.shelf_defs.specs.Copied.{PlacedLine}
 use Rattle.asm_list_defs.specs.Listed as listed
-use Rattle.asm_list_defs.specs.Listed.{found_or, names_of_line}
+use Rattle.asm_list_defs.specs.Listed.{ListedName, found_or, names_of_line}
 use Rattle.asm_list_defs.specs.Rows.{outcome_text, lines_rows, rows_below, name_row}
 use Rattle.asm_list_defs.specs.ByText.{shown_line, names_text}
 use Rattle.bench_shelf.specs.Kept.{defined_kept}
@@ -16,11 +17,16 @@ use Rattle.bench_shelf.specs.declared.copy_error.CopyError.{CopyError}
 use Rattle.bench_shelf.specs.declared.kept_line.KeptLine.{KeptLine}
 use Rattle.bench_shelf.specs.declared.listed.ListedEnding.{ListedEnding}
 use Rattle.bench_shelf.specs.declared.listed.ListedEnding.TheVariants.{Whole, Behind, Before}
+use Rattle.asm_list.specs.declared.shown.Lister.{Lister}
 use Rattle.asm_list.specs.declared.shown.Shown.{Shown}
 
 -- texts as lists of their bytes
 abbrev pub texts_in : List (Vec ℕ Global) → List (List ℕ)
 texts_in texts = map (λ text. text.items) texts
+
+-- what each name stands for, where all names are known
+abbrev pub known_to : Lister → Option Names
+known_to lister = option_map (λ names. names.now) lister.names
 
 -- what is shown of a line: its place, and the text of what it places
 pub record Shows (shown : Shown) (defined : listed.Shown) : Type 0 where
@@ -37,6 +43,9 @@ rows_by_names known lines = lines_rows None (map (listed_line known) lines)
 -- a kept line with the names that it defines
 abbrev pub named_line : KeptLine → PlacedLine × List (List ℕ)
 named_line kept = (defined_kept kept, names_text kept.text.items)
+
+abbrev pub named_rows : Names → KeptLine → List (List ℕ) → List ListedName
+named_rows known kept names = names_of_line known (defined_kept kept, names)
 
 abbrev pub rows_of_names : Names → List KeptLine → List (List ℕ)
 rows_of_names known lines = map name_row (flat_map (names_of_line known) (map named_line lines))

@@ -1,36 +1,61 @@
 //! The rows of lines.
 
 ghost use Rattle.std.specs.Prelude.{◌≡◌, ◌≤◌, ◌<◌, ◌+◌, ◌^◌, ◌++◌, ◌∷◌, [], OnOk, length, take, drop};
-ghost use Rattle.std.specs.Option.{option_map};
 ghost use Rattle.asm_list_defs.specs.Rows as spec;
 ghost use Rattle.bench_shelf.specs.Kept.{defined_kept};
-ghost use Rattle.asm_list.specs.Adding.{texts_in, listed_line, rows_by_names, below};
+ghost use Rattle.asm_list.specs.Adding.{texts_in, known_to, listed_line, rows_by_names, below};
 
 use crate::rows::{PLACED_COLUMNS, file_row, first_row, row_below};
-use crate::shown::{Shown, shown_line};
+use crate::shown::{Lister, Shown};
 use asm_defs::Location;
-use asm_text::Symbols;
 use bench_shelf::{FileName, KeptLine};
 use std::alloc::{AllocError, Global};
 
-/// Appends the rows of lines, with what they place by all names, where these are known.
-pub(crate) fn put_lines(
+impl Lister<'_> {
+    /// Appends the rows of lines.
+    pub(crate) fn put_lines(
+        &self,
+        lines: &[KeptLine],
+        rows: &mut Vec<Vec<u8>>,
+    ) -> Result<(), AllocError>
+        ensures { OnOk result (texts_in rows.new.items
+            ≡ texts_in rows.old.items ++ rows_by_names (known_to self.now) lines.now) }
+    {
+        let mut before = None;
+        let mut rest = lines;
+        while let [line, others @ ..] = rest {
+            put_file(self.alloc, &before, &line.file, rows)?;
+            self.put_line(line, rows)?;
+            before = line.file;
+            rest = others;
+        }
+        Ok(())
+    }
+
+    /// Appends the rows of a line.
+    fn put_line(&self, line: &KeptLine, rows: &mut Vec<Vec<u8>>) -> Result<(), AllocError>
+        ensures { OnOk result (texts_in rows.new.items
+            ≡ texts_in rows.old.items ++ spec.line_rows (listed_line (known_to self.now) line.now)) }
+    {
+        let shown = self.shown_line(line)?;
+        put_shown(self.alloc, line, &shown, rows)?;
+        Ok(())
+    }
+}
+
+/// Appends the rows of a line with what is shown of it.
+fn put_shown(
     alloc: Global,
-    known: Option<&Symbols>,
-    lines: &[KeptLine],
+    line: &KeptLine,
+    shown: &Shown,
     rows: &mut Vec<Vec<u8>>,
 ) -> Result<(), AllocError>
     ensures { OnOk result (texts_in rows.new.items
-        ≡ texts_in rows.old.items ++ rows_by_names (option_map (λ names. names.now) known) lines.now) }
+        ≡ texts_in rows.old.items ++ spec.rows_of (defined_kept line.now) shown.now.at shown.now.placed.items) }
 {
-    let mut before = None;
-    let mut rest = lines;
-    while let [line, others @ ..] = rest {
-        put_file(alloc, &before, &line.file, rows)?;
-        put_line(alloc, known, line, rows)?;
-        before = line.file;
-        rest = others;
-    }
+    let text = shown.placed.as_slice();
+    push_row(rows, first_row(alloc, line, shown.at, first_part(text))?)?;
+    put_below(alloc, eight_on(shown.at), further_part(text), rows)?;
     Ok(())
 }
 
@@ -60,23 +85,8 @@ fn same_file(one: &Option<FileName>, other: &Option<FileName>) -> bool
     }
 }
 
-/// Appends the rows of a line.
-fn put_line(
-    alloc: Global,
-    known: Option<&Symbols>,
-    line: &KeptLine,
-    rows: &mut Vec<Vec<u8>>,
-) -> Result<(), AllocError>
-    ensures { OnOk result (texts_in rows.new.items
-        ≡ texts_in rows.old.items ++ spec.line_rows (listed_line (option_map (λ names. names.now) known) line.now)) }
-{
-    let Shown { at, placed } = shown_line(alloc, known, line)?;
-    let text = placed.as_slice();
-    push_row(rows, first_row(alloc, line, at, first_part(text))?)?;
-    put_below(alloc, eight_on(at), further_part(text), rows)
-}
-
 /// Appends the rows below a line.
+#[tactic(auto, using(std::proofs::Common::append_assoc, crate::proofs::RowLaws::one_row, crate::proofs::RowLaws::shorter))]
 fn put_below(
     alloc: Global,
     at: Location,

@@ -7,8 +7,8 @@ ghost use Rattle.bench_shelf.specs.Listed.{IsUntold};
 ghost use Rattle.asm_list.specs.Adding.{texts_in, all_rows, refused_in};
 ghost use Rattle.asm_list.specs.Listings.{rows_of, ListingAnswered, ListingCauses};
 
-use crate::lines::put_lines;
 use crate::names::put_names;
+use crate::shown::Lister;
 use bench_io::{Failed, Sink, put_piece};
 use bench_shelf::{CopyError, KeptLine, ListedEnding, Shelf, copy_listed};
 use std::alloc::{AllocError, Global};
@@ -63,13 +63,24 @@ fn all_rows(
     let mut rows = Vec::new(alloc);
     match ending {
         ListedEnding::Whole(names) => {
-            put_lines(alloc, Some(names), lines, &mut rows)?;
+            let lister = Lister {
+                alloc,
+                names: Some(names),
+            };
+            lister.put_lines(lines, &mut rows)?;
             put_names(alloc, names, lines, &mut rows)?;
         }
         ListedEnding::Behind { names, number, .. } => {
-            put_lines(alloc, Some(names), lines_before(lines, *number), &mut rows)?;
+            let lister = Lister {
+                alloc,
+                names: Some(names),
+            };
+            lister.put_lines(lines_before(lines, *number), &mut rows)?;
         }
-        ListedEnding::Before(_) => put_lines(alloc, None, lines, &mut rows)?,
+        ListedEnding::Before(_) => {
+            let lister = Lister { alloc, names: None };
+            lister.put_lines(lines, &mut rows)?;
+        }
     }
     Ok(rows)
 }

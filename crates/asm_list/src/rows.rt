@@ -4,6 +4,7 @@ ghost use Rattle.std.specs.Prelude.{◌≡◌, ◌≤◌, ◌+◌, ◌%◌, ◌+
 ghost use Rattle.std.specs.Option.{option_map};
 ghost use Rattle.arrayvec.specs.ArrayVec.{array_vec_len};
 ghost use Rattle.asm_text.specs.GivenValues.{defined_value};
+ghost use Rattle.object_defs.specs.Digits.{padded};
 ghost use Rattle.asm_list_defs.specs.Rows as spec;
 ghost use Rattle.bench_shelf.specs.Kept.{defined_kept};
 
@@ -131,6 +132,17 @@ fn append_placed(line: &mut Line, at: Location, text: &[u8])
     ensures len { array_vec_len line.new ≡ array_vec_len line.old + 31 }
 {
     append_place(line, at);
+    append_columns(line, text);
+}
+
+/// Appends what is placed, in 24 columns.
+#[tactic(auto, using(std::proofs::Common::append_assoc))]
+fn append_columns(line: &mut Line, text: &[u8])
+    requires room { array_vec_len line.old + 24 ≤ 192 }
+    requires few { length text.now ≤ 24 }
+    ensures text { line.new.items ≡ line.old.items ++ padded 24 text.now }
+    ensures len { array_vec_len line.new ≡ array_vec_len line.old + 24 }
+{
     append(line, text);
     append(line, &PLACED_BLANKS[text.len()..]);
 }

@@ -1,7 +1,6 @@
 //! What is shown of a line: its place, and what it places.
 
 ghost use Rattle.std.specs.Prelude.{◌≡◌, ◌≤◌, IfOk, not};
-ghost use Rattle.std.specs.Option.{option_map};
 ghost use Rattle.asm_defs.specs.Memory as memory;
 ghost use Rattle.asm_defs.specs.Statements as said;
 ghost use Rattle.asm_checks.specs.Answers.{Gives};
@@ -9,7 +8,7 @@ ghost use Rattle.asm_checks.specs.Defined.{defined_statement, KeepsSkeleton, Nam
 ghost use Rattle.asm_checks.specs.Moves.{MovesLittle};
 ghost use Rattle.asm_list_defs.specs.ByText as spec;
 ghost use Rattle.asm_list_defs.specs.Rows.{outcome_text};
-ghost use Rattle.asm_list.specs.Adding.{Shows, found_in};
+ghost use Rattle.asm_list.specs.Adding.{Shows, found_in, known_to};
 
 use crate::text::outcome_text;
 use asm_checks::{Failure, Scope, Statement, behind, statement_in};
@@ -27,22 +26,61 @@ pub(crate) struct Shown {
     pub(crate) placed: Vec<u8>,
 }
 
-/// What is shown of a line, with what it places by all names, where these are known.
-pub(crate) fn shown_line(
-    alloc: Global,
-    known: Option<&Symbols>,
-    line: &KeptLine,
-) -> Result<Shown, AllocError>
-    ensures { IfOk result (λ shown. Shows shown
-        (spec.shown_line (option_map (λ names. names.now) known) (line.now.here, line.now.text.items))) }
-{
-    match said_of(line.text.as_slice()) {
-        Ok(statement) => shown_statement(alloc, known, line.here, &statement),
-        Err(Failure::Refused(_)) => Ok(Shown {
-            at: line.here,
-            placed: Vec::new(alloc),
-        }),
-        Err(Failure::Memory) => Err(AllocError),
+/// How lines are listed.
+#[derive(Clone, Copy)]
+pub(crate) struct Lister<'a> {
+    /// What gives memory.
+    pub(crate) alloc: Global,
+    /// What each name stands for, where all names are known: what lines place is listed then.
+    pub(crate) names: Option<&'a Symbols>,
+}
+
+impl Lister<'_> {
+    /// What is shown of a line.
+    pub(crate) fn shown_line(&self, line: &KeptLine) -> Result<Shown, AllocError>
+        ensures { IfOk result (λ shown.
+            Shows shown (spec.shown_line (known_to self.now) (line.now.here, line.now.text.items))) }
+    {
+        match said_of(line.text.as_slice()) {
+            Ok(statement) => self.shown_statement(line.here, &statement),
+            Err(Failure::Refused(_)) => Ok(Shown {
+                at: line.here,
+                placed: Vec::new(self.alloc),
+            }),
+            Err(Failure::Memory) => Err(AllocError),
+        }
+    }
+
+    /// What is shown of what a line says, at the location before it.
+    #[tactic(auto, unfolding(asm_list_defs::specs::Rows::outcome_text))]
+    fn shown_statement(
+        &self,
+        here: Location,
+        statement: &Statement<'_>,
+    ) -> Result<Shown, AllocError>
+        requires here { here.number ≤ 65536 }
+        requires little { MovesLittle statement.now }
+        requires names { NamesOnly statement.now }
+        requires skeleton { KeepsSkeleton statement.now }
+        ensures { IfOk result (λ shown.
+            Shows shown (spec.shown_said (known_to self.now) here (defined_statement statement.now))) }
+    {
+        let at = place_said(here, statement);
+        match self.names {
+            Some(symbols) => {
+                let scope = Scope {
+                    alloc: self.alloc,
+                    symbols,
+                    at,
+                };
+                let placed = placed_text(&scope, statement)?;
+                Ok(Shown { at, placed })
+            }
+            None => Ok(Shown {
+                at,
+                placed: Vec::new(self.alloc),
+            }),
+        }
     }
 }
 
@@ -57,31 +95,6 @@ fn said_of(text: &[u8]) -> Result<Statement<'_>, Failure>
         Ok(found) => statement_in(text, &found),
         Err(error) => Err(Failure::Refused(AsmCause::Text(error))),
     }
-}
-
-/// What is shown of what a line says, at the location before it.
-fn shown_statement(
-    alloc: Global,
-    known: Option<&Symbols>,
-    here: Location,
-    statement: &Statement<'_>,
-) -> Result<Shown, AllocError>
-    requires here { here.number ≤ 65536 }
-    requires little { MovesLittle statement.now }
-    requires names { NamesOnly statement.now }
-    requires skeleton { KeepsSkeleton statement.now }
-    ensures { IfOk result (λ shown. Shows shown
-        (spec.shown_said (option_map (λ names. names.now) known) here (defined_statement statement.now))) }
-{
-    let at = place_said(here, statement);
-    let placed = match known {
-        Some(symbols) => {
-            let scope = Scope { alloc, symbols, at };
-            placed_text(&scope, statement)?
-        }
-        None => Vec::new(alloc),
-    };
-    Ok(Shown { at, placed })
 }
 
 /// The place of a line, by the location before it.
@@ -99,6 +112,7 @@ fn place_said(here: Location, statement: &Statement<'_>) -> Location
 }
 
 /// The text of what a line places by all names, at its place.
+#[tactic(auto, using(crate::proofs::ShownLaws::dummy_text, crate::proofs::ShownLaws::refused_text))]
 fn placed_text(scope: &Scope<'_>, statement: &Statement<'_>) -> Result<Vec<u8>, AllocError>
     requires at { scope.now.at.number ≤ 65536 }
     requires little { MovesLittle statement.now }

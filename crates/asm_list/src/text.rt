@@ -29,8 +29,10 @@ fn words_text(alloc: Global, words: &[Word]) -> Result<Vec<u8>, AllocError>
     ensures { IfOk result (λ text. text.items ≡ flat_map spec.word_text (defined_words words.now)) }
 {
     let mut text = Vec::new(alloc);
-    for word in words {
+    let mut rest = words;
+    while let [word, others @ ..] = rest {
         text.extend_from_slice(&word_text(word))?;
+        rest = others;
     }
     Ok(text)
 }
@@ -53,8 +55,10 @@ fn bytes_text(alloc: Global, bytes: &[u8]) -> Result<Vec<u8>, AllocError>
     ensures { IfOk result (λ text. text.items ≡ flat_map spec.byte_text bytes.now) }
 {
     let mut text = Vec::new(alloc);
-    for &byte in bytes {
-        text.extend_from_slice(&byte_text(byte))?;
+    let mut rest = bytes;
+    while let [byte, others @ ..] = rest {
+        text.extend_from_slice(&byte_text(*byte))?;
+        rest = others;
     }
     Ok(text)
 }
