@@ -105,7 +105,7 @@ $ link ONE
 ? ReadFault
 "#;
 
-/// Whether a file of one byte more than it may have is too large, for `asm` and for `link`.
+/// Whether a file of one byte more than it may have is too large, for `asm`, `list` and `link`.
 fn too_large_is_told(
     alloc: Global,
     words: &[&[u8]],
@@ -126,6 +126,7 @@ fn too_large_is_told(
 fn files_are_copied_and_linked_by_their_names(rt: HostRuntime) -> Result<(), Fail> {
     assert!(rt;
         too_large_is_told(rt.alloc(), &[b"asm"], b" COPY 'BIG'\n", 262145)?
+            && too_large_is_told(rt.alloc(), &[b"list"], b" COPY 'BIG'\n", 262145)?
             && too_large_is_told(rt.alloc(), &[b"link", b"BIG"], b"", 1048577)?
     );
     Ok(())

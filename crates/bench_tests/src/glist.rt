@@ -102,5 +102,5 @@ $ glist
 % a word too many
 $ glist 5
 ? Usage
-e usage: ti_debug glist|gsteps N|steps N
+e usage: ti_debug glist|list|gsteps N|steps N
 "#;

@@ -135,15 +135,15 @@ e no entry
 % more steps than there may be
 $ gsteps 100001
 ? Usage
-e usage: ti_debug glist|gsteps N|steps N
+e usage: ti_debug glist|list|gsteps N|steps N
 
 % a leading zero
 $ gsteps 05
 ? Usage
-e usage: ti_debug glist|gsteps N|steps N
+e usage: ti_debug glist|list|gsteps N|steps N
 
 % a word too many
 $ gsteps 5 5
 ? Usage
-e usage: ti_debug glist|gsteps N|steps N
+e usage: ti_debug glist|list|gsteps N|steps N
 "#;

@@ -31,6 +31,8 @@ mod interp;
 #[cfg(test)]
 mod link;
 #[cfg(test)]
+mod list;
+#[cfg(test)]
 mod rows;
 #[cfg(test)]
 mod run;

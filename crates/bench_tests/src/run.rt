@@ -44,7 +44,7 @@ pub(crate) fn run(
     run_with(alloc, words, input, &mut shelf, take_fails, put_fails)
 }
 
-/// The same over a shelf. The words `glist`, `gsteps` and `steps` are those of `ti_debug`.
+/// The same over a shelf. The words `glist`, `list`, `gsteps` and `steps` are those of `ti_debug`.
 pub(crate) fn run_with(
     alloc: Global,
     words: &[&[u8]],
@@ -58,7 +58,7 @@ pub(crate) fn run_with(
     let mut out = MemSink::new(alloc, 16384, Vec::from_slice(alloc, put_fails)?)?;
     let mut err = MemSink::new(alloc, 16384, Vec::from_slice(alloc, put_fails)?)?;
     let status = if is_debug_command(words) {
-        debug(alloc, &list, &mut input, &mut out, &mut err)
+        debug(alloc, &list, &mut input, shelf, &mut out, &mut err)
     } else {
         bench_with(alloc, &list, &mut input, shelf, &mut out, &mut err)
     };
@@ -74,6 +74,7 @@ pub(crate) fn run_with(
 fn is_debug_command(words: &[&[u8]]) -> bool {
     match words {
         [name, ..] => *name == b"glist".as_slice()
+            || *name == b"list".as_slice()
             || *name == b"gsteps".as_slice()
             || *name == b"steps".as_slice(),
         [] => false,

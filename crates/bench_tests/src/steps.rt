@@ -161,10 +161,10 @@ e line 1: short field
 % more instructions than there may be
 $ steps 10000001
 ? Usage
-e usage: ti_debug glist|gsteps N|steps N
+e usage: ti_debug glist|list|gsteps N|steps N
 
 % no number
 $ steps
 ? Usage
-e usage: ti_debug glist|gsteps N|steps N
+e usage: ti_debug glist|list|gsteps N|steps N
 "#;

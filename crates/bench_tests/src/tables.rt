@@ -2,8 +2,8 @@
 
 use super::rows::failed_rows;
 use super::{
-    asm, dis, exec, files, gasm, gdis, glist, gpl_programs, gpl_rows, gsteps, link, steps, trace,
-    watch,
+    asm, dis, exec, files, gasm, gdis, glist, gpl_programs, gpl_rows, gsteps, link, list, steps,
+    trace, watch,
 };
 use std::test::Fail;
 
@@ -20,6 +20,7 @@ const TABLES: &[&str] = &[
     gpl_rows::ROWS,
     gsteps::ROWS,
     link::ROWS,
+    list::ROWS,
     steps::ROWS,
     trace::ROWS,
     watch::ROWS,

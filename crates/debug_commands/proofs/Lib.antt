@@ -1,3 +1,6 @@
 mod Listed
+mod ListLaws
 mod Ends
+mod Shelved
+mod Taking
 pub mod Laws

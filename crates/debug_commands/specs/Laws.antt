@@ -3,20 +3,24 @@ use Rattle.interp_build_defs.specs.Interpreter.{SourceGivesWords}
 use Rattle.interp_defs.specs.Machines.{MachinesMatchSteps}
 use Rattle.reports.specs.RunLaws.{LawsOfProgram}
 use Rattle.gpl_list_defs.specs.Laws.{ListingsGivePrograms}
+use Rattle.asm_list_defs.specs.Laws.{ListingsShowModules}
 use Rattle.machine_change_defs.specs.Laws.{ChangesGiveMemory}
-use Rattle.debug_report_defs.specs.Laws.{DebugFrontsBeginReports, LinesGiveStates}
+use Rattle.debug_report_defs.specs.Laws.{DebugFrontsBeginReports, ListRefusesAsAsm, LinesGiveStates}
 use Rattle.debug_commands.specs.Debug.{debug_program}
 
 -- There is at most one report, it was written whole if nothing fails, and two runs alike end alike. What is written
--- before the end of a report is known begins the report. The bytes of the rows of a listing at their addresses are the
--- image of the source, and its names are those of the source. The changes that are read from the lines give the states,
--- and those of the lines of instructions give the memory.
+-- before the end of a report is known begins the report. The bytes of the rows of a listing of a GPL source at their
+-- addresses are the image of the source, and its names are those of the source. The listing of an assembler source that
+-- is accepted shows its module, and one that `asm` refuses is refused by the same fault line. The changes that are read
+-- from the lines give the states, and those of the lines of instructions give the memory.
 -- The words that the machine holds are the linked memory of the interpreter's source, and the machine after the first i
 -- turns of a program that is run matches its state after i steps, for each i up to the last.
 pub record LawsOfDebugRuns : Type 0 where
   pub runs : LawsOfProgram debug_program
   pub fronts : DebugFrontsBeginReports
   pub listings : ListingsGivePrograms
+  pub modules : ListingsShowModules
+  pub refusals : ListRefusesAsAsm
   pub states : LinesGiveStates
   pub memory : ChangesGiveMemory
   pub interpreter : SourceGivesWords

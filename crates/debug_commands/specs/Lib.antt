@@ -1,4 +1,5 @@
 pub mod Answered
 pub mod Gsteps
+pub mod Listed
 pub mod Debug
 pub mod Laws

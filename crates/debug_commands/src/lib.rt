@@ -1,8 +1,9 @@
-//! `ti_debug`: its commands, over any input and outputs.
+//! `ti_debug`: its commands, over an input, a shelf of files and two outputs.
 #![tactic(auto)]
 
 mod glist;
 mod gsteps;
+mod list;
 mod running;
 mod words;
 

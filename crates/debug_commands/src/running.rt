@@ -1,15 +1,18 @@
-//! The program, over any input and outputs.
+//! The program, over any input, shelf and outputs.
 
 ghost use Rattle.std.specs.Prelude.{Some};
 ghost use Rattle.debug_report_defs.specs.Words.{debug_command, KeepsLimit};
+ghost use Rattle.bench_shelf.specs.Causes.{Later};
 ghost use Rattle.reports.specs.Run.{EndsBy};
-ghost use Rattle.debug_commands.specs.Debug.{debug_program};
+ghost use Rattle.debug_commands.specs.Debug.{TakesOfShelf, debug_program};
 ghost use Rattle.debug_commands.specs.Laws.{LawsOfDebugRuns};
 
 use crate::glist::glist;
 use crate::gsteps::gsteps;
+use crate::list::list;
 use crate::words::{read_debug_command, usage};
 use bench_io::{Sink, Source, read_all};
+use bench_shelf::Shelf;
 use command_words::Words;
 use debug_report_defs::DebugCommand;
 use report_defs::{LARGEST_INPUT, Status};
@@ -17,31 +20,34 @@ use reports::{finish, tell};
 use std::alloc::Global;
 use steps_command::steps;
 
-/// Runs the command that the words say. It reads all of `input` before it writes, writes the report to `out`, or a
-/// fault line or the usage line to `err`, and takes all its memory before the first byte is written. The line of a step
-/// is written once the step is made.
+/// Runs the command that the words say. It reads all of `input` before it writes, and `list` reads the files that the
+/// source copies from `shelf` then. It writes the report to `out`, or a fault line or the usage line to `err`, and takes
+/// all its memory before the first byte is written. The line of a step is written once the step is made.
 ///
-/// The contract says of each status its cause, and what the input and the outputs are then; that if the bytes of the
-/// input are shown and nothing fails, there is one report on them, which was written whole, and the status is its own,
-/// or out of memory; that the words which the machine holds are the linked memory of the interpreter's source, and that
+/// The contract says of each status its cause, and what the input, the shelf and the outputs are then; that if what the
+/// command reads is shown (the bytes of the input, and to `list` the files of the shelf too) and nothing fails, there is
+/// one report on it, which was written whole, and the status is its own, or out of memory; how many bytes are taken of
+/// the shelf at most; that the words which the machine holds are the linked memory of the interpreter's source, and that
 /// for each i up to the last step of a program that is run the machine after the first i turns matches its state after
 /// i steps; that the changes which are read from the lines of the first i steps, made in the first state, give the
-/// state after i steps; and that the bytes of the rows of a listing, at their addresses, are the image of its source,
-/// and its names those of the source; and that the changes of the lines of the first i instructions, made in the first
-/// memory, give the memory after i instructions.
+/// state after i steps; that the bytes of the rows of a listing of a GPL source, at their addresses, are the image of
+/// its source, and its names those of the source; that the listing of an assembler source which is accepted shows its
+/// module, and that one which is refused has the fault line of `asm`; and that the changes of the lines of the first i
+/// instructions, made in the first memory, give the memory after i instructions.
 #[tactic(auto, using(crate::proofs::Laws::laws))]
-pub fn debug<S: Source, O: Sink, E: Sink>(
+pub fn debug<S: Source, F: Shelf, O: Sink, E: Sink>(
     alloc: Global,
     words: &Words,
     input: &mut S,
+    shelf: &mut F,
     out: &mut O,
     err: &mut E,
 ) -> Status
     ensures laws { LawsOfDebugRuns }
     ensures ends { EndsBy debug_program (record {
       said = debug_command words.now;
-      before = S.state input.old;
-      after = S.state input.new;
+      before = record { input = S.state input.old; shelf = F.shelf shelf.old };
+      after = record { input = S.state input.new; shelf = F.shelf shelf.new };
       outputs = record {
         out = O.state out.old;
         out' = O.state out.new;
@@ -49,26 +55,29 @@ pub fn debug<S: Source, O: Sink, E: Sink>(
         err' = E.state err.new;
       };
     }) result }
+    ensures shelf { TakesOfShelf (debug_command words.now) (F.shelf shelf.old) (F.shelf shelf.new) }
+    ensures later { Later (F.shelf shelf.old) (F.shelf shelf.new) }
 {
     match read_debug_command(words) {
-        Some(command) => run_debug_command(alloc, command, input, out, err),
+        Some(command) => run_debug_command(alloc, command, input, shelf, out, err),
         None => tell(usage(), Status::Usage, err),
     }
 }
 
 /// Runs a command. The run ends as [`debug`] does under words that say it.
-fn run_debug_command<S: Source, O: Sink, E: Sink>(
+fn run_debug_command<S: Source, F: Shelf, O: Sink, E: Sink>(
     alloc: Global,
     command: DebugCommand,
     input: &mut S,
+    shelf: &mut F,
     out: &mut O,
     err: &mut E,
 ) -> Status
     requires { KeepsLimit command }
-    ensures { EndsBy debug_program (record {
+    ensures ends { EndsBy debug_program (record {
       said = Some command;
-      before = S.state input.old;
-      after = S.state input.new;
+      before = record { input = S.state input.old; shelf = F.shelf shelf.old };
+      after = record { input = S.state input.new; shelf = F.shelf shelf.new };
       outputs = record {
         out = O.state out.old;
         out' = O.state out.new;
@@ -76,6 +85,7 @@ fn run_debug_command<S: Source, O: Sink, E: Sink>(
         err' = E.state err.new;
       };
     }) result }
+    ensures later { Later (F.shelf shelf.old) (F.shelf shelf.new) }
 {
     let bytes = match read_all(alloc, input, LARGEST_INPUT) {
         Ok(bytes) => bytes,
@@ -84,6 +94,7 @@ fn run_debug_command<S: Source, O: Sink, E: Sink>(
     let input = bytes.as_slice();
     match command {
         DebugCommand::Glist => glist(alloc, input, out, err),
+        DebugCommand::List => list(alloc, shelf, input, out, err),
         DebugCommand::Gsteps { limit } => gsteps(alloc, limit, input, out, err),
         DebugCommand::Steps { limit } => steps(alloc, limit, input, out, err),
     }

@@ -26,9 +26,12 @@ fn command_alone(name: &[u8]) -> Option<DebugCommand>
     ensures limit { IfSome result KeepsLimit }
 {
     if is_same(name, b"glist") {
-        return Some(DebugCommand::Glist);
+        Some(DebugCommand::Glist)
+    } else if is_same(name, b"list") {
+        Some(DebugCommand::List)
+    } else {
+        None
     }
-    None
 }
 
 /// The command of two words.
@@ -75,5 +78,5 @@ fn is_same(word: &[u8], name: &[u8]) -> bool
 pub(crate) fn usage() -> &'static [u8]
     ensures { result.now ≡ spec.debug_usage }
 {
-    b"usage: ti_debug glist|gsteps N|steps N\n"
+    b"usage: ti_debug glist|list|gsteps N|steps N\n"
 }

@@ -1,3 +1,4 @@
 pub mod ReportLaws
 pub mod TextRead
 pub mod Fitting
+pub mod RefusalLaws

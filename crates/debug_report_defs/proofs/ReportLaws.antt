@@ -6,6 +6,7 @@ use Rattle.gpl_step_defs.specs.State.{GplState, IsState, start}
 use Rattle.gpl_step_defs.specs.Run.{run}
 use Rattle.gpl_step_defs.proofs.KeptSteps.{steps_keep_states}
 use Rattle.report_defs.specs.declared.fault.Fault.TheVariants.{TooLarge}
+use Rattle.shelf_defs.specs.Files.{Files}
 use Rattle.report_defs.specs.Trace.{step_lines}
 use Rattle.report_defs.specs.Report.{Report, Faulty, largest_input, ReportsProgram, shown_lines}
 use Rattle.report_defs.proofs.OneReport.{one_by, one_assembled, one_program}
@@ -15,6 +16,7 @@ use Rattle.change_defs.specs.Steps.{StepChanges, state_applied, changes_after, s
 use Rattle.change_defs.specs.Text.{all_changes_text}
 use Rattle.debug_report_defs.specs.declared.command.DebugCommand.{DebugCommand}
 use Rattle.debug_report_defs.specs.declared.command.DebugCommand.TheVariants.{Glist, Gsteps, Steps}
+use Rattle.debug_report_defs.specs.declared.command.DebugCommand.TheVariants as command
 use Rattle.debug_report_defs.specs.Reports.{AcceptedReport}
 use Rattle.machine_change_defs.proofs.ReportLaws.{one_steps_report, steps_fronts_begin_reports}
 use Rattle.debug_report_defs.specs.Reader.{changes_of_text}
@@ -22,26 +24,28 @@ use Rattle.debug_report_defs.specs.Laws.{OneDebugReport, DebugFrontsBeginReports
 use Rattle.debug_report_defs.proofs.TextRead.{step_read}
 use Rattle.debug_report_defs.proofs.Fitting.{steps_fit}
 
-one_accepted : (command : DebugCommand) (input : List ℕ) (first second : Report) → AcceptedReport command input first
-    → AcceptedReport command input second → first ≡ second
-one_accepted Glist input first second p q = p ∙ sym q
-one_accepted (Gsteps limit) input first second p q =
+one_accepted : (command : DebugCommand) (files : Files) (input : List ℕ) (first second : Report) → AcceptedReport command files input first
+    → AcceptedReport command files input second → first ≡ second
+one_accepted Glist files input first second p q = p ∙ sym q
+one_accepted command.List files input first second p q = p ∙ sym q
+one_accepted (Gsteps limit) files input first second p q =
     one_assembled (ReportsProgram (shown_lines all_changes_text) limit) (one_program (shown_lines all_changes_text) limit)
     (program_of_source input) first second p q
-one_accepted (Steps limit) input first second p q = one_steps_report limit input first second p q
+one_accepted (Steps limit) files input first second p q = one_steps_report limit input first second p q
 
 pub one_debug_report : OneDebugReport
-one_debug_report command input first second p q =
-    one_by (nat_lt largest_input (length input)) (Faulty TooLarge) first second (AcceptedReport command input)
-    (one_accepted command input) p q
+one_debug_report command files input first second p q =
+    one_by (nat_lt largest_input (length input)) (Faulty TooLarge) first second (AcceptedReport command files input)
+    (one_accepted command files input) p q
 
 pub debug_fronts_begin_reports : DebugFrontsBeginReports
-debug_fronts_begin_reports Glist input front report p q = absurd p
-debug_fronts_begin_reports (Gsteps limit) input front report p q =
+debug_fronts_begin_reports Glist files input front report p q = absurd p
+debug_fronts_begin_reports command.List files input front report p q = absurd p
+debug_fronts_begin_reports (Gsteps limit) files input front report p q =
     begins_program all_changes_text limit (program_of_source input) front report p.1
-    (accepted (AcceptedReport (Gsteps limit)) input report p.0 q)
-debug_fronts_begin_reports (Steps limit) input front report p q =
-    steps_fronts_begin_reports limit input front report p.1 (accepted (AcceptedReport (Steps limit)) input report p.0 q)
+    (accepted (AcceptedReport (Gsteps limit) files) input report p.0 q)
+debug_fronts_begin_reports (Steps limit) files input front report p q =
+    steps_fronts_begin_reports limit input front report p.1 (accepted (AcceptedReport (Steps limit) files) input report p.0 q)
 
 -- the states by the texts are those by the changes
 by_texts : (s : GplState) → IsState s → (made : ℕ) → state_by_texts s made ≡ state_by_changes s made

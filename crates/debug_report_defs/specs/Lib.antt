@@ -1,4 +1,5 @@
 pub mod Words
+pub mod Listings
 pub mod Reports
 pub mod Reader
 pub mod Laws

@@ -4,6 +4,7 @@ use Rattle.std.specs.Option.{option_map}
 use Rattle.report_defs.specs.Commands.{same_word, number_word, most_instructions, most_steps}
 use Rattle.debug_report_defs.specs.declared.command.DebugCommand.{DebugCommand}
 use Rattle.debug_report_defs.specs.declared.command.DebugCommand.TheVariants.{Glist, Gsteps, Steps}
+use Rattle.debug_report_defs.specs.declared.command.DebugCommand.TheVariants as command
 
 -- Profile: gsteps makes at most 100,000 steps.
 abbrev pub gsteps_command : List ℕ → Option DebugCommand
@@ -15,7 +16,10 @@ steps_command word = option_map Steps (number_word most_instructions word)
 
 -- a command of one word
 abbrev pub command_alone : List ℕ → Option DebugCommand
-command_alone name = if same_word name (codes "glist") then Some Glist else None
+command_alone name =
+    if same_word name (codes "glist") then Some Glist
+    else if same_word name (codes "list") then Some command.List
+    else None
 
 -- a command with a word after its name
 abbrev pub command_with : List ℕ → List ℕ → Option DebugCommand
@@ -34,9 +38,10 @@ debug_command (name ∷ word ∷ next ∷ others) = None
 -- a command keeps the limit of its number
 abbrev pub KeepsLimit : DebugCommand → Type 0
 KeepsLimit Glist = ⊤
+KeepsLimit command.List = ⊤
 KeepsLimit (Gsteps limit) = limit ≤ most_steps
 KeepsLimit (Steps limit) = limit ≤ most_instructions
 
 -- Profile: words that are no command are answered by how the program is called.
 unfoldable pub debug_usage : List ℕ
-debug_usage = codes "usage: ti_debug glist|gsteps N|steps N\n"
+debug_usage = codes "usage: ti_debug glist|list|gsteps N|steps N\n"

@@ -5,6 +5,9 @@
 pub enum DebugCommand {
     /// `glist`: lists a GPL source, each line with its address and its bytes, and its names.
     Glist,
+    /// `list`: lists an assembler source with the files that it copies, each line with its place and what it places, and
+    /// its names.
+    List,
     /// `gsteps N`: assembles a GPL source, and the interpreter runs up to so many of its steps from the entry; each step
     /// is shown by a line with all that it changed.
     Gsteps {

@@ -1,8 +1,9 @@
 //! Laws of the definitions. Each function does nothing, and its contract is the law.
 
-ghost use Rattle.debug_report_defs.specs.Laws.{DebugFrontsBeginReports, LinesGiveStates, OneDebugReport};
+ghost use Rattle.debug_report_defs.specs.Laws.{DebugFrontsBeginReports, LinesGiveStates, ListRefusesAsAsm};
+ghost use Rattle.debug_report_defs.specs.Laws.{OneDebugReport};
 
-/// There is at most one report on each command and input.
+/// There is at most one report on each command, input and files.
 #[tactic(auto, using(crate::proofs::ReportLaws::one_debug_report))]
 pub fn one_debug_report()
     ensures { OneDebugReport }
@@ -12,6 +13,13 @@ pub fn one_debug_report()
 #[tactic(auto, using(crate::proofs::ReportLaws::debug_fronts_begin_reports))]
 pub fn debug_fronts_begin_reports()
     ensures { DebugFrontsBeginReports }
+{}
+
+/// `list` refuses a source with the files that it copies exactly where `asm` of `ti_bench` does, and by the same fault
+/// line.
+#[tactic(auto, using(crate::proofs::RefusalLaws::list_refuses_as_asm))]
+pub fn list_refuses_as_asm()
+    ensures { ListRefusesAsAsm }
 {}
 
 /// The changes that are read from the lines of `gsteps` lead from the first state of a program to the state after each

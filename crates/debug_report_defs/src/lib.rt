@@ -5,4 +5,6 @@ mod command;
 mod laws;
 
 pub use command::DebugCommand;
-pub use laws::{debug_fronts_begin_reports, lines_give_states, one_debug_report};
+pub use laws::{
+    debug_fronts_begin_reports, lines_give_states, list_refuses_as_asm, one_debug_report,
+};

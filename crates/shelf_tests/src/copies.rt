@@ -61,7 +61,7 @@ fn are_same(one: &Module, other: &Module) -> bool {
 }
 
 /// A shelf of the files, of which these calls fail.
-fn shelf(alloc: Global, fails: &[u64]) -> Result<MemShelf, AllocError> {
+pub(crate) fn shelf(alloc: Global, fails: &[u64]) -> Result<MemShelf, AllocError> {
     let mut files = Vec::new(alloc);
     for &(name, bytes) in FILES {
         files.push((name_of(name)?, Vec::from_slice(alloc, bytes)?))?;

@@ -1,0 +1,3 @@
+mod ListingLaws
+mod RowLaws
+mod ShownLaws

@@ -1,0 +1,230 @@
+-- The rows of kept lines are those of the listing.
+use Rattle.std.proofs.Common.{◌≡◌, ℕ, zero, suc, ◌-◌, List, [], ◌∷◌, ◌++◌, Some, None, Ok, Err, length, map, take, refl, sym, ap, ◌∙◌, subst, append-nil, inl, inr}
+use Rattle.std.specs.Prelude.{Option, Result}
+use Rattle.std.specs.List.{flat_map}
+use Rattle.std.proofs.lemmas.List.{length-map}
+use Rattle.source_defs.specs.Refusals.{Refusal}
+use Rattle.source_defs.specs.Symbols.{Names}
+use Rattle.source_defs.specs.Layout.{settled}
+use Rattle.asm_defs.specs.declared.causes.AsmCause.{AsmCause}
+use Rattle.asm_defs.specs.declared.location.Location.{Location}
+use Rattle.asm_defs.specs.Locations.{Line}
+use Rattle.asm_defs.specs.FirstChecks.{names}
+use Rattle.asm_defs.specs.Memory.{Settled}
+use Rattle.asm_defs.specs.Modules.{settle}
+use Rattle.shelf_defs.specs.Copied as spec
+use Rattle.shelf_defs.specs.Copied.{PlacedLine, CopyRefusal, Copied, most_bytes, copied_by}
+use Rattle.shelf_defs.specs.Assembly.{texts, places, place_of, laid_copied}
+use Rattle.shelf_defs.specs.Questions.{Unanswered, Question, EndsWith}
+use Rattle.asm_list_defs.specs.Listed as listed
+use Rattle.asm_list_defs.specs.Listed.{front, shown, heres, paired, defined, names_of_line, listed_names, listing_before, listing_behind, listing_by, listing_of, Listing, first_answer, lines_in}
+use Rattle.asm_list_defs.specs.Rows.{lines_rows, name_row, listing_rows}
+use Rattle.asm_list_defs.specs.ByText.{shown_line, names_text}
+use Rattle.asm_list_defs.proofs.TextLaws.{shown_by_texts, defined_by_texts}
+use Rattle.bench_shelf.specs.States.{ShelfState}
+use Rattle.bench_shelf.specs.declared.copy_error.CopyError.{CopyError}
+use Rattle.bench_shelf.specs.declared.copy_error.CopyError.TheVariants.{At, TooLarge, Fault, Memory}
+use Rattle.bench_shelf.specs.declared.copy_error.CopyCause.TheVariants.{Asm, Missing}
+use Rattle.bench_shelf.specs.declared.kept_line.KeptLine.{KeptLine}
+use Rattle.bench_shelf.specs.declared.listed.ListedEnding.{ListedEnding}
+use Rattle.bench_shelf.specs.declared.listed.ListedEnding.TheVariants.{Whole, Behind, Before}
+use Rattle.bench_shelf.specs.declared.listed.ListedSource.{ListedSource}
+use Rattle.bench_shelf.specs.CopyAnswers.{CopyRefuses, defined_cause, defined_place, refused_at}
+use Rattle.bench_shelf.specs.Causes.{ShelfCauses, TookMore, TookNoMore}
+use Rattle.bench_shelf.specs.Kept.{defined_kept}
+use Rattle.bench_shelf.specs.Listed.{KeepsFront, EndsListed, GivesListed, ListFaultEnds, ListAnswered, EndingCauses, ListCauses, RefusedBehind, FinishesBy, IsTold, IsUntold}
+use Rattle.asm_list.specs.declared.listing.AsmListing.{AsmListing}
+use Rattle.asm_list.specs.Adding.{texts_in, listed_line, named_line, rows_by_names, rows_of_names, all_rows, refused_in}
+use Rattle.asm_list.specs.Listings.{rows_of, as_result, RefusedAs, Lists, GivesListing, FaultEnds, ListingAnswered, RefusedCauses, ListingCauses}
+
+-- what is shown of kept lines
+module _ (known : Option Names) where
+  pairs_by : (kept : List KeptLine)
+      → paired (map defined_kept kept) (map (shown_line known) (paired (map (λ line. line.here) kept) (texts (map defined_kept kept)))) ≡ map (listed_line known) kept
+  pairs_by [] = refl
+  pairs_by (line ∷ kept) = ap (λ others. listed_line known line ∷ others) (pairs_by kept)
+
+  pub pairs : (all : List PlacedLine) (lines : List Line) (kept : List KeptLine) → KeepsFront all lines kept
+      → paired (front all) (shown known lines) ≡ map (listed_line known) kept
+  pairs all lines kept keeps =
+      let size : length lines ≡ length (texts (front all)) = keeps.size ∙ sym (length-map (front all) (λ line. line.text)) in
+      ap (paired (front all)) (shown_by_texts known (texts (front all)) lines keeps.laid size)
+      ∙ (ap (λ (hs : List Location). paired (front all) (map (shown_line known) (paired hs (texts (front all))))) (sym keeps.heres)
+      ∙ (ap (λ (lines : List PlacedLine). paired lines (map (shown_line known) (paired (map (λ line. line.here) kept) (texts lines)))) (sym keeps.are)
+      ∙ pairs_by kept))
+
+-- the names that they define
+names_by : (kept : List KeptLine) → paired (map defined_kept kept) (map names_text (texts (map defined_kept kept))) ≡ map named_line kept
+names_by [] = refl
+names_by (line ∷ kept) = ap (λ others. named_line line ∷ others) (names_by kept)
+
+pub names_are : (all : List PlacedLine) (lines : List Line) (kept : List KeptLine) → KeepsFront all lines kept
+    → paired (front all) (defined lines) ≡ map named_line kept
+names_are all lines kept keeps =
+    let size : length lines ≡ length (texts (front all)) = keeps.size ∙ sym (length-map (front all) (λ line. line.text)) in
+    ap (paired (front all)) (defined_by_texts (texts (front all)) lines keeps.laid size)
+    ∙ (ap (λ (lines : List PlacedLine). paired lines (map names_text (texts lines))) (sym keeps.are)
+    ∙ names_by kept)
+
+map_take : {A B : Type 0} (f : A → B) (n : ℕ) (items : List A) → map f (take n items) ≡ take n (map f items)
+map_take f zero items = refl
+map_take f (suc n) [] = refl
+map_take f (suc n) (item ∷ items) = ap (λ others. f item ∷ others) (map_take f n items)
+
+-- an error that the definitions tell is a refusal of theirs
+pub record IsRefused {B : Type 0} (error : CopyError) (answer : Result B CopyRefusal) : Type 0 where
+  pub refusal : CopyRefusal
+  pub is : answer ≡ Err refusal
+  pub refuses : CopyRefuses {B = Unit {0}} error (Err refusal)
+
+is_refused : {B : Type 0} (error : CopyError) (answer : Result B CopyRefusal) → CopyRefuses error answer → IsTold error → IsRefused error answer
+is_refused (At file line cause) answer refuses told = record {
+  refusal = spec.At (record { file = file; line = line }) (defined_cause cause);
+  is = refuses.1;
+  refuses = (refuses.0, refl);
+}
+is_refused TooLarge answer refuses told = record { refusal = spec.TooLarge; is = refuses; refuses = refl }
+is_refused Fault answer refuses told = absurd (told tt)
+is_refused Memory answer refuses told = absurd (told tt)
+
+-- the listing of copied lines, by what stands behind those that are kept
+module _ (found : Copied) (lines : List Line) (kept : List KeptLine) (keeps : KeepsFront found.lines lines kept) where
+  pub record IsListing (ending : ListedEnding) : Type 0 where
+    pub rows : all_rows kept ending ≡ listing_rows (listing_of found)
+    pub refused : RefusedAs (refused_in ending) (listing_of found).refusal
+
+  by_listing : (ending : ListedEnding) (listing : Listing) → listing_of found ≡ listing → all_rows kept ending ≡ listing_rows listing
+      → RefusedAs (refused_in ending) listing.refusal → IsListing ending
+  by_listing ending listing is rows refused = record {
+    rows = rows ∙ sym (ap listing_rows is);
+    refused = subst (λ (listing : Listing). RefusedAs (refused_in ending) listing.refusal) (sym is) refused;
+  }
+
+  -- all lines, with their names
+  module _ (laid : laid_copied found ≡ Ok lines) (whole : front found.lines ≡ found.lines) where
+    listing_is : (answer : Result (List Settled) (Refusal AsmCause)) → settled (settle (names lines)) lines ≡ answer
+        → listing_of found ≡ listing_behind found.lines lines answer
+    listing_is answer is = ap (listing_by found.lines) laid ∙ ap (listing_behind found.lines lines) is
+
+    all_pairs : (known : Option Names) → paired found.lines (shown known lines) ≡ map (listed_line known) kept
+    all_pairs known = ap (λ all. paired all (shown known lines)) (sym whole) ∙ pairs known found.lines lines kept keeps
+
+    all_names : paired found.lines (defined lines) ≡ map named_line kept
+    all_names = ap (λ all. paired all (defined lines)) (sym whole) ∙ names_are found.lines lines kept keeps
+
+    whole_listing : (known : Names) → known ≡ names lines → (settled_as : List Settled) → settled (settle (names lines)) lines ≡ Ok settled_as
+        → IsListing (Whole known)
+    whole_listing known same settled_as is =
+        by_listing (Whole known) (listing_behind found.lines lines (Ok settled_as)) (listing_is (Ok settled_as) is)
+        (ap (λ known. all_rows kept (Whole known)) same
+        ∙ (ap (λ pairs. lines_rows None pairs ++ rows_of_names (names lines) kept) (sym (all_pairs (Some (names lines))))
+        ∙ ap (λ named. lines_rows None (paired found.lines (shown (Some (names lines)) lines)) ++ map name_row (flat_map (names_of_line (names lines)) named)) (sym all_names)))
+        refl
+
+    behind_listing : (known : Names) (number : ℕ) (error : CopyError) → known ≡ names lines → RefusedBehind found.lines lines number error
+        → IsListing (Behind known number error)
+    behind_listing known number error same refused =
+        let refusal : Refusal AsmCause = record { line = number; cause = refused.cause } in
+        let listing = listing_behind found.lines lines (Err refusal) in
+        by_listing (Behind known number error) listing (listing_is (Err refusal) refused.settled)
+        (ap (λ known. all_rows kept (Behind known number error)) same
+        ∙ (ap (lines_rows None) (map_take (listed_line (Some (names lines))) (number - 1) kept ∙ ap (take (number - 1)) (sym (all_pairs (Some (names lines)))))
+        ∙ sym (append-nil (lines_rows None (take (number - 1) (paired found.lines (shown (Some (names lines)) lines)))))))
+        (subst (λ error. RefusedAs (Some error) listing.refusal) (sym refused.is)
+        ((refused.own, ap (λ (place : spec.Place). Err (spec.At place (spec.Asm refused.cause))) (sym refused.place)), λ untold. untold))
+
+  -- those up to the first that is refused before
+  before_listing : (error : CopyError) → IsRefused error (laid_copied found) → IsTold error → IsListing (Before error)
+  before_listing error refused told =
+      let all = front found.lines in
+      by_listing (Before error) (listing_before all refused.refusal) (ap (listing_by found.lines) refused.is)
+      (ap (lines_rows None) (sym (pairs None found.lines lines kept keeps))
+      ∙ (ap (λ answer. lines_rows None (paired all (shown None (lines_in answer)))) (sym keeps.laid)
+      ∙ sym (append-nil (lines_rows None (paired all (shown None (lines_in (first_answer all))))))))
+      (refused.refuses, told)
+
+  pub ends_listing : (asked : ℕ) (ending : ListedEnding) → EndsListed asked found lines ending → IsListing ending
+  ends_listing asked (Whole known) ends = whole_listing ends.0 ends.1 known ends.2.0 ends.2.1.0 ends.2.1.1
+  ends_listing asked (Behind known number error) ends = behind_listing ends.0 ends.1 known number error ends.2.0 ends.2.1
+  ends_listing asked (Before error) ends = before_listing error (is_refused error (laid_copied found) ends.0 ends.1) ends.1
+
+  pub ends_copies : (asked : ℕ) (ending : ListedEnding) → EndsListed asked found lines ending → (others : List Line) → laid_copied found ≡ Ok others
+      → asked ≡ found.copies
+  ends_copies asked (Whole known) ends others laid = ends.3
+  ends_copies asked (Behind known number error) ends others laid = ends.3
+  ends_copies asked (Before error) ends others laid =
+      let refused = is_refused error (laid_copied found) ends.0 ends.1 in
+      cc (laid, refused.is)
+
+-- the listing that was made
+module _ (listed : ListedSource) (listing : AsmListing) (rows : rows_of listing ≡ all_rows listed.lines.items listed.ending)
+    (refused : listing.refused ≡ refused_in listed.ending) where
+  pub lists : (asked : ℕ) (found : Copied) → GivesListed asked (Ok listed) found → Lists asked listing found
+  lists asked found gives =
+      let is = ends_listing found gives.0 listed.lines.items gives.1 asked listed.ending gives.2 in
+      record {
+        rows = rows ∙ is.rows;
+        refused = subst (λ (refused : Option CopyError). RefusedAs refused (listing_of found).refusal) (sym refused) is.refused;
+        copies = ends_copies found gives.0 listed.lines.items gives.1 asked listed.ending gives.2;
+      }
+
+  pub listing_answered : (before after : ShelfState) (source : List ℕ) → ListAnswered before after source (Ok listed)
+      → ListingAnswered before after source (Ok listing)
+  listing_answered before after source answered = record {
+    questions = answered.questions;
+    dialogue = answered.dialogue;
+    ends = tt;
+    gives = λ contents agrees. lists (length answered.questions) (copied_by contents source) (answered.gives contents agrees);
+  }
+
+  causes_by : (ending : ListedEnding) (before after : ShelfState) → EndingCauses ending before after → RefusedCauses (refused_in ending) before after
+  causes_by (Whole known) before after causes = causes
+  causes_by (Behind known number error) before after causes = causes
+  causes_by (Before error) before after causes = causes
+
+  pub listing_causes : (before after : ShelfState) → ListCauses (Ok listed) before after → ListingCauses (Ok listing) before after
+  listing_causes before after causes =
+      subst (λ (refused : Option CopyError). RefusedCauses refused before after) (sym refused) (causes_by listed.ending before after causes)
+
+-- no listing was made
+pub none_answered : (before after : ShelfState) (source : List ℕ) (result : Result ListedSource CopyError) → ListAnswered before after source result
+    → ListingAnswered before after source (Err Memory)
+none_answered before after source result answered =
+    record { questions = answered.questions; dialogue = answered.dialogue; ends = tt; gives = λ contents agrees. tt }
+
+pub error_answered : (before after : ShelfState) (source : List ℕ) (error : CopyError) → ListAnswered before after source (Err error)
+    → ListingAnswered before after source (Err error)
+error_answered before after source error answered = record {
+  questions = answered.questions;
+  dialogue = answered.dialogue;
+  ends = ends error answered.ends;
+  gives = λ contents agrees. tt;
+}
+  where
+    ends : (error : CopyError) → ListFaultEnds (Err error) answered.questions → FaultEnds (Err error) answered.questions
+    ends (At file line cause) is = tt
+    ends TooLarge is = tt
+    ends Fault is = is
+    ends Memory is = tt
+
+-- an error says that no more was taken of a file than it may have, or that of the last more was
+error_amounts : (error : CopyError) (before after : ShelfState) → ShelfCauses error before after → ListingCauses (Err Memory) before after
+error_amounts (At file line (Missing name)) before after causes = inl causes.1
+error_amounts (At file line cause) before after causes = inl causes.1
+error_amounts TooLarge before after causes = inr causes
+error_amounts Fault before after causes = inl causes.1
+error_amounts Memory before after causes = inl causes
+
+ending_amounts : (ending : ListedEnding) (before after : ShelfState) → EndingCauses ending before after → ListingCauses (Err Memory) before after
+ending_amounts (Whole known) before after causes = inl causes
+ending_amounts (Behind known number error) before after causes = error_amounts error before after causes
+ending_amounts (Before error) before after causes = error_amounts error before after causes
+
+pub memory_causes : (listed : ListedSource) (before after : ShelfState) → ListCauses (Ok listed) before after → ListingCauses (Err Memory) before after
+memory_causes listed before after causes = ending_amounts listed.ending before after causes
+
+pub error_causes : (error : CopyError) (before after : ShelfState) → ShelfCauses error before after → ListingCauses (Err error) before after
+error_causes (At file line cause) before after causes = causes
+error_causes TooLarge before after causes = causes
+error_causes Fault before after causes = causes
+error_causes Memory before after causes = inl causes

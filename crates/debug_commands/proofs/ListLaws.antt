@@ -1,0 +1,85 @@
+-- The report of an assembler source with the files that it copies.
+use Rattle.std.proofs.Common.{◌≡◌, ℕ, List, refl, sym, ap, ◌∙◌}
+use Rattle.std.specs.Prelude.{Result, Ok, Err, Option, Some, None, IfSome}
+use Rattle.source_defs.specs.Refusals.{seen}
+use Rattle.shelf_defs.specs.Copied as copied
+use Rattle.shelf_defs.specs.Copied.{CopyRefusal, most_bytes}
+use Rattle.bench_shelf.specs.States.{ShelfState}
+use Rattle.bench_shelf.specs.CopyAnswers.{defined_cause}
+use Rattle.bench_shelf.specs.Causes.{ShelfCauses}
+use Rattle.bench_shelf.specs.Listed.{IsTold, IsUntold}
+use Rattle.bench_shelf.specs.declared.copy_error.CopyCause.{CopyCause}
+use Rattle.bench_shelf.specs.declared.copy_error.CopyCause.TheVariants.{Asm, BadCopy, TooDeep, TooMany, Missing}
+use Rattle.bench_shelf.specs.declared.copy_error.CopyError.{CopyError}
+use Rattle.bench_shelf.specs.declared.copy_error.CopyError.TheVariants.{At, TooLarge, Fault, Memory}
+use Rattle.bench_shelf.proofs.AskedLaws.{some_contents}
+use Rattle.report_defs.specs.FileReports.{copy_report}
+use Rattle.reports.specs.declared.unreported.Unreported.{Unreported}
+use Rattle.reports.specs.Answers.{Reported, error_answer}
+use Rattle.file_commands.specs.Copying.{copy_refusal}
+use Rattle.file_commands.specs.Reported.{CopyCauses}
+use Rattle.asm_list.specs.declared.listing.AsmListing.{AsmListing}
+use Rattle.asm_list.specs.Listings.{rows_of, as_result, RefusedAs, ListingAnswered, RefusedCauses, ListingCauses}
+use Rattle.debug_report_defs.specs.Listings.{rows_report}
+use Rattle.debug_commands.specs.Listed.{RefusalCauses, ListReported, ListFails, defined_refusal}
+
+-- the refusal is one that the definitions have
+told_by : (refused : Option CopyError) (defined : Option CopyRefusal) → RefusedAs refused defined → IfSome refused IsTold
+told_by None defined none = tt
+told_by (Some error) defined (refuses, told) = told
+
+same_refusal : (refusal : CopyRefusal) (defined : Option CopyRefusal) → as_result defined ≡ Err refusal → Some refusal ≡ defined
+same_refusal refusal None e = absurd cc
+same_refusal refusal (Some other) e = let same : other ≡ refusal = cc e in ap Some (sym same)
+
+is_refusal : (refused : Option CopyError) (defined : Option CopyRefusal) → RefusedAs refused defined → defined_refusal refused ≡ defined
+is_refusal None defined none = sym none
+is_refusal (Some (At file line cause)) defined (refuses, told) = same_refusal _ defined refuses.1
+is_refusal (Some TooLarge) defined (refuses, told) = same_refusal copied.TooLarge defined refuses
+is_refusal (Some Fault) defined (refuses, told) = absurd (told tt)
+is_refusal (Some Memory) defined (refuses, told) = absurd (told tt)
+
+module _ (before after : ShelfState) (source : List ℕ) where
+  line_causes : (file : Option (List ℕ)) (line : ℕ) (cause : CopyCause) → ShelfCauses (At file line cause) before after
+      → CopyCauses (Err (copied.At (record { file = file; line = line }) (defined_cause cause))) before after
+  line_causes file line (Asm cause) causes = causes
+  line_causes file line BadCopy causes = causes.1
+  line_causes file line TooDeep causes = causes.1
+  line_causes file line TooMany causes = causes.1
+  line_causes file line (Missing name) causes = causes
+
+  refusal_causes : (refused : Option CopyError) → IfSome refused IsTold → RefusedCauses refused before after
+      → RefusalCauses (defined_refusal refused) before after
+  refusal_causes None told causes = causes
+  refusal_causes (Some (At file line cause)) told causes = line_causes file line cause causes
+  refusal_causes (Some TooLarge) told causes = causes
+  refusal_causes (Some Fault) told causes = absurd (told tt)
+  refusal_causes (Some Memory) told causes = absurd (told tt)
+
+  pub is_told : (listing : AsmListing) → ListingAnswered before after source (Ok listing) → IfSome listing.refused IsTold
+  is_told listing answered =
+      let some = some_contents most_bytes answered.questions in
+      told_by listing.refused _ (answered.gives some.0 some.1).refused
+
+  pub listing_reported : (listing : AsmListing) → ListingAnswered before after source (Ok listing) → RefusedCauses listing.refused before after
+      → ListReported before after source (rows_report (rows_of listing) (defined_refusal listing.refused))
+  listing_reported listing answered causes = record {
+    questions = answered.questions;
+    dialogue = answered.dialogue;
+    rows = rows_of listing;
+    refusal = defined_refusal listing.refused;
+    gives = λ contents agrees.
+        let lists = answered.gives contents agrees in
+        record { rows_are = lists.rows; refusal_is = is_refusal listing.refused _ lists.refused; copies = lists.copies };
+    causes = refusal_causes listing.refused (is_told listing answered) causes;
+    is = refl;
+  }
+
+  pub error_reported : (error : CopyError) (unreported : Unreported) → IsUntold error → ListingAnswered before after source (Err error)
+      → ListingCauses (Err error) before after → error_answer unreported ≡ seen (λ refusal. copy_report (Err refusal)) (copy_refusal error)
+      → Reported (ListReported before after source) (ListFails before after source) (error_answer unreported)
+  error_reported (At file line cause) unreported untold answered causes is = absurd untold
+  error_reported TooLarge unreported untold answered causes is = absurd untold
+  error_reported Fault unreported untold answered causes is =
+      rw is (answered.questions, answered.dialogue, record { ends = answered.ends; rose = causes.0; within = causes.1 })
+  error_reported Memory unreported untold answered causes is = rw is (answered.questions, answered.dialogue, causes)
