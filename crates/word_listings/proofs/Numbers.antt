@@ -7,7 +7,7 @@ use mathlib.Core.Path.{fun_ext}
 use Rattle.source_defs.specs.declared.causes.ExprError.{ExprError}
 use Rattle.source_defs.specs.Digits.{marked_word, marked_byte}
 use Rattle.source_defs.specs.Tokens.{token_at, tokens_from}
-use Rattle.source_defs.specs.Expression.{Value, Absolute, Relocatable, External, expression, negated}
+use Rattle.source_defs.specs.Expression.{Value, Absolute, expression, negated}
 use Rattle.source_defs.specs.Symbols.{look_up, predefined, registers}
 use Rattle.instruction_defs.specs.Printed.{register_text}
 use Rattle.line_laws.specs.KnownLines.{look_in}

@@ -1,11 +1,11 @@
 -- The operands of a listed instruction, by the forms and the values that the assembler finds in their texts.
 use Rattle.std.proofs.Common.{◌≡◌, ℕ, zero, suc, ◌+◌, ◌-◌, ◌*◌, ◌/◌, ◌%◌, ◌<◌, ◌≤◌, Bool, true, false, not, List, [], ◌∷◌}
-use Rattle.std.proofs.Common.{◌++◌, length, length-append, get_or, refl, ap, sym, ◌∙◌, Ok, Option, Some, None, arith}
+use Rattle.std.proofs.Common.{◌++◌, length, length-append, get_or, refl, ap, ◌∙◌, Ok, Option, Some, None, arith}
 use Rattle.std.specs.Prelude.{Result, eqb, ◌==◌, ◌&&◌, nat_lt, nat_le, codes, if◌then◌else◌, ℤ, pos, negsuc, neg_ℤ, ◌*ℤ◌, FitsSigned}
 use Rattle.std.specs.Int.{w8, w16, cast_signed, cast_unsigned}
 use Rattle.std.specs.List.{list_all}
 use Rattle.std.specs.Fmt.{decimal, digits}
-use Rattle.std.proofs.lemmas.Bool.{agree_below, agree_below_at}
+use Rattle.std.proofs.lemmas.Bool.{agree_below_at}
 use Rattle.std.proofs.lemmas.Bool.Decides.{nat_tests}
 use Rattle.std.proofs.lemmas.Int.{ints}
 use Rattle.std.proofs.lemmas.List.{get_or_push}
