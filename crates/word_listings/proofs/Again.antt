@@ -91,27 +91,24 @@ module _ (at word : ℕ) (rest : List ℕ) where
   jump_again found disp true cause e operation same = refl
   jump_again found disp false cause e operation same = rw (same, e) refl
 
+  two_words : (rest : List ℕ) → 2 ≤ length (word ∷ rest) →
+      ◌≡◌ {A = Result (List Value) FormError} (Ok (Absolute word ∷ Absolute (slice_index (word ∷ rest) 1) ∷ [])) (Ok (map Absolute (take 2 (word ∷ rest))))
+  two_words [] le = absurd (omega (arith, le))
+  two_words (first ∷ rest) le = refl
+
   imm_again : (found : Instr) (number : ℕ) (operation : Operation) (b : Bool) → word_of found ≡ word → 1 + one_if b ≤ length (word ∷ rest)
       → ((readies : List Ready) → instruction_of operation (Counted number ∷ readies) ≡ found)
       → values_of operation (if b then Ok (Counted number ∷ Followed (Absolute (slice_index (word ∷ rest) 1)) ∷ []) else Ok (Counted number ∷ []))
       ≡ Ok (map Absolute (take (1 + one_if b) (word ∷ rest)))
   imm_again found number operation false e le same = rw (same [], e) refl
-  imm_again found number operation true e le same = rw (same (Followed (Absolute (slice_index (word ∷ rest) 1)) ∷ []), e) (by rest le)
-    where
-      by : (rest : List ℕ) → 2 ≤ length (word ∷ rest) → ◌≡◌ {A = Result (List Value) FormError} (Ok (Absolute word ∷ Absolute (slice_index (word ∷ rest) 1) ∷ [])) (Ok (map Absolute (take 2 (word ∷ rest))))
-      by [] le = absurd (omega (arith, le))
-      by (first ∷ rest) le = refl
+  imm_again found number operation true e le same = rw (same (Followed (Absolute (slice_index (word ∷ rest) 1)) ∷ []), e) (two_words rest le)
 
   bare_again : (found : Instr) (operation : Operation) (b : Bool) → word_of found ≡ word → 1 + one_if b ≤ length (word ∷ rest)
       → ((readies : List Ready) → instruction_of operation readies ≡ found)
       → values_of operation (if b then Ok (Followed (Absolute (slice_index (word ∷ rest) 1)) ∷ []) else Ok [])
       ≡ Ok (map Absolute (take (1 + one_if b) (word ∷ rest)))
   bare_again found operation false e le same = rw (same [], e) refl
-  bare_again found operation true e le same = rw (same (Followed (Absolute (slice_index (word ∷ rest) 1)) ∷ []), e) (by rest le)
-    where
-      by : (rest : List ℕ) → 2 ≤ length (word ∷ rest) → ◌≡◌ {A = Result (List Value) FormError} (Ok (Absolute word ∷ Absolute (slice_index (word ∷ rest) 1) ∷ [])) (Ok (map Absolute (take 2 (word ∷ rest))))
-      by [] le = absurd (omega (arith, le))
-      by (first ∷ rest) le = refl
+  bare_again found operation true e le same = rw (same (Followed (Absolute (slice_index (word ∷ rest) 1)) ∷ []), e) (two_words rest le)
 
   pub again : (found : Instr) → Again found
   again (Two op byte dst src) e le =

@@ -40,6 +40,16 @@ pub record Stands (before : List Line) (at : ℕ) : Type 0 where
 pub same_place : (m n : ℕ) → m ≡ n → absolute_at m ≡ absolute_at n
 same_place m n e = ap absolute_at e
 
+-- a line that is let through behind others
+pub record Taken (before : List Line) (number : ℕ) (text : List ℕ) (at next : ℕ) (last : Bool) (answer : Result Outcome AsmCause) : Type 0 where
+  pub line : Line
+  pub check_is : check before number (listed text) ≡ Ok line
+  pub last_is : line.last ≡ last
+  pub number_is : line.number ≡ number
+  pub stands : Stands (line ∷ before) next
+  pub settle_is : (earlier : List Settled) → settle predefined before earlier line
+      ≡ (answer >>= λ found. with_room earlier (record { at = absolute_at at; outcome = found }))
+
 -- a line by itself is let through behind others
 module _ (at : ℕ) (text : List ℕ) (size : ℕ) (last : Bool) (answer : Result Outcome AsmCause) (back : LineBack at text size last answer) (fits : at + size ≤ 65536) where
   abbrev found : Checked
@@ -58,9 +68,6 @@ module _ (at : ℕ) (text : List ℕ) (size : ℕ) (last : Bool) (answer : Resul
     abbrev line : Line
     line = line_of number found
 
-    check_is : check before number (listed text) ≡ Ok line
-    check_is = ap (λ answer. answer >>= λ found. Ok (line_of number found)) (let_through (known_of before) stands.location_is)
-
     location_next : location (line ∷ before) ≡ absolute_at (at + size)
     location_next =
         let n : ℕ = (location before).number in
@@ -74,45 +81,27 @@ module _ (at : ℕ) (text : List ℕ) (size : ℕ) (last : Bool) (answer : Resul
     place_is : place before line ≡ absolute_at at
     place_is = ap (λ here. behind here 0) stands.location_is ∙ same_place (at + 0) at (omega arith)
 
-    stands_next : Stands (line ∷ before) (at + size)
-    stands_next = record {
-      names_are = with_no_names before stands.names_are;
-      location_is = location_next;
-      refs_are = rw (stands.refs_are, back.own.refs) refl;
-      defs_are = rw (stands.defs_are, back.own.defs) refl;
-      reached_is = ap (λ here. max (reached before) (relocatable here)) location_next ∙ ap (λ n. max n 0) stands.reached_is;
-      title_is = back.own.title_kept (title before) ∙ stands.title_is;
+    with_no_names : (before : List Line) → names before ≡ predefined → names (line_of number found ∷ before) ≡ predefined
+    with_no_names before e = rw back.own.refs e
+
+    pub taken : Taken before number text at (at + size) last answer
+    taken = record {
+      line = line;
+      check_is = ap (λ answer. answer >>= λ found. Ok (line_of number found)) (let_through (known_of before) stands.location_is);
+      last_is = back.own.last_is;
+      number_is = refl;
+      stands = record {
+        names_are = with_no_names before stands.names_are;
+        location_is = location_next;
+        refs_are = rw (stands.refs_are, back.own.refs) refl;
+        defs_are = rw (stands.defs_are, back.own.defs) refl;
+        reached_is = ap (λ here. max (reached before) (relocatable here)) location_next ∙ ap (λ n. max n 0) stands.reached_is;
+        title_is = back.own.title_kept (title before) ∙ stands.title_is;
+      };
+      settle_is = λ earlier.
+          ap (λ place. settle_at predefined place back.statement earlier) place_is
+          ∙ ap (λ answer. answer >>= λ found. with_room earlier (record { at = absolute_at at; outcome = found })) back.comes;
     }
-      where
-        with_no_names : (before : List Line) → names before ≡ predefined → names (line_of number found ∷ before) ≡ predefined
-        with_no_names before e = rw back.own.refs e
-
-    settle_is : (earlier : List Settled) → settle predefined before earlier line
-        ≡ (answer >>= λ found. with_room earlier (record { at = absolute_at at; outcome = found }))
-    settle_is earlier =
-        ap (λ place. settle_at predefined place back.statement earlier) place_is
-        ∙ ap (λ answer. answer >>= λ found. with_room earlier (record { at = absolute_at at; outcome = found })) back.comes
-
--- a line that is let through behind others
-pub record Taken (before : List Line) (number : ℕ) (text : List ℕ) (at next : ℕ) (last : Bool) (answer : Result Outcome AsmCause) : Type 0 where
-  pub line : Line
-  pub check_is : check before number (listed text) ≡ Ok line
-  pub last_is : line.last ≡ last
-  pub number_is : line.number ≡ number
-  pub stands : Stands (line ∷ before) next
-  pub settle_is : (earlier : List Settled) → settle predefined before earlier line
-      ≡ (answer >>= λ found. with_room earlier (record { at = absolute_at at; outcome = found }))
-
-pub taken : (at : ℕ) (text : List ℕ) (size : ℕ) (last : Bool) (answer : Result Outcome AsmCause) → LineBack at text size last answer → at + size ≤ 65536
-    → (before : List Line) → Stands before at → (number : ℕ) → Taken before number text at (at + size) last answer
-taken at text size last answer back fits before stands number = record {
-  line = line at text size last answer back fits before stands number;
-  check_is = check_is at text size last answer back fits before stands number;
-  last_is = back.own.last_is;
-  number_is = refl;
-  stands = stands_next at text size last answer back fits before stands number;
-  settle_is = settle_is at text size last answer back fits before stands number;
-}
 
 -- ---- what the lines come to
 
