@@ -116,6 +116,11 @@ Fails before refusal = settled (settle predefined) before ≡ Err refusal
 pub fails_still : (line : Line) (before : List Line) (refusal : Refusal AsmCause) → Fails before refusal → Fails (line ∷ before) refusal
 fails_still line before refusal e = rw e refl
 
+-- what lines come to: words that stand one behind the other from a place on, or a refusal
+abbrev pub Comes : List Line → ℕ → Result (List ℕ) (Refusal AsmCause) → Type 0
+Comes before from (Ok words) = (earlier : List Settled) × Holds before earlier from words
+Comes before from (Err refusal) = Fails before refusal
+
 -- lines behind others, to the last
 pub record Ends (before : List Line) (number : ℕ) (texts : List (List ℕ)) (answer : Result Module (Refusal AsmCause)) : Type 0 where
   pub all : List Line

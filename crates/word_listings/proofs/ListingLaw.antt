@@ -35,7 +35,7 @@ use Rattle.word_listings.proofs.Numbers.{known, word_value}
 use Rattle.word_listings.proofs.Instructions.{AreWords}
 use Rattle.word_listings.proofs.LineBacks.{absolute_at, byte_line, end_text, end_line, IsEntry, words_back}
 use Rattle.word_listings.proofs.Behind.{Stands, Holds, Ends, same_place}
-use Rattle.word_listings.proofs.Going.{texts_from, goes_from, Closes, Breaks}
+use Rattle.word_listings.proofs.Going.{texts_from, goes_from, Closes}
 use Rattle.word_listings.proofs.Closing.{closes_end, breaks_end, closes_byte, breaks_byte, words_held}
 
 -- ---- the first line
@@ -157,13 +157,13 @@ module _ (half : ℕ) (bytes : List ℕ) (entered : Option ℕ) (all : AllBytes 
   texts = texts_from (2 * half) 0 words ++ tail_texts bytes entered
 
   all_go : (tails : List (List ℕ)) (whole : Module) (below : 2 * half + 2 * length words ≤ 65536)
-      → Closes (2 * half) words tails whole (2 * half + 2 * length words) below → Breaks (2 * half) words tails whole (2 * half + 2 * length words) below
+      → Closes (2 * half) words tails whole (2 * half + 2 * length words) below
       → Ends (aorg_line (2 * half) inside ∷ []) 2 (texts_from (2 * half) 0 words ++ tails) (unless_far (first_wrapping 2 (2 * half) 0 words) whole)
-  all_go tails whole below closes breaks =
+  all_go tails whole below closes =
       let here : 2 * half + 2 * 0 ≡ 2 * half = omega arith in
-      goes_from (2 * half) words tails whole (2 * half + 2 * length words) below breaks closes words (2 * half) 0 2 (aorg_line (2 * half) inside ∷ []) _ []
+      goes_from (2 * half) words tails whole (2 * half + 2 * length words) below closes words (2 * half) 0 2 (aorg_line (2 * half) inside ∷ []) (Ok [])
       (omega arith) (omega arith) refl (are_words bytes all)
-      (subst (Stands (aorg_line (2 * half) inside ∷ [])) (sym here) (aorg_stands (2 * half) inside)) (aorg_holds (2 * half) inside half) refl refl
+      (subst (Stands (aorg_line (2 * half) inside ∷ [])) (sym here) (aorg_stands (2 * half) inside)) (_, aorg_holds (2 * half) inside half) (omega arith, refl)
 
   by_rest : Rest bytes → Ends (aorg_line (2 * half) inside ∷ []) 2 texts answer
   by_rest (Even none padded size) =
@@ -172,10 +172,10 @@ module _ (half : ℕ) (bytes : List ℕ) (entered : Option ℕ) (all : AllBytes 
       (subst (λ found. Ends (aorg_line (2 * half) inside ∷ []) 2 (texts_from (2 * half) 0 words ++ (end_text entered ∷ []))
       (unless_far (first_wrapping 2 (2 * half) 0 words) (module_of_words (2 * half) found entered))) (sym padded)
       (all_go (end_text entered ∷ []) (module_of_words (2 * half) words entered) below
-      (λ before earlier number stands holds.
-      closes_end entered is_entry (2 * half + 2 * length words) below before earlier number _ stands holds.settled_are
-      (words_held earlier half words holds.hold holds.entry_is (omega (arith, below))))
-      (λ before number refusal stands fails. breaks_end entered is_entry (2 * half + 2 * length words) below before number refusal stands fails)))
+      (λ before number stands. (
+      λ earlier holds. closes_end entered is_entry (2 * half + 2 * length words) below before earlier number _ stands holds.settled_are
+      (words_held earlier half words holds.hold holds.entry_is (omega (arith, below))),
+      λ refusal fails. breaks_end entered is_entry (2 * half + 2 * length words) below before number refusal stands fails))))
   by_rest (Odd byte lt odd padded size) =
       let below : 2 * half + 2 * length words ≤ 65536 = omega (arith, fits, size) in
       let more : 2 * half + 2 * length words < 65536 = omega (arith, fits, size) in
@@ -183,9 +183,9 @@ module _ (half : ℕ) (bytes : List ℕ) (entered : Option ℕ) (all : AllBytes 
       (subst (λ found. Ends (aorg_line (2 * half) inside ∷ []) 2 (texts_from (2 * half) 0 words ++ ((codes "BYTE " ++ marked_byte byte) ∷ end_text entered ∷ []))
       (unless_far (first_wrapping 2 (2 * half) 0 words) (module_of_words (2 * half) found entered))) (sym padded)
       (all_go ((codes "BYTE " ++ marked_byte byte) ∷ end_text entered ∷ []) (module_of_words (2 * half) (words ++ join byte 0 ∷ []) entered) below
-      (λ before earlier number stands holds.
-      closes_byte entered is_entry (2 * half + 2 * length words) byte more lt half words (omega arith) before earlier number stands holds)
-      (λ before number refusal stands fails. breaks_byte entered is_entry (2 * half + 2 * length words) byte more lt before number refusal stands fails)))
+      (λ before number stands. (
+      λ earlier holds. closes_byte entered is_entry (2 * half + 2 * length words) byte more lt half words (omega arith) before earlier number stands holds,
+      λ refusal fails. breaks_byte entered is_entry (2 * half + 2 * length words) byte more lt before number refusal stands fails))))
 
   abbrev pub listing_texts : List (List ℕ)
   listing_texts = aorg_text (2 * half) inside ∷ texts
