@@ -22,7 +22,7 @@ use Rattle.listed_lines.proofs.Scans.{all_both}
 use Rattle.listed_lines.proofs.DigitLaws.{word_passes, byte_passes}
 use Rattle.listed_lines.proofs.LineTexts.{in_line, joined, lines_joined, clean, clean_lines, text_of}
 use Rattle.gpl_listing_defs.proofs.Entries.{Entry, Whole, Single, entry_of}
-use Rattle.gpl_listing_defs.proofs.PlacingLaws.{placed_behind, placed_free, empty_free, no_overlap, between, between_more, between_size}
+use Rattle.gpl_listing_defs.proofs.Entries.{placed_behind, placed_free, empty_free, no_overlap, between, between_more, between_size}
 use Rattle.gpl_listing_defs.proofs.Lines.{Stands, Taken, Ends, at_first, ends_last, ends_more, same_location}
 use Rattle.gpl_listing_defs.proofs.Lines.{instr_taken, byte_taken, grom_taken, aorg_taken, end_taken, instr_in_line}
 
