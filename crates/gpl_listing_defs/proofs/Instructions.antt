@@ -1,7 +1,7 @@
 -- A printed instruction is read as that instruction again: its name, what the first checks leave of it, how many bytes it
 -- takes, and what the second checks find.
-use Rattle.std.proofs.Common.{◌≡◌, ℕ, suc, ◌+◌, ◌-◌, ◌/◌, ◌%◌, ◌<◌, ◌≤◌, Bool, true, false, ◌||◌, not}
-use Rattle.std.proofs.Common.{List, [], ◌∷◌, ◌++◌, length, length-append, refl, ap, sym, ◌∙◌, Ok, Option, Some, None, arith, rules}
+use Rattle.std.proofs.Common.{◌≡◌, ℕ, ◌+◌, ◌/◌, ◌%◌, ◌<◌, ◌≤◌, Bool, true, false, ◌||◌, not}
+use Rattle.std.proofs.Common.{List, [], ◌∷◌, ◌++◌, length, length-append, refl, ◌∙◌, Ok, Option, Some, None, arith}
 use Rattle.std.specs.Prelude.{◌==◌, IsTrue, nat_le}
 use Rattle.std.specs.List.{list_all}
 use Rattle.std.proofs.lemmas.Bool.Decides.{nat_tests}
@@ -42,7 +42,7 @@ use Rattle.gpl_source_defs.specs.Skeletons.{source_in, route_in, skeleton, sourc
 use Rattle.gpl_source_defs.specs.Values.{byte_of}
 use Rattle.gpl_listing_defs.specs.Texts.{mnemonic_of, value_text}
 use Rattle.listed_lines.proofs.LineTexts.{plain_byte, field_of}
-use Rattle.gpl_listing_defs.proofs.Operands.{IndexFits, OperandFits, InMemory, Word, Byte as OneByte, form, token_back, written_back, shown}
+use Rattle.gpl_listing_defs.proofs.Operands.{OperandFits, InMemory, Word, Byte as OneByte, form, token_back, written_back, shown}
 use Rattle.gpl_listing_defs.proofs.Operands.{source_token, length_token, target_token, from_token, tokens_of, operands_are, index_written}
 use Rattle.gpl_listing_defs.proofs.Operands.{word_value, byte_value, index_number, operand_back}
 
@@ -234,12 +234,20 @@ move_size count (target.Register number) _ valid = absurd (cc)
 pub size_back : (found : GplInstr) (at : ℕ) → IsTrue (is_valid found) → size_of (left_of found at) ≡ length
     (bytes_of found)
 size_back (instr.Two op word dst src) at valid =
-    omega (arith, length-append (operand_bytes dst) (source_bytes word src), source_size word src,
-    length-append (operand_bytes dst) (source_bytes word (source_by_zero (source_left word src))))
+    omega (
+      arith,
+      length-append (operand_bytes dst) (source_bytes word src),
+      source_size word src,
+      length-append (operand_bytes dst) (source_bytes word (source_by_zero (source_left word src))),
+    )
 size_back (instr.Move counted to source) at valid =
     move_size (length_by_zero (length_left counted)) to source valid
-    ∙ omega (arith, length_size counted, length-append (length_bytes counted) (target_bytes to ++ from_bytes source),
-    length-append (length_bytes (length_by_zero (length_left counted))) (target_bytes to ++ from_bytes source))
+    ∙ omega (
+      arith,
+      length_size counted,
+      length-append (length_bytes counted) (target_bytes to ++ from_bytes source),
+      length-append (length_bytes (length_by_zero (length_left counted))) (target_bytes to ++ from_bytes source),
+    )
 size_back _ at valid = refl
 
 -- ---- the second checks

@@ -67,8 +67,14 @@ tokens_size (instr.One op word operand) at = omega (arith, operand_size operand)
 tokens_size (instr.Two op word dst src) at =
     omega (arith, operand_size dst, source_size word src, length-append (operand_bytes dst) (source_bytes word src))
 tokens_size (instr.Move counted to place) at =
-    omega (arith, length_size counted, target_size to, from_size place, length-append (target_bytes to) (from_bytes place),
-    length-append (length_bytes counted) (target_bytes to ++ from_bytes place))
+    omega (
+      arith,
+      length_size counted,
+      target_size to,
+      from_size place,
+      length-append (target_bytes to) (from_bytes place),
+      length-append (length_bytes counted) (target_bytes to ++ from_bytes place),
+    )
 tokens_size _ at = omega arith
 
 with_operands_size : (name : List ℕ) (tokens : List Token) → length name ≤ 6 →

@@ -1,8 +1,6 @@
 pub mod LineSteps
 pub mod Operands
 pub mod Instructions
-pub mod FitLaws
-pub mod PlacingLaws
 pub mod Lines
 pub mod Entries
 pub mod ListingLaw

@@ -43,7 +43,3 @@ texts_step image low end at next is after within =
     ∙ (skipped image low end (at + 1) (next - at - 1) (end - at - 1) (omega arith)
     ∙ (ap (λ n. texts_from image low end n 0 (end - at - 1 - (next - at - 1))) (omega arith)
     ∙ ap (λ n. texts_from image low end next 0 n) (omega arith))))
-
-pub texts_end : (image : List ℕ) (low end at : ℕ) → end ≤ at → texts_from image low end at 0 (end - at) ≡ []
-texts_end image low end at le =
-    let none : end - at ≡ 0 = omega arith in ap (λ n. texts_from image low end at 0 n) none

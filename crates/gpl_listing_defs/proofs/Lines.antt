@@ -21,7 +21,7 @@ use Rattle.gpl_source_defs.specs.Locations.{Line, start, behind, location, place
 use Rattle.gpl_source_defs.specs.FirstChecks.{checked, check, line_of, names, is_full, is_bad, is_end}
 use Rattle.gpl_source_defs.specs.SecondChecks.{Bytes, outcome}
 use Rattle.gpl_source_defs.specs.Programs.{Settled, image, entry, overlaps, settle, settle_at}
-use Rattle.gpl_listing_defs.specs.Texts.{mnemonic_of, operands_text, instr_text}
+use Rattle.gpl_listing_defs.specs.Texts.{mnemonic_of, instr_text}
 use Rattle.listed_lines.proofs.DigitLaws.{word_passes, byte_passes}
 use Rattle.listed_lines.proofs.OperandLines.{whole, one_text}
 use Rattle.listed_lines.proofs.LineTexts.{Cut, Fit, number_fit, cut_listed, in_line, listed_in_line, plain_byte, field_of}
@@ -126,8 +126,11 @@ module _ {before : List Line} {earlier : List Settled} {at : Location} {held : I
           location_is = location_behind line before (origin_of at said) refl refl
               ∙ (ap (λ here. moved (origin_of at said) here (size_said said)) stands.location_is ∙ there);
           settled_are =
-              rw (stands.settled_are, settle_here earlier at (place before line) held said bytes
-              (ap (λ here. behind here 0) stands.location_is ∙ here_again at) stands.image_is second free) refl;
+              rw (
+                stands.settled_are,
+                settle_here earlier at (place before line) held said bytes
+                    (ap (λ here. behind here 0) stands.location_is ∙ here_again at) stands.image_is second free,
+              ) refl;
           image_is = ap (λ held. placed held at.number bytes) stands.image_is;
           entry_is = stands.entry_is;
         };

@@ -1,6 +1,6 @@
 -- What is listed is assembled again.
 use Rattle.std.proofs.Common.{◌≡◌, ◌≢◌, ℕ, zero, suc, ◌+◌, ◌-◌, ◌*◌, ◌/◌, ◌%◌, ◌<◌, ◌≤◌, Bool, true, false, not, ◌&&◌}
-use Rattle.std.proofs.Common.{List, [], ◌∷◌, ◌++◌, length, take, drop, refl, ap, sym, subst, ◌∙◌, ◌⊎◌, inl, inr, Ok, None, min, arith}
+use Rattle.std.proofs.Common.{List, [], ◌∷◌, ◌++◌, length, take, drop, refl, ap, sym, subst, ◌∙◌, ◌⊎◌, inl, inr, Ok, None, arith}
 use Rattle.std.specs.Prelude.{◌==◌, codes, map, slice_index, if◌then◌else◌}
 use Rattle.std.specs.List.{list_all}
 use Rattle.std.specs.FinMap.{empty}
@@ -15,14 +15,14 @@ use Rattle.gpl_defs.specs.Bytes.{bytes_of}
 use Rattle.gpl_source_defs.specs.declared.location.Location.{Location}
 use Rattle.gpl_source_defs.specs.Locations.{Line, start}
 use Rattle.gpl_source_defs.specs.Programs.{Settled, overlaps, program_of_source}
-use Rattle.gpl_listing_defs.specs.Listing.{boundary, Listed, listed_at}
+use Rattle.gpl_listing_defs.specs.Listing.{Listed, listed_at}
 use Rattle.gpl_listing_defs.specs.Listing.{origin_texts, origin_texts_at, texts_from, grom_texts, grom_listing}
 use Rattle.gpl_listing_defs.specs.Law.{ListingsComeBack}
 use Rattle.listed_lines.proofs.Scans.{all_both}
 use Rattle.listed_lines.proofs.DigitLaws.{word_passes, byte_passes}
 use Rattle.listed_lines.proofs.LineTexts.{in_line, joined, lines_joined, clean, clean_lines, text_of}
 use Rattle.gpl_listing_defs.proofs.Entries.{Entry, Whole, Single, entry_of}
-use Rattle.gpl_listing_defs.proofs.PlacingLaws.{placed_behind, placed_free, empty_free, no_overlap, between, between_more, between_size}
+use Rattle.gpl_listing_defs.proofs.Entries.{placed_behind, placed_free, empty_free, no_overlap, between, between_more, between_size}
 use Rattle.gpl_listing_defs.proofs.Lines.{Stands, Taken, Ends, at_first, ends_last, ends_more, same_location}
 use Rattle.gpl_listing_defs.proofs.Lines.{instr_taken, byte_taken, grom_taken, aorg_taken, end_taken, instr_in_line}
 

@@ -1,6 +1,6 @@
 -- The operands of instructions as they are printed, and what the checks find in their texts.
 use Rattle.std.proofs.Common.{◌≡◌, ◌⊎◌, inl, inr, ℕ, ◌+◌, ◌-◌, ◌*◌, ◌<◌, ◌≤◌, Bool, true, false, not, List, [], ◌∷◌, ◌++◌}
-use Rattle.std.proofs.Common.{length, length-append, refl, ◌∙◌, ap, Ok, Option, Some, None, lit≤, arith, rules}
+use Rattle.std.proofs.Common.{length, length-append, refl, ◌∙◌, ap, Ok, Option, Some, None, arith, rules}
 use Rattle.std.specs.Prelude.{◌==◌, map, nat_le}
 use Rattle.std.specs.List.{list_all}
 use Rattle.std.proofs.lemmas.Bool.Decides.{nat_tests}

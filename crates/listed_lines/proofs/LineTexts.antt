@@ -1,6 +1,6 @@
 -- The fields of a listed line, and the lines of a listing.
 use Rattle.std.proofs.Common.{◌≡◌, ℕ, ◌+◌, ◌-◌, ◌<◌, ◌≤◌, Bool, true, false, not, ◌&&◌, List, [], ◌∷◌, ◌++◌}
-use Rattle.std.proofs.Common.{append_assoc, length, drop, get_or, length-append, append-nil, refl, ap, sym, subst, ◌∙◌, ◌⊎◌, inl, inr}
+use Rattle.std.proofs.Common.{append_assoc, length, drop, get_or, append-nil, refl, ap, ◌∙◌, ◌⊎◌, inl, inr}
 use Rattle.std.proofs.Common.{Ok, Option, Some, None, arith}
 use Rattle.std.specs.Prelude.{map, nat_lt, codes, ◌==◌}
 use Rattle.std.specs.List.{list_all, concat}

@@ -1,11 +1,11 @@
 -- Operands with commas between them, and a text behind which another stands in parentheses.
-use Rattle.std.proofs.Common.{◌≡◌, ℕ, ◌+◌, ◌-◌, ◌<◌, ◌≤◌, Bool, true, false, not, ◌&&◌, List, [], ◌∷◌, ◌++◌}
-use Rattle.std.proofs.Common.{length, take, get_or, length-append, refl, sym, ◌∙◌, arith}
+use Rattle.std.proofs.Common.{◌≡◌, ℕ, ◌+◌, ◌<◌, Bool, true, false, not, ◌&&◌, List, [], ◌∷◌, ◌++◌}
+use Rattle.std.proofs.Common.{length, take, length-append, refl, ◌∙◌, arith}
 use Rattle.std.specs.Prelude.{map, nat_lt, ◌==◌, slice_range}
 use Rattle.std.specs.List.{list_all}
 use Rattle.std.proofs.lemmas.Bool.Decides.{nat_tests}
 use Rattle.std.proofs.Math.Seq.{take-append_seam}
-use Rattle.source_defs.specs.Characters.{is_comma, is_quote}
+use Rattle.source_defs.specs.Characters.{is_comma}
 use Rattle.source_defs.specs.Fields.{in_quotes}
 use Rattle.source_defs.specs.Lines.{part}
 use Rattle.source_defs.specs.ListedLines.{two_texts}

@@ -247,66 +247,54 @@ read_lines (item ∷ items) kept line m end number n front text is in_line run =
 
 -- ---- the items of a module
 
+abbrev load_behind : Spot → List Piece → Spot
+load_behind load [] = load
+load_behind load (piece ∷ pieces) = load_behind (moved piece.at 2) pieces
+
 abbrev with_pieces : OpenModule → List Piece → OpenModule
-with_pieces m [] = m
-with_pieces m (piece ∷ pieces) = with_pieces (with_piece m piece) pieces
+with_pieces m pieces = record { found = record m.found { pieces = m.found.pieces ++ pieces }; load = load_behind m.load pieces }
 
 abbrev with_defs : OpenModule → List Definition → OpenModule
-with_defs m [] = m
-with_defs m (definition ∷ definitions) = with_defs (with_def m definition) definitions
+with_defs m defs = record m { found = record m.found { defs = m.found.defs ++ defs } }
 
 abbrev with_refs : OpenModule → List Reference → OpenModule
-with_refs m [] = m
-with_refs m (reference ∷ references) = with_refs (with_ref m reference) references
+with_refs m refs = record m { found = record m.found { refs = m.found.refs ++ refs } }
 
 abbrev with_entry_of : OpenModule → Option Spot → OpenModule
-with_entry_of m None = m
-with_entry_of m (Some entry) = with_entry_at m entry
-
-pieces_found : (pieces : List Piece) (m : OpenModule) → (with_pieces m pieces).found ≡ record m.found { pieces = m.found.pieces ++ pieces }
-pieces_found [] m = ap (λ (xs : List Piece). record m.found { pieces = xs }) (sym (append-nil m.found.pieces))
-pieces_found (piece ∷ pieces) m =
-    pieces_found pieces (with_piece m piece) ∙ ap (λ (xs : List Piece). record m.found { pieces = xs }) (append_assoc m.found.pieces (piece ∷ []) pieces)
-
-defs_found : (defs : List Definition) (m : OpenModule) → (with_defs m defs).found ≡ record m.found { defs = m.found.defs ++ defs }
-defs_found [] m = ap (λ (xs : List Definition). record m.found { defs = xs }) (sym (append-nil m.found.defs))
-defs_found (definition ∷ defs) m =
-    defs_found defs (with_def m definition) ∙ ap (λ (xs : List Definition). record m.found { defs = xs }) (append_assoc m.found.defs (definition ∷ []) defs)
-
-refs_found : (refs : List Reference) (m : OpenModule) → (with_refs m refs).found ≡ record m.found { refs = m.found.refs ++ refs }
-refs_found [] m = ap (λ (xs : List Reference). record m.found { refs = xs }) (sym (append-nil m.found.refs))
-refs_found (reference ∷ refs) m =
-    refs_found refs (with_ref m reference) ∙ ap (λ (xs : List Reference). record m.found { refs = xs }) (append_assoc m.found.refs (reference ∷ []) refs)
+with_entry_of m entry = record m { found = record m.found { entry = entry } }
 
 run_pieces : (pieces : List Piece) (rest : List Item) (m end : OpenModule) → AllByRecursion FitsPiece pieces → AllByRecursion StandsEven pieces → length m.found.pieces + length pieces ≤ 32768
     → Run (with_pieces m pieces) rest end → Run m (map Placed pieces ++ rest) end
-run_pieces [] rest m end fits evens few run = run
+run_pieces [] rest m end fits evens few run = rw append-nil at run
 run_pieces (piece ∷ pieces) rest m end fits evens few run = (
   with_piece m piece,
   record { is = refl; fits = fits.0; evens = evens.0; few = omega arith },
-  run_pieces pieces rest (with_piece m piece) end fits.1 evens.1 (omega (arith, length-append m.found.pieces (piece ∷ []))) run,
+  run_pieces pieces rest (with_piece m piece) end fits.1 evens.1 (omega (arith, length-append m.found.pieces (piece ∷ [])))
+      (rw (append_assoc m.found.pieces (piece ∷ []) pieces) run),
 )
 
 run_defs : (defs : List Definition) (rest : List Item) (m end : OpenModule) → AllByRecursion FitsDefinition defs → length m.found.defs + length defs ≤ 256
     → Run (with_defs m defs) rest end → Run m (map (λ definition. Group (definition_text definition)) defs ++ rest) end
-run_defs [] rest m end fits few run = run
+run_defs [] rest m end fits few run = rw append-nil at run
 run_defs (definition ∷ defs) rest m end fits few run = (
   with_def m definition,
   record { adds = definition_adds m definition fits.0 (omega arith); load = refl; prints = definition_prints definition fits.0.name },
-  run_defs defs rest (with_def m definition) end fits.1 (omega (arith, length-append m.found.defs (definition ∷ []))) run,
+  run_defs defs rest (with_def m definition) end fits.1 (omega (arith, length-append m.found.defs (definition ∷ [])))
+      (rw (append_assoc m.found.defs (definition ∷ []) defs) run),
 )
 
 run_refs : (refs : List Reference) (rest : List Item) (m end : OpenModule) → AllByRecursion FitsReference refs → length m.found.refs + length refs ≤ 256
     → Run (with_refs m refs) rest end → Run m (map (λ reference. Group (reference_text reference)) refs ++ rest) end
-run_refs [] rest m end fits few run = run
+run_refs [] rest m end fits few run = rw append-nil at run
 run_refs (reference ∷ refs) rest m end fits few run = (
   with_ref m reference,
   record { adds = reference_adds m reference fits.0 (omega arith); load = refl; prints = reference_prints reference fits.0.name },
-  run_refs refs rest (with_ref m reference) end fits.1 (omega (arith, length-append m.found.refs (reference ∷ []))) run,
+  run_refs refs rest (with_ref m reference) end fits.1 (omega (arith, length-append m.found.refs (reference ∷ [])))
+      (rw (append_assoc m.found.refs (reference ∷ []) refs) run),
 )
 
 run_entry : (entry : Option Spot) (m : OpenModule) → Rattle.std.specs.Prelude.IfSome entry FitsSpot → m.found.entry ≡ None → Run m (entry_items entry) (with_entry_of m entry)
-run_entry None m fits none = refl
+run_entry None m fits none = ap (with_entry_of m) none
 run_entry (Some entry) m fits none = (with_entry_at m entry, record { adds = entry_adds m entry fits none; load = refl; prints = entry_prints entry }, refl)
 
 -- ---- the law
@@ -344,10 +332,6 @@ items_behind m =
 abbrev whole_of : Module → OpenModule
 whole_of m = with_entry_of (with_refs (with_defs (with_pieces (header_of m) m.pieces) m.defs) m.refs) m.entry
 
-entry_found : (entry : Option Spot) (m : OpenModule) → m.found.entry ≡ None → (with_entry_of m entry).found ≡ record m.found { entry = entry }
-entry_found None m none = ap (λ (e : Option Spot). record m.found { entry = e }) none
-entry_found (Some entry) m none = refl
-
 module _ (m : Module) (is : IsModule m) (has : HasText m) where
   abbrev behind_pieces : OpenModule
   behind_pieces = with_pieces (header_of m) m.pieces
@@ -358,29 +342,12 @@ module _ (m : Module) (is : IsModule m) (has : HasText m) where
   abbrev behind_refs : OpenModule
   behind_refs = with_refs behind_defs m.refs
 
-  found_pieces : behind_pieces.found ≡ record { name = m.name; size = m.size; pieces = m.pieces; defs = []; refs = []; entry = None }
-  found_pieces = pieces_found m.pieces (header_of m)
-
-  found_defs : behind_defs.found ≡ record { name = m.name; size = m.size; pieces = m.pieces; defs = m.defs; refs = []; entry = None }
-  found_defs = defs_found m.defs behind_pieces ∙ ap (λ (f : Module). record f { defs = f.defs ++ m.defs }) found_pieces
-
-  found_refs : behind_refs.found ≡ record { name = m.name; size = m.size; pieces = m.pieces; defs = m.defs; refs = m.refs; entry = None }
-  found_refs = refs_found m.refs behind_defs ∙ ap (λ (f : Module). record f { refs = f.refs ++ m.refs }) found_defs
-
-  found_whole : (whole_of m).found ≡ m
-  found_whole = entry_found m.entry behind_refs (ap (λ (f : Module). f.entry) found_refs) ∙ ap (λ (f : Module). record f { entry = m.entry }) found_refs
-
   runs : Run (header_of m) (items_behind m) (whole_of m)
   runs =
-      let no_defs : length behind_pieces.found.defs ≡ 0 = ap (λ (f : Module). length f.defs) found_pieces in
-      let no_refs : length behind_defs.found.refs ≡ 0 = ap (λ (f : Module). length f.refs) found_defs in
-      let defs : length behind_pieces.found.defs + length m.defs ≤ 256 = omega (arith, no_defs, has.defs) in
-      let refs : length behind_defs.found.refs + length m.refs ≤ 256 = omega (arith, no_refs, has.refs) in
-      let words : 0 + length m.pieces ≤ 32768 = omega (arith, has.words) in
-      run_pieces m.pieces _ (header_of m) (whole_of m) is.pieces has.even_places words
-      (run_defs m.defs _ behind_pieces (whole_of m) is.defs defs
-      (run_refs m.refs _ behind_defs (whole_of m) is.refs refs
-      (run_entry m.entry behind_refs is.entry (ap (λ (f : Module). f.entry) found_refs))))
+      run_pieces m.pieces _ (header_of m) (whole_of m) is.pieces has.even_places (omega (arith, has.words))
+      (run_defs m.defs _ behind_pieces (whole_of m) is.defs (omega (arith, has.defs))
+      (run_refs m.refs _ behind_defs (whole_of m) is.refs (omega (arith, has.refs))
+      (run_entry m.entry behind_refs is.entry refl)))
 
   begins : written m ≡ written_from 1 (with_item empty_line (Group (header_text m.size m.name))) (items_behind m)
   unfolding written_from
@@ -391,7 +358,6 @@ module _ (m : Module) (is : IsModule m) (has : HasText m) where
   read_whole : kept_lines Plain nothing_kept (left_lines (written m) 1 0) ≡ Ok (m ∷ [])
   read_whole =
       read_lines (items_behind m) nothing_kept (with_item empty_line (Group (header_text m.size m.name))) (header_of m) (whole_of m) 1 1 [] (written m) begins (header_in_line m is) runs
-      ∙ ap (λ (f : Module). Ok (f ∷ [])) found_whole
 
 -- ---- the text is plain
 

@@ -24,8 +24,8 @@ use Rattle.word_listings.specs.Listing.{memory_listing, words_in}
 use Rattle.word_listings.specs.Modules.{wraps, first_wrapping, unless_far}
 use Rattle.word_listings.specs.Law.{StandEven, listed_module}
 use Rattle.word_listings.proofs.ListingLaw.{AllBytes, aorg_text, are_words, words_fit, listing_texts, listing_ends, clean_all, listing_is, behind_laid, odd_texts}
-use Rattle.word_listings.proofs.Going.{texts_from}
-use Rattle.word_listings.proofs.OwnLines.{OwnLine, AreOwn, own_end, own_front, front_texts}
+use Rattle.word_listings.proofs.Behind.{texts_from}
+use Rattle.word_listings.proofs.ListingLaw.{OwnLine, AreOwn, own_end, own_front, front_texts}
 use Rattle.report_defs.specs.Report.{asm_report}
 use Rattle.report_defs.proofs.ListedWords.{listed as written_listing, stand_even, not_large}
 use Rattle.report_defs.specs.FileReports.{copy_report}

@@ -1,8 +1,8 @@
--- Lines behind others: where they stand, what they hold, and where the second checks refuse one.
-use Rattle.std.proofs.Common.{◌≡◌, ℕ, ◌+◌, ◌*◌, ◌≤◌, Bool, true, false, List, [], ◌∷◌, ◌++◌}
+-- Lines behind others: where they stand, what they hold, where one is refused; and those of words, to the last line.
+use Rattle.std.proofs.Common.{◌≡◌, ℕ, ◌+◌, ◌*◌, ◌≤◌, Bool, true, false, List, [], ◌∷◌, ◌++◌, zero, suc, ◌-◌, ◌%◌, ◌<◌}
 use Rattle.std.proofs.Common.{length, refl, ap, ◌∙◌, Ok, Some, None, arith}
 use Rattle.std.specs.Option.{option_map}
-use Rattle.std.specs.Prelude.{Result, Err, ◌||◌, map, max, nat_le}
+use Rattle.std.specs.Prelude.{Result, Err, ◌||◌, map, max, nat_le, Option, if◌then◌else◌}
 use Rattle.std.proofs.lemmas.Bool.Decides.{nat_tests}
 use Rattle.source_defs.specs.Refusals.{Refusal, ◌>>=◌}
 use Rattle.source_defs.specs.ListedLines.{listed}
@@ -26,7 +26,14 @@ use Rattle.source_defs.specs.OperandLists.{is_empty}
 use Rattle.line_laws.proofs.Placing.{HoldWords, ComesNext, hold_more}
 use Rattle.line_laws.proofs.Settling.{has_room}
 use Rattle.line_laws.proofs.Small.{chosen}
-use Rattle.word_listings.proofs.LineBacks.{absolute_at, LineBack}
+use Rattle.word_listings.proofs.LineBacks.{absolute_at, LineBack, Counts, come_unless, words_back}
+use Rattle.std.proofs.Common.{length-append, append_assoc, append-nil, take-append-drop, length-take-le, take, drop, sym, subst}
+use Rattle.tms_defs.specs.Instructions.{instr_at}
+use Rattle.instruction_defs.specs.declared.causes.FormError.TheVariants.{JumpTooFar}
+use Rattle.instruction_defs.specs.Printed.{printed}
+use Rattle.asm_defs.specs.declared.causes.AsmCause.TheVariants.{Form}
+use Rattle.word_listings.specs.Modules.{wraps, first_wrapping, unless_far}
+use Rattle.word_listings.proofs.Instructions.{AreWords}
 
 -- lines behind which the location is an absolute place, and which say nothing else
 pub record Stands (before : List Line) (at : ℕ) : Type 0 where
@@ -39,6 +46,16 @@ pub record Stands (before : List Line) (at : ℕ) : Type 0 where
 
 pub same_place : (m n : ℕ) → m ≡ n → absolute_at m ≡ absolute_at n
 same_place m n e = ap absolute_at e
+
+-- a line that is let through behind others
+pub record Taken (before : List Line) (number : ℕ) (text : List ℕ) (at next : ℕ) (last : Bool) (answer : Result Outcome AsmCause) : Type 0 where
+  pub line : Line
+  pub check_is : check before number (listed text) ≡ Ok line
+  pub last_is : line.last ≡ last
+  pub number_is : line.number ≡ number
+  pub stands : Stands (line ∷ before) next
+  pub settle_is : (earlier : List Settled) → settle predefined before earlier line
+      ≡ (answer >>= λ found. with_room earlier (record { at = absolute_at at; outcome = found }))
 
 -- a line by itself is let through behind others
 module _ (at : ℕ) (text : List ℕ) (size : ℕ) (last : Bool) (answer : Result Outcome AsmCause) (back : LineBack at text size last answer) (fits : at + size ≤ 65536) where
@@ -58,9 +75,6 @@ module _ (at : ℕ) (text : List ℕ) (size : ℕ) (last : Bool) (answer : Resul
     abbrev line : Line
     line = line_of number found
 
-    check_is : check before number (listed text) ≡ Ok line
-    check_is = ap (λ answer. answer >>= λ found. Ok (line_of number found)) (let_through (known_of before) stands.location_is)
-
     location_next : location (line ∷ before) ≡ absolute_at (at + size)
     location_next =
         let n : ℕ = (location before).number in
@@ -74,45 +88,27 @@ module _ (at : ℕ) (text : List ℕ) (size : ℕ) (last : Bool) (answer : Resul
     place_is : place before line ≡ absolute_at at
     place_is = ap (λ here. behind here 0) stands.location_is ∙ same_place (at + 0) at (omega arith)
 
-    stands_next : Stands (line ∷ before) (at + size)
-    stands_next = record {
-      names_are = with_no_names before stands.names_are;
-      location_is = location_next;
-      refs_are = rw (stands.refs_are, back.own.refs) refl;
-      defs_are = rw (stands.defs_are, back.own.defs) refl;
-      reached_is = ap (λ here. max (reached before) (relocatable here)) location_next ∙ ap (λ n. max n 0) stands.reached_is;
-      title_is = back.own.title_kept (title before) ∙ stands.title_is;
+    with_no_names : (before : List Line) → names before ≡ predefined → names (line_of number found ∷ before) ≡ predefined
+    with_no_names before e = rw back.own.refs e
+
+    pub taken : Taken before number text at (at + size) last answer
+    taken = record {
+      line = line;
+      check_is = ap (λ answer. answer >>= λ found. Ok (line_of number found)) (let_through (known_of before) stands.location_is);
+      last_is = back.own.last_is;
+      number_is = refl;
+      stands = record {
+        names_are = with_no_names before stands.names_are;
+        location_is = location_next;
+        refs_are = rw (stands.refs_are, back.own.refs) refl;
+        defs_are = rw (stands.defs_are, back.own.defs) refl;
+        reached_is = ap (λ here. max (reached before) (relocatable here)) location_next ∙ ap (λ n. max n 0) stands.reached_is;
+        title_is = back.own.title_kept (title before) ∙ stands.title_is;
+      };
+      settle_is = λ earlier.
+          ap (λ place. settle_at predefined place back.statement earlier) place_is
+          ∙ ap (λ answer. answer >>= λ found. with_room earlier (record { at = absolute_at at; outcome = found })) back.comes;
     }
-      where
-        with_no_names : (before : List Line) → names before ≡ predefined → names (line_of number found ∷ before) ≡ predefined
-        with_no_names before e = rw back.own.refs e
-
-    settle_is : (earlier : List Settled) → settle predefined before earlier line
-        ≡ (answer >>= λ found. with_room earlier (record { at = absolute_at at; outcome = found }))
-    settle_is earlier =
-        ap (λ place. settle_at predefined place back.statement earlier) place_is
-        ∙ ap (λ answer. answer >>= λ found. with_room earlier (record { at = absolute_at at; outcome = found })) back.comes
-
--- a line that is let through behind others
-pub record Taken (before : List Line) (number : ℕ) (text : List ℕ) (at next : ℕ) (last : Bool) (answer : Result Outcome AsmCause) : Type 0 where
-  pub line : Line
-  pub check_is : check before number (listed text) ≡ Ok line
-  pub last_is : line.last ≡ last
-  pub number_is : line.number ≡ number
-  pub stands : Stands (line ∷ before) next
-  pub settle_is : (earlier : List Settled) → settle predefined before earlier line
-      ≡ (answer >>= λ found. with_room earlier (record { at = absolute_at at; outcome = found }))
-
-pub taken : (at : ℕ) (text : List ℕ) (size : ℕ) (last : Bool) (answer : Result Outcome AsmCause) → LineBack at text size last answer → at + size ≤ 65536
-    → (before : List Line) → Stands before at → (number : ℕ) → Taken before number text at (at + size) last answer
-taken at text size last answer back fits before stands number = record {
-  line = line at text size last answer back fits before stands number;
-  check_is = check_is at text size last answer back fits before stands number;
-  last_is = back.own.last_is;
-  number_is = refl;
-  stands = stands_next at text size last answer back fits before stands number;
-  settle_is = settle_is at text size last answer back fits before stands number;
-}
 
 -- ---- what the lines come to
 
@@ -126,6 +122,11 @@ Fails before refusal = settled (settle predefined) before ≡ Err refusal
 
 pub fails_still : (line : Line) (before : List Line) (refusal : Refusal AsmCause) → Fails before refusal → Fails (line ∷ before) refusal
 fails_still line before refusal e = rw e refl
+
+-- what lines come to: words that stand one behind the other from a place on, or a refusal
+abbrev pub Comes : List Line → ℕ → Result (List ℕ) (Refusal AsmCause) → Type 0
+Comes before from (Ok words) = (earlier : List Settled) × Holds before earlier from words
+Comes before from (Err refusal) = Fails before refusal
 
 -- lines behind others, to the last
 pub record Ends (before : List Line) (number : ℕ) (texts : List (List ℕ)) (answer : Result Module (Refusal AsmCause)) : Type 0 where
@@ -193,3 +194,113 @@ holds_next before number text at next more earlier from words taken holds there 
     here_next : (more : List ℕ) → (is_empty more || is_at (from + 2 * length words) (absolute_at at)) ≡ true
     here_next [] = refl
     here_next (word ∷ more) = grind (arith, nat_tests, there)
+
+-- ---- The lines of words, from any place to the last line
+
+-- what the lines of words say
+abbrev pub texts_from : ℕ → ℕ → List ℕ → List (List ℕ)
+texts_from at belonging [] = []
+texts_from at (suc belonging) (word ∷ words) = texts_from (at + 2) belonging words
+texts_from at zero (word ∷ words) =
+    let front = printed (word ∷ words) at in front.text ∷ texts_from (at + 2) (front.count - 1) words
+
+drop_none : (n : ℕ) → ◌≡◌ {A = List ℕ} (drop n []) []
+drop_none zero = refl
+drop_none (suc n) = refl
+
+dropped : (word : ℕ) (words : List ℕ) (count : ℕ) → 0 < count → drop (count - 1) words ≡ drop count (word ∷ words)
+dropped word words zero lt = absurd (omega (arith, lt))
+dropped word words (suc count) lt = let same : suc count - 1 ≡ count = omega arith in ap (λ n. drop n words) same
+
+module _ (from : ℕ) (total : List ℕ) (tails : List (List ℕ)) (whole : Module) (end : ℕ) (below : end ≤ 65536) where
+  -- the last lines, behind all words or where a line before is refused
+  abbrev pub Closes : Type 0
+  Closes =
+      (before : List Line) (number : ℕ) → Stands before end →
+      ((earlier : List Settled) → Holds before earlier from total → Ends before number tails (Ok whole))
+      × ((refusal : Refusal AsmCause) → Fails before refusal → Ends before number tails (Err refusal))
+
+  -- words and those that are left are all of them, and these stand from a place on
+  abbrev AreAll : Result (List ℕ) (Refusal AsmCause) → List ℕ → ℕ → Type 0
+  AreAll (Ok words) rest place = (from + 2 * length words ≡ place) × (words ++ rest ≡ total)
+  AreAll (Err refusal) rest place = Unit {0}
+
+  abbrev finish : Result (List ℕ) (Refusal AsmCause) → Option ℕ → Result Module (Refusal AsmCause)
+  finish (Ok words) far = unless_far far whole
+  finish (Err refusal) far = Err refusal
+
+  module _ (closes : Closes) where
+    abbrev GoesFrom : List ℕ → Type 0
+    GoesFrom words =
+        (at belonging number : ℕ) (before : List Line) (come : Result (List ℕ) (Refusal AsmCause)) → belonging ≤ length words →
+        at % 2 ≡ 0 → at + 2 * length words ≡ end → AreWords words → Stands before (at + 2 * belonging) → Comes before from come →
+        AreAll come (drop belonging words) (at + 2 * belonging) →
+        Ends before number (texts_from at belonging words ++ tails) (finish come (first_wrapping number at belonging words))
+
+    module _ (word : ℕ) (words : List ℕ) (others : GoesFrom words) (at number : ℕ) (before : List Line) (even : at % 2 ≡ 0)
+        (size : at + 2 * length (word ∷ words) ≡ end) (are : AreWords (word ∷ words)) (stands : Stands before at) where
+      abbrev count : ℕ
+      count = (printed (word ∷ words) at).count
+
+      abbrev text : List ℕ
+      text = (printed (word ∷ words) at).text
+
+      abbrev later : Option ℕ
+      later = first_wrapping (number + 1) (at + 2) (count - 1) words
+
+      go_on : {answer : Result Outcome AsmCause} (line : Taken before number text at (at + 2 * count) false answer)
+          (come : Result (List ℕ) (Refusal AsmCause)) → Counts (word ∷ words) text count → Comes (line.line ∷ before) from come →
+          AreAll come (drop count (word ∷ words)) (at + 2 * count) →
+          Ends before number (text ∷ (texts_from (at + 2) (count - 1) words ++ tails)) (finish come later)
+      go_on line come counts comes all =
+          let some = counts.some in
+          let within = counts.within in
+          let next : at + 2 * count ≡ at + 2 + 2 * (count - 1) = omega (arith, some) in
+          ends_more before number _ _ _ _ _ _ line
+          (others (at + 2) (count - 1) (number + 1) (line.line ∷ before) come (omega (arith, within)) (omega (arith, even))
+          (omega (arith, size)) (λ k. are (suc k)) (subst (Stands (line.line ∷ before)) next line.stands) comes
+          (subst (AreAll come (drop (count - 1) words)) next
+          (subst (λ rest. AreAll come rest (at + 2 * count)) (sym (dropped word words count some)) all)))
+
+      goes_by : (far : Bool) → LineBack at text (2 * count) false (come_unless far (take count (word ∷ words))) →
+          Counts (word ∷ words) text count → (come : Result (List ℕ) (Refusal AsmCause)) → Comes before from come →
+          AreAll come (word ∷ words) at →
+          Ends before number (text ∷ (texts_from (at + 2) (count - 1) words ++ tails)) (finish come (if far then Some number else later))
+      goes_by far back counts (Err refusal) comes all =
+          let within = counts.within in
+          let line = taken at text (2 * count) false _ back (omega (arith, size, below, within)) before stands number in
+          go_on line (Err refusal) counts (fails_still line.line before refusal comes) tt
+      goes_by true back counts (Ok held) comes all =
+          let within = counts.within in
+          let line = taken at text (2 * count) false _ back (omega (arith, size, below, within)) before stands number in
+          go_on line (Err (record { line = number; cause = Form JumpTooFar })) counts
+          (fails_now before number text at (at + 2 * count) false (Form JumpTooFar) comes.0 line comes.1.settled_are) tt
+      goes_by false back counts (Ok held) comes all =
+          let within = counts.within in
+          let line = taken at text (2 * count) false _ back (omega (arith, size, below, within)) before stands number in
+          let more : List ℕ = take count (word ∷ words) in
+          let long : length (held ++ take count (word ∷ words)) ≡ length held + count =
+          length-append held (take count (word ∷ words)) ∙ ap (λ n. length held + n) (length-take-le count (word ∷ words) within) in
+          let there = all.0 in
+          go_on line (Ok (held ++ take count (word ∷ words))) counts
+          (_, holds_next before number text at (at + 2 * count) (take count (word ∷ words)) comes.0 from held line comes.1 (sym there))
+          (omega (arith, long, there), append_assoc held (take count (word ∷ words)) (drop count (word ∷ words))
+          ∙ (ap (λ rest. held ++ rest) (take-append-drop count (word ∷ words)) ∙ all.1))
+
+    pub goes_from : (words : List ℕ) → GoesFrom words
+    goes_from [] at belonging number before (Err refusal) le even size are stands comes all =
+        let ends : at + 2 * belonging ≡ end = omega (arith, size, le) in
+        (closes before number (subst (Stands before) ends stands)).1 refusal comes
+    goes_from [] at belonging number before (Ok held) le even size are stands comes all =
+        let ends : at + 2 * belonging ≡ end = omega (arith, size, le) in
+        let same : held ≡ total = sym (append-nil held) ∙ (ap (λ rest. held ++ rest) (sym (drop_none belonging)) ∙ all.1) in
+        (closes before number (subst (Stands before) ends stands)).0 comes.0 (subst (Holds before comes.0 from) same comes.1)
+    goes_from (word ∷ words) at zero number before come le even size are stands comes all =
+        let here : at + 2 * 0 ≡ at = omega arith in
+        let back = words_back at (omega (arith, size, below)) even word words are in
+        goes_by word words (goes_from words) at number before even size are (subst (Stands before) here stands)
+        (wraps at (instr_at word)) back.0 back.1 come comes (subst (AreAll come (word ∷ words)) here all)
+    goes_from (word ∷ words) at (suc belonging) number before come le even size are stands comes all =
+        let next : at + 2 * suc belonging ≡ at + 2 + 2 * belonging = omega arith in
+        goes_from words (at + 2) belonging number before come (omega (arith, le)) (omega (arith, even)) (omega (arith, size))
+        (λ k. are (suc k)) (subst (Stands before) next stands) comes (subst (AreAll come (drop belonging words)) next all)

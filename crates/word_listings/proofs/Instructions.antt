@@ -1,9 +1,24 @@
--- A listed instruction by the first and the second checks.
-use Rattle.std.proofs.Common.{◌≡◌, ◌⊎◌, inl, inr, ℕ, ◌+◌, ◌*◌, ◌<◌, ◌≤◌, Bool, true, false, List, [], ◌∷◌}
-use Rattle.std.proofs.Common.{length, length-append, refl, ap, subst, Ok, Option, Some, None, arith}
-use Rattle.std.specs.Prelude.{Result, Err, ℤ, FitsSigned, slice_index, if◌then◌else◌}
-use Rattle.std.specs.Int.{w8}
+-- A listed instruction by the first and the second checks: its name, which is no directive and names it alone, its
+-- operands, and its words, which are those that it was read from.
+use Rattle.std.proofs.Common.{◌≡◌, ◌<◌, ◌≤◌, ◌∙◌, true, false, length, refl, Some, None, arith, suc, ◌++◌, take}
+use Rattle.std.specs.Prelude.{codes, Result, Err, ℤ, FitsSigned, slice_index, if◌then◌else◌, ◌==◌, IfSome, map}
 use Rattle.std.specs.List.{list_all}
+use Rattle.source_defs.specs.Names.{is_word}
+use Rattle.tms_defs.specs.declared.instruction.TwoOp.TheVariants.{SZC}
+use Rattle.tms_defs.specs.declared.instruction.RegOp.TheVariants.{COC, XOP, LDCR, STCR}
+use Rattle.tms_defs.specs.declared.instruction.ShiftOp.TheVariants.{SRA}
+use Rattle.tms_defs.specs.declared.instruction.OneOp.TheVariants.{BLWP}
+use Rattle.tms_defs.specs.declared.instruction.JumpOp.TheVariants.{JMP, SBO, SBZ, TB}
+use Rattle.tms_defs.specs.declared.instruction.ImmOp.TheVariants.{LI}
+use Rattle.tms_defs.specs.declared.instruction.BareOp.TheVariants.{LWPI}
+use Rattle.tms_defs.specs.declared.instruction.Operation.{Operation}
+use Rattle.tms_defs.specs.declared.instruction.Operation.TheVariants.{Two, Reg, Shift, One, Jump, Imm, Bare}
+use Rattle.instruction_defs.specs.declared.mnemonic.Mnemonic.TheVariants.{Of}
+use Rattle.instruction_defs.specs.Operations.{name_of, mnemonic}
+use Rattle.asm_defs.specs.Directives.{directive}
+use Rattle.listed_lines.proofs.LineTexts.{plain_byte, field_of}
+use Rattle.std.proofs.Common.{◌⊎◌, inl, inr, ℕ, ◌+◌, ◌*◌, Bool, List, [], ◌∷◌, length-append, ap, subst, Ok, Option}
+use Rattle.std.specs.Int.{w8}
 use Rattle.source_defs.specs.Refusals.{◌>>=◌}
 use Rattle.source_defs.specs.Digits.{marked_word}
 use Rattle.source_defs.specs.Expression.{Value, Absolute}
@@ -11,12 +26,9 @@ use Rattle.source_defs.specs.ListedLines.{two_texts}
 use Rattle.tms_defs.specs.Instructions.{HasRoom, HasSignedByte, operation_of, word_of}
 use Rattle.tms_defs.specs.declared.instruction.Place.{Place}
 use Rattle.tms_defs.specs.declared.instruction.RegOp.{RegOp}
-use Rattle.tms_defs.specs.declared.instruction.RegOp.TheVariants.{XOP, LDCR, STCR}
 use Rattle.tms_defs.specs.declared.instruction.JumpOp.{JumpOp}
-use Rattle.tms_defs.specs.declared.instruction.JumpOp.TheVariants.{SBO, SBZ, TB}
 use Rattle.tms_defs.specs.declared.instruction.ImmOp.{ImmOp}
 use Rattle.tms_defs.specs.declared.instruction.BareOp.{BareOp}
-use Rattle.tms_defs.specs.declared.instruction.Operation.{Operation}
 use Rattle.tms_defs.specs.declared.instruction.Instr.{Instr}
 use Rattle.tms_defs.specs.declared.instruction.Instr.TheVariants.{Two, Reg, Shift, One, Jump, Imm, Bare}
 use Rattle.instruction_defs.specs.declared.causes.FormError.{FormError}
@@ -24,23 +36,48 @@ use Rattle.instruction_defs.specs.declared.causes.FormError.TheVariants.{JumpToo
 use Rattle.instruction_defs.specs.declared.slot.Slot.{Slot}
 use Rattle.instruction_defs.specs.declared.slot.Slot.TheVariants as slot
 use Rattle.instruction_defs.specs.Forms.{Form, Symbolic, Indexed}
-use Rattle.instruction_defs.specs.Operations.{name_of}
 use Rattle.instruction_defs.specs.Operands.{following_words, words_of, slots_of, reg_slots, jump_slots, has_immediate, has_value}
 use Rattle.instruction_defs.specs.FirstChecks.{Skeleton, Instruction, first_checks, form_in, following, forms_of, all_following, size_of}
 use Rattle.instruction_defs.specs.SecondChecks as second
 use Rattle.instruction_defs.specs.SecondChecks.{Ready, Located, Counted, Displaced, Followed, all_valued, all_ranged, second_checks, displaced}
-use Rattle.instruction_defs.specs.SecondChecks.{instruction_of}
+use Rattle.instruction_defs.specs.SecondChecks.{instruction_of, following_in}
 use Rattle.tms_defs.specs.Words.{plus}
 use Rattle.tms_defs.specs.forms.Jump.{jump_target}
 use Rattle.instruction_defs.specs.Printed.{operand_text, register_text, number_text, signed_text, target_text, operands_text}
 use Rattle.listed_lines.proofs.Scans.{all_both, all_also, and_left, and_right}
 use Rattle.listed_lines.proofs.OperandLines.{whole, one_text, two_operands}
-use Rattle.listed_lines.proofs.LineTexts.{field_of, plain_byte}
-use Rattle.word_listings.specs.Modules.{jump_wraps, leads_out}
-use Rattle.word_listings.proofs.Numbers.{known}
+use Rattle.word_listings.specs.Modules.{jump_wraps, leads_out, wraps}
+use Rattle.word_listings.proofs.Slots.{known}
 use Rattle.word_listings.proofs.Slots.{SlotBack, letter, followed, place_back, register_back, count_back, immediate_back, bit_back, target_back}
-use Rattle.word_listings.proofs.Names.{names}
 use Rattle.count_defs.specs.Counts.{one_if}
+use Rattle.std.specs.Option.{option_map}
+use Rattle.std.proofs.lemmas.Int.{ints}
+use Rattle.tms_defs.specs.Instructions.{operation_at, operands_at, instr_at}
+use Rattle.tms_defs.proofs.InstructionLaws.{instr_at-encoded, instr_at-room}
+use Rattle.tms_defs.specs.declared.instruction.Operation.TheVariants as operation
+
+pub record Names (operation : Operation) : Type 0 where
+  pub no_directive : directive (name_of operation) ≡ None
+  pub reads : mnemonic (name_of operation) ≡ Some (Of operation)
+  pub some : 0 < length (name_of operation)
+  pub short : length (name_of operation) ≤ 6
+  pub plain : list_all plain_byte (name_of operation) ≡ true
+  pub no_copy : is_word (name_of operation) (codes "COPY") ≡ false
+
+pub names : (operation : Operation) → Names operation
+unfolding directive mnemonic
+names (Two SZC false) = record { no_directive = refl; reads = refl; some = omega arith; short = omega arith; plain = refl; no_copy = refl }
+names (Two _ false) = record { no_directive = refl; reads = refl; some = omega arith; short = omega arith; plain = refl; no_copy = refl }
+names (Two _ true) = record { no_directive = refl; reads = refl; some = omega arith; short = omega arith; plain = refl; no_copy = refl }
+names (Reg COC) = record { no_directive = refl; reads = refl; some = omega arith; short = omega arith; plain = refl; no_copy = refl }
+names (Shift SRA) = record { no_directive = refl; reads = refl; some = omega arith; short = omega arith; plain = refl; no_copy = refl }
+names (One BLWP) = record { no_directive = refl; reads = refl; some = omega arith; short = omega arith; plain = refl; no_copy = refl }
+names (Jump JMP) = record { no_directive = refl; reads = refl; some = omega arith; short = omega arith; plain = refl; no_copy = refl }
+names (Imm LI) = record { no_directive = refl; reads = refl; some = omega arith; short = omega arith; plain = refl; no_copy = refl }
+names (Bare LWPI) = record { no_directive = refl; reads = refl; some = omega arith; short = omega arith; plain = refl; no_copy = refl }
+names _ = record { no_directive = refl; reads = refl; some = omega arith; short = omega arith; plain = refl; no_copy = refl }
+
+-- ---- A listed instruction by the first and the second checks
 
 -- an operand field by its slots, and what the checks make of it
 pub record FieldBack (here : Value) (slots : List Slot) (operands : Option (List ℕ)) (answer : Result (List Ready) FormError) (count : ℕ) : Type 0 where
@@ -115,8 +152,7 @@ module _ {here : Value} where
 
 -- the values of an instruction's words, or its refusal
 abbrev pub values_of : Operation → Result (List Ready) FormError → Result (List Value) FormError
-values_of operation (Ok readies) = Ok (Absolute (word_of (instruction_of operation readies)) ∷ second.all_following readies)
-values_of operation (Err cause) = Err cause
+values_of operation answer = answer >>= λ readies. Ok (Absolute (word_of (instruction_of operation readies)) ∷ second.all_following readies)
 
 pub record InstrBack (here : Value) (operation : Operation) (field : List ℕ) (answer : Result (List Value) FormError) (count : ℕ) : Type 0 where
   pub skeleton : Skeleton
@@ -130,18 +166,12 @@ valued_all : (operation : Operation) (here : Value) (forms : List Form) (answer 
     → (all_valued known here (slots_of operation) forms >>= all_ranged here) ≡ answer
     → second_checks known here (Instruction operation forms) ≡ values_of operation answer
 unfolding second_checks
-valued_all operation here forms answer e = by (all_valued known here (slots_of operation) forms) answer e
+valued_all operation here forms answer e = both_checks (all_valued known here (slots_of operation) forms) ∙ ap (values_of operation) e
   where
-    ranged_by : (ranged : Result (List Ready) FormError) (answer : Result (List Ready) FormError) → ranged ≡ answer
-        → (ranged >>= λ readies. Ok (Absolute (word_of (instruction_of operation readies)) ∷ second.all_following readies)) ≡ values_of operation answer
-    ranged_by ranged (Ok readies) e = rw e refl
-    ranged_by ranged (Err cause) e = rw e refl
-
-    by : (values : Result (List second.Operand) FormError) (answer : Result (List Ready) FormError) → (values >>= all_ranged here) ≡ answer
-        → (values >>= λ operands. all_ranged here operands >>= λ readies. Ok (Absolute (word_of (instruction_of operation readies)) ∷ second.all_following readies))
-        ≡ values_of operation answer
-    by (Ok operands) answer e = ranged_by (all_ranged here operands) answer e
-    by (Err cause) answer e = ap (values_of operation) e
+    both_checks : (values : Result (List second.Operand) FormError) →
+        (values >>= λ operands. values_of operation (all_ranged here operands)) ≡ values_of operation (values >>= all_ranged here)
+    both_checks (Ok operands) = refl
+    both_checks (Err cause) = refl
 
 pub instr_back : (here : Value) (operation : Operation) (operands : Option (List ℕ)) (answer : Result (List Ready) FormError) (count : ℕ)
     → FieldBack here (slots_of operation) operands answer count → InstrBack here operation (field_of operands) (values_of operation answer) (1 + count)
@@ -242,3 +272,105 @@ module _ (at : ℕ) (inside : at < 65536) (words : List ℕ) (are : AreWords wor
   field_back (Jump op disp) room signed = (0, refl, jump_field op disp signed)
   field_back (Imm op number) room signed = imm_field op number room
   field_back (Bare op) room signed = bare_field op
+
+-- ---- The words of a listed instruction are those that it was read from
+
+-- what is read has a signed byte
+signed : (operation : Operation) (word : ℕ) → HasSignedByte (operands_at operation word)
+signed (operation.Jump op) word = omega (arith, ints)
+signed _ word = tt
+
+pub instr_at-signed : (word : ℕ) → IfSome (instr_at word) HasSignedByte
+instr_at-signed word = by (operation_at word)
+  where
+    by : (found : Option Operation) → IfSome (option_map (λ operation. operands_at operation word) found) HasSignedByte
+    by None = tt
+    by (Some operation) = signed operation word
+
+-- an instruction that is read from a word
+pub record IsRead (word : ℕ) (found : Instr) : Type 0 where
+  pub encoded : word_of found ≡ word
+  pub room : HasRoom found
+  pub signed : HasSignedByte found
+
+pub is_read : (word : ℕ) (found : Instr) → word < 65536 → instr_at word ≡ Some found → IsRead word found
+is_read word found lt e = record {
+  encoded = if_some (λ instr. word_of instr ≡ word) (instr_at-encoded word lt);
+  room = if_some HasRoom (instr_at-room word);
+  signed = if_some HasSignedByte (instr_at-signed word);
+}
+  where
+    if_some : (P : Instr → Type 0) → IfSome (instr_at word) P → P found
+    if_some P is = subst (λ answer. IfSome answer P) e is
+
+-- ---- the words that follow
+
+abbrev follows : Bool → ℕ
+follows b = if b then 1 else 0
+
+two_follow : (src dst : Place) (a b : Bool) (word : ℕ) (rest : List ℕ) → follows a + follows b ≤ length rest
+    → following_in (Located src (if a then Some (Absolute (slice_index (word ∷ rest) 1)) else None))
+    ++ (following_in (Located dst (if b then Some (Absolute (slice_index (word ∷ rest) (1 + follows a))) else None)) ++ [])
+    ≡ map Absolute (take (follows a + follows b) rest)
+two_follow src dst false false word rest le = refl
+two_follow src dst false true word [] le = absurd (omega (arith, le))
+two_follow src dst false true word (first ∷ rest) le = refl
+two_follow src dst true false word [] le = absurd (omega (arith, le))
+two_follow src dst true false word (first ∷ rest) le = refl
+two_follow src dst true true word [] le = absurd (omega (arith, le))
+two_follow src dst true true word (first ∷ []) le = absurd (omega (arith, le))
+two_follow src dst true true word (first ∷ second ∷ rest) le = refl
+
+alone_follows : (b : Bool) (word : ℕ) (rest : List ℕ) (place : Place) → follows b ≤ length rest
+    → following_in (Located place (if b then Some (Absolute (slice_index (word ∷ rest) 1)) else None)) ++ [] ≡ map Absolute (take (follows b) rest)
+alone_follows false word rest place le = refl
+alone_follows true word [] place le = absurd (omega (arith, le))
+alone_follows true word (first ∷ rest) place le = refl
+
+-- the values of the words of an instruction, unless it is a jump that wraps
+abbrev pub values_unless : Bool → List ℕ → Result (List Value) FormError
+values_unless true words = Err JumpTooFar
+values_unless false words = Ok (map Absolute words)
+
+module _ (at word : ℕ) (rest : List ℕ) where
+  abbrev Again : Instr → Type 0
+  Again found = word_of found ≡ word → words_of found ≤ length (word ∷ rest)
+      → values_of (operation_of found) (readies_of found at (word ∷ rest)) ≡ values_unless (wraps at (Some found)) (take (words_of found) (word ∷ rest))
+
+  put : (found : Instr) (following : List Value) (n count : ℕ) → count ≡ suc n → word_of found ≡ word → following ≡ map Absolute (take n rest)
+      → ◌≡◌ {A = Result (List Value) FormError} (Ok (Absolute (word_of found) ∷ following)) (Ok (map Absolute (take count (word ∷ rest))))
+  put found following n count same e f = rw (same, e, f) refl
+
+  jump_again : (found : Instr) (disp : ℤ) (out : Bool) (cause : FormError) → word_of found ≡ word → (operation : Operation) → instruction_of operation (Displaced disp ∷ []) ≡ found
+      → values_of operation (if out then Err JumpTooFar else Ok (Displaced disp ∷ [])) ≡ values_unless out (take 1 (word ∷ rest))
+  jump_again found disp true cause e operation same = refl
+  jump_again found disp false cause e operation same = rw (same, e) refl
+
+  two_words : (rest : List ℕ) → 2 ≤ length (word ∷ rest) →
+      ◌≡◌ {A = Result (List Value) FormError} (Ok (Absolute word ∷ Absolute (slice_index (word ∷ rest) 1) ∷ [])) (Ok (map Absolute (take 2 (word ∷ rest))))
+  two_words [] le = absurd (omega (arith, le))
+  two_words (first ∷ rest) le = refl
+
+  imm_again : (found : Instr) (number : ℕ) (operation : Operation) (b : Bool) → word_of found ≡ word → 1 + one_if b ≤ length (word ∷ rest)
+      → ((readies : List Ready) → instruction_of operation (Counted number ∷ readies) ≡ found)
+      → values_of operation (if b then Ok (Counted number ∷ Followed (Absolute (slice_index (word ∷ rest) 1)) ∷ []) else Ok (Counted number ∷ []))
+      ≡ Ok (map Absolute (take (1 + one_if b) (word ∷ rest)))
+  imm_again found number operation false e le same = rw (same [], e) refl
+  imm_again found number operation true e le same = rw (same (Followed (Absolute (slice_index (word ∷ rest) 1)) ∷ []), e) (two_words rest le)
+
+  bare_again : (found : Instr) (operation : Operation) (b : Bool) → word_of found ≡ word → 1 + one_if b ≤ length (word ∷ rest)
+      → ((readies : List Ready) → instruction_of operation readies ≡ found)
+      → values_of operation (if b then Ok (Followed (Absolute (slice_index (word ∷ rest) 1)) ∷ []) else Ok [])
+      ≡ Ok (map Absolute (take (1 + one_if b) (word ∷ rest)))
+  bare_again found operation false e le same = rw (same [], e) refl
+  bare_again found operation true e le same = rw (same (Followed (Absolute (slice_index (word ∷ rest) 1)) ∷ []), e) (two_words rest le)
+
+  pub again : (found : Instr) → Again found
+  again (Two op byte dst src) e le =
+      put (Two op byte dst src) _ (following_words src + following_words dst) _ (omega arith) e (two_follow src dst (src.mode == 2) (dst.mode == 2) word rest (omega (arith, le)))
+  again (Reg op number src) e le = put (Reg op number src) _ (following_words src) _ (omega arith) e (alone_follows (src.mode == 2) word rest src (omega (arith, le)))
+  again (Shift op count number) e le = put (Shift op count number) [] 0 _ refl e refl
+  again (One op place) e le = put (One op place) _ (following_words place) _ (omega arith) e (alone_follows (place.mode == 2) word rest place (omega (arith, le)))
+  again (Jump op disp) e le = jump_again (Jump op disp) disp (jump_wraps op (at + 2) disp) JumpTooFar e (operation.Jump op) refl
+  again (Imm op number) e le = imm_again (Imm op number) number (operation.Imm op) (has_immediate op) e le (λ readies. refl)
+  again (Bare op) e le = bare_again (Bare op) (operation.Bare op) (has_value op) e le (λ readies. refl)

@@ -1,14 +1,8 @@
-pub mod Numbers
 pub mod Slots
-pub mod Names
 pub mod Instructions
-pub mod Again
 pub mod LineBacks
 pub mod Behind
-pub mod Going
 pub mod Closing
 pub mod ListingLaw
-pub mod InnerLaw
 pub mod ShortLaw
 pub mod LinkLaw
-pub mod OwnLines

@@ -36,10 +36,9 @@ use Rattle.listed_lines.proofs.DigitLaws.{word_passes, byte_passes}
 use Rattle.listed_lines.proofs.OperandLines.{whole, one_text}
 use Rattle.listed_lines.proofs.LineTexts.{field_of, plain_byte, number_fit, Cut, Fit, cut_listed, in_line, listed_in_line}
 use Rattle.word_listings.specs.Modules.{wraps}
-use Rattle.word_listings.proofs.Numbers.{known, word_value, byte_value}
-use Rattle.word_listings.proofs.Names.{names}
-use Rattle.word_listings.proofs.Instructions.{AreWords, field_back, instr_back}
-use Rattle.word_listings.proofs.Again.{IsRead, is_read, again, values_unless}
+use Rattle.word_listings.proofs.Slots.{known, word_value, byte_value}
+use Rattle.word_listings.proofs.Instructions.{names, AreWords, field_back, instr_back}
+use Rattle.word_listings.proofs.Instructions.{IsRead, is_read, again, values_unless}
 
 abbrev pub absolute_at : ℕ → Location
 absolute_at at = record { part = part.Absolute; number = at }

@@ -1,8 +1,9 @@
--- The listing of memory is assembled to its words, or refused for a jump that wraps.
+-- The listing of memory is assembled to its words, or refused for a jump that wraps; its lines copy no file; and no jump
+-- wraps far from the ends of memory.
 use Rattle.std.proofs.Common.{◌≡◌, inr, ℕ, zero, suc, ◌+◌, ◌-◌, ◌*◌, ◌/◌, ◌%◌, ◌<◌, ◌≤◌, true, List, [], ◌∷◌, ◌++◌}
-use Rattle.std.proofs.Common.{length, refl, ap, sym, subst, ◌∙◌, Ok, Some, None, arith}
+use Rattle.std.proofs.Common.{length, refl, ap, sym, subst, ◌∙◌, Ok, Some, None, arith, Bool, false, Option}
 use Rattle.std.specs.Prelude.{Result, Option, map, nat_le, slice_index, codes}
-use Rattle.std.specs.List.{list_all, concat}
+use Rattle.std.specs.List.{list_all, concat, AllByRecursion}
 use Rattle.std.proofs.lemmas.Bool.Decides.{nat_tests}
 use Rattle.source_defs.specs.Refusals.{Refusal, ◌>>=◌}
 use Rattle.source_defs.specs.Digits.{marked_word, marked_byte, word_digits}
@@ -17,10 +18,10 @@ use Rattle.object_defs.specs.Modules.{Module}
 use Rattle.instruction_defs.specs.Printed.{printed}
 use Rattle.asm_defs.specs.declared.causes.AsmCause.{AsmCause}
 use Rattle.asm_defs.specs.Directives.{directive}
-use Rattle.asm_defs.specs.Statements.{Aorg, statement_in}
+use Rattle.asm_defs.specs.Statements.{Aorg, statement_in, Statement, operation_statement}
 use Rattle.asm_defs.specs.Locations.{Line, start}
-use Rattle.asm_defs.specs.FirstChecks.{Checked, said, moved, check, line_of, names, set_to}
-use Rattle.asm_defs.specs.SecondChecks.{Nothing, outcome}
+use Rattle.asm_defs.specs.FirstChecks.{Checked, said, moved, check, line_of, names, set_to, is_end}
+use Rattle.asm_defs.specs.SecondChecks.{Nothing, outcome, Outcome}
 use Rattle.asm_defs.specs.Modules.{settle, module_by, module_behind, module_of_source}
 use Rattle.line_laws.proofs.Placing.{HoldWords}
 use Rattle.line_laws.proofs.Whole.{none_by, room_still, hold_still}
@@ -31,12 +32,22 @@ use Rattle.listed_lines.proofs.Scans.{all_both}
 use Rattle.listed_lines.proofs.LineTexts.{plain_byte, number_fit, Cut, Fit, cut_listed, in_line, listed_in_line, joined, lines_joined, clean, clean_lines, text_of}
 use Rattle.word_listings.specs.Modules.{padded_words, module_of_words, first_wrapping, unless_far}
 use Rattle.word_listings.specs.Law.{StandEven, listed_module, WordListingsComeBack, EnteredListingsComeBack}
-use Rattle.word_listings.proofs.Numbers.{known, word_value}
-use Rattle.word_listings.proofs.Instructions.{AreWords}
-use Rattle.word_listings.proofs.LineBacks.{absolute_at, byte_line, end_text, end_line, IsEntry, words_back}
-use Rattle.word_listings.proofs.Behind.{Stands, Holds, Ends, same_place}
-use Rattle.word_listings.proofs.Going.{texts_from, goes_from, Closes, Breaks}
+use Rattle.word_listings.proofs.Slots.{known, word_value}
+use Rattle.word_listings.proofs.Instructions.{AreWords, instr_at-signed}
+use Rattle.word_listings.proofs.LineBacks.{absolute_at, byte_line, end_text, end_line, IsEntry, words_back, LineBack}
+use Rattle.word_listings.proofs.Behind.{Stands, Holds, Ends, same_place, texts_from, goes_from, Closes}
 use Rattle.word_listings.proofs.Closing.{closes_end, breaks_end, closes_byte, breaks_byte, words_held}
+use Rattle.source_defs.specs.Names.{is_word}
+use Rattle.std.specs.Prelude.{ℤ, pos, negsuc, FitsSigned, IfSome, if◌then◌else◌}
+use Rattle.std.specs.Int.{w8}
+use Rattle.std.proofs.lemmas.Int.{ints}
+use Rattle.tms_defs.specs.Instructions.{instr_at, HasSignedByte}
+use Rattle.tms_defs.specs.declared.instruction.JumpOp.{JumpOp}
+use Rattle.tms_defs.specs.declared.instruction.JumpOp.TheVariants.{SBO, SBZ, TB}
+use Rattle.tms_defs.specs.declared.instruction.Instr.{Instr}
+use Rattle.tms_defs.specs.declared.instruction.Instr.TheVariants.{Jump}
+use Rattle.word_listings.specs.Modules.{leads_out, jump_wraps, wraps}
+use Rattle.word_listings.specs.Law.{InnerListingsComeBack}
 
 -- ---- the first line
 
@@ -157,13 +168,13 @@ module _ (half : ℕ) (bytes : List ℕ) (entered : Option ℕ) (all : AllBytes 
   texts = texts_from (2 * half) 0 words ++ tail_texts bytes entered
 
   all_go : (tails : List (List ℕ)) (whole : Module) (below : 2 * half + 2 * length words ≤ 65536)
-      → Closes (2 * half) words tails whole (2 * half + 2 * length words) below → Breaks (2 * half) words tails whole (2 * half + 2 * length words) below
+      → Closes (2 * half) words tails whole (2 * half + 2 * length words) below
       → Ends (aorg_line (2 * half) inside ∷ []) 2 (texts_from (2 * half) 0 words ++ tails) (unless_far (first_wrapping 2 (2 * half) 0 words) whole)
-  all_go tails whole below closes breaks =
+  all_go tails whole below closes =
       let here : 2 * half + 2 * 0 ≡ 2 * half = omega arith in
-      goes_from (2 * half) words tails whole (2 * half + 2 * length words) below breaks closes words (2 * half) 0 2 (aorg_line (2 * half) inside ∷ []) _ []
+      goes_from (2 * half) words tails whole (2 * half + 2 * length words) below closes words (2 * half) 0 2 (aorg_line (2 * half) inside ∷ []) (Ok [])
       (omega arith) (omega arith) refl (are_words bytes all)
-      (subst (Stands (aorg_line (2 * half) inside ∷ [])) (sym here) (aorg_stands (2 * half) inside)) (aorg_holds (2 * half) inside half) refl refl
+      (subst (Stands (aorg_line (2 * half) inside ∷ [])) (sym here) (aorg_stands (2 * half) inside)) (_, aorg_holds (2 * half) inside half) (omega arith, refl)
 
   by_rest : Rest bytes → Ends (aorg_line (2 * half) inside ∷ []) 2 texts answer
   by_rest (Even none padded size) =
@@ -172,10 +183,10 @@ module _ (half : ℕ) (bytes : List ℕ) (entered : Option ℕ) (all : AllBytes 
       (subst (λ found. Ends (aorg_line (2 * half) inside ∷ []) 2 (texts_from (2 * half) 0 words ++ (end_text entered ∷ []))
       (unless_far (first_wrapping 2 (2 * half) 0 words) (module_of_words (2 * half) found entered))) (sym padded)
       (all_go (end_text entered ∷ []) (module_of_words (2 * half) words entered) below
-      (λ before earlier number stands holds.
-      closes_end entered is_entry (2 * half + 2 * length words) below before earlier number _ stands holds.settled_are
-      (words_held earlier half words holds.hold holds.entry_is (omega (arith, below))))
-      (λ before number refusal stands fails. breaks_end entered is_entry (2 * half + 2 * length words) below before number refusal stands fails)))
+      (λ before number stands. (
+      λ earlier holds. closes_end entered is_entry (2 * half + 2 * length words) below before earlier number _ stands holds.settled_are
+      (words_held earlier half words holds.hold holds.entry_is (omega (arith, below))),
+      λ refusal fails. breaks_end entered is_entry (2 * half + 2 * length words) below before number refusal stands fails))))
   by_rest (Odd byte lt odd padded size) =
       let below : 2 * half + 2 * length words ≤ 65536 = omega (arith, fits, size) in
       let more : 2 * half + 2 * length words < 65536 = omega (arith, fits, size) in
@@ -183,9 +194,9 @@ module _ (half : ℕ) (bytes : List ℕ) (entered : Option ℕ) (all : AllBytes 
       (subst (λ found. Ends (aorg_line (2 * half) inside ∷ []) 2 (texts_from (2 * half) 0 words ++ ((codes "BYTE " ++ marked_byte byte) ∷ end_text entered ∷ []))
       (unless_far (first_wrapping 2 (2 * half) 0 words) (module_of_words (2 * half) found entered))) (sym padded)
       (all_go ((codes "BYTE " ++ marked_byte byte) ∷ end_text entered ∷ []) (module_of_words (2 * half) (words ++ join byte 0 ∷ []) entered) below
-      (λ before earlier number stands holds.
-      closes_byte entered is_entry (2 * half + 2 * length words) byte more lt half words (omega arith) before earlier number stands holds)
-      (λ before number refusal stands fails. breaks_byte entered is_entry (2 * half + 2 * length words) byte more lt before number refusal stands fails)))
+      (λ before number stands. (
+      λ earlier holds. closes_byte entered is_entry (2 * half + 2 * length words) byte more lt half words (omega arith) before earlier number stands holds,
+      λ refusal fails. breaks_byte entered is_entry (2 * half + 2 * length words) byte more lt before number refusal stands fails))))
 
   abbrev pub listing_texts : List (List ℕ)
   listing_texts = aorg_text (2 * half) inside ∷ texts
@@ -291,3 +302,106 @@ word_listings_come_back at bytes stands = comes_back at bytes None stands tt
 
 pub entered_listings_come_back : EnteredListingsComeBack
 entered_listings_come_back at bytes entry stands lt = comes_back at bytes (Some entry) stands lt
+
+-- ---- The lines of a listing stand for themselves: none copies a file, and the last alone ends the source
+
+-- a line that copies no file, and whether it ends the source
+pub record OwnLine (last : Bool) (text : List ℕ) : Type 0 where
+  pub name : List ℕ
+  pub field : List ℕ
+  pub cut : Cut (listed text) name field
+  pub no_copy : is_word name (codes "COPY") ≡ false
+  pub statement : Statement
+  pub says : operation_statement name field ≡ Ok statement
+  pub last_is : is_end statement ≡ last
+
+own_back : (at : ℕ) (text : List ℕ) (size : ℕ) (last : Bool) (answer : Result Outcome AsmCause) → LineBack at text size last answer → OwnLine last text
+own_back at text size last _ back = record {
+  name = back.name;
+  field = back.field;
+  cut = back.cut;
+  no_copy = back.no_copy;
+  statement = back.statement;
+  says = back.says;
+  last_is = back.own.last_is;
+}
+
+pub own_end : (entered : Option ℕ) → IsEntry entered → OwnLine true (end_text entered)
+own_end entered is = own_back 0 (end_text entered) 0 true _ (end_line 0 entered is)
+
+abbrev pub AreOwn : List (List ℕ) → Type 0
+AreOwn texts = AllByRecursion (OwnLine false) texts
+
+own_origin : (at : ℕ) (inside : at < 65536) → OwnLine false (aorg_text at inside)
+unfolding directive
+own_origin at inside = record {
+  name = codes "AORG";
+  field = marked_word at;
+  cut = aorg_cut at inside;
+  no_copy = refl;
+  statement = Aorg (marked_word at);
+  says = rw (aorg_operands at inside) refl;
+  last_is = refl;
+}
+
+own_words : (words : List ℕ) (at belonging : ℕ) → at % 2 ≡ 0 → at + 2 * length words ≤ 65536 → AreWords words → AreOwn (texts_from at belonging words)
+own_words [] at belonging even below are = _
+own_words (word ∷ words) at (suc belonging) even below are =
+    own_words words (at + 2) belonging (omega (arith, even)) (omega (arith, below)) (λ k. are (suc k))
+own_words (word ∷ words) at zero even below are =
+    let there : at < 65536 = omega (arith, below) in
+    let back = words_back at there even word words are in (
+      own_back at _ _ false _ back.0,
+      own_words words (at + 2) ((printed (word ∷ words) at).count - 1) (omega (arith, even)) (omega (arith, below)) (λ k. are (suc k)),
+    )
+
+own_odd : (bytes : List ℕ) → AllBytes bytes → AreOwn (odd_texts bytes)
+own_odd [] all = _
+own_odd (byte ∷ []) all = (own_back 0 _ 1 false _ (byte_line 0 byte (all 0)), _)
+own_odd (more ∷ less ∷ rest) all = own_odd rest (λ k. all (suc (suc k)))
+
+both_own : (xs ys : List (List ℕ)) → AreOwn xs → AreOwn ys → AreOwn (xs ++ ys)
+both_own [] ys a b = b
+both_own (x ∷ xs) ys a b = (a.0, both_own xs ys a.1 b)
+
+-- the lines before the last
+abbrev pub front_texts : (at : ℕ) → at < 65536 → List ℕ → List (List ℕ)
+front_texts at inside bytes = aorg_text at inside ∷ (texts_from at 0 (words_in bytes) ++ odd_texts bytes)
+
+pub own_front : (at : ℕ) (inside : at < 65536) (bytes : List ℕ) → AllBytes bytes → at % 2 ≡ 0 → at + 2 * length (words_in bytes) ≤ 65536 → AreWords (words_in bytes)
+    → AreOwn (front_texts at inside bytes)
+own_front at inside bytes all even below are =
+    (own_origin at inside, both_own (texts_from at 0 (words_in bytes)) (odd_texts bytes) (own_words (words_in bytes) at 0 even below are) (own_odd bytes all))
+
+-- ---- No jump wraps far from the ends of memory
+
+stays_in : (next : ℕ) (disp : ℤ) → FitsSigned w8 disp → 256 ≤ next → next ≤ 65281 → leads_out next disp ≡ false
+stays_in next (pos count) fits from to =
+    let few : count < 128 = omega (arith, ints, fits) in grind (arith, nat_tests, few, to)
+stays_in next (negsuc count) fits from to =
+    let few : count < 128 = omega (arith, ints, fits) in grind (arith, nat_tests, few, from)
+
+jump_stays : (op : JumpOp) (next : ℕ) (disp : ℤ) → leads_out next disp ≡ false → jump_wraps op next disp ≡ false
+jump_stays SBO next disp e = refl
+jump_stays SBZ next disp e = refl
+jump_stays TB next disp e = refl
+jump_stays _ next disp e = e
+
+instr_stays : (at : ℕ) (found : Option Instr) → IfSome found HasSignedByte → 254 ≤ at → at + 2 ≤ 65281 → wraps at found ≡ false
+instr_stays at (Some (Jump op disp)) fits from to = jump_stays op (at + 2) disp (stays_in (at + 2) disp fits (omega (arith, from)) to)
+instr_stays at (Some _) fits from to = refl
+instr_stays at None fits from to = refl
+
+none_wraps : (words : List ℕ) (number at belonging : ℕ) → 254 ≤ at → at + 2 * length words ≤ 65281 → first_wrapping number at belonging words ≡ None
+none_wraps [] number at belonging from to = refl
+none_wraps (word ∷ words) number at (suc belonging) from to = none_wraps words number (at + 2) belonging (omega (arith, from)) (omega (arith, to))
+none_wraps (word ∷ words) number at zero from to =
+    ap (λ far. if far then Some number else first_wrapping (number + 1) (at + 2) ((printed (word ∷ words) at).count - 1) words)
+    (instr_stays at (instr_at word) (instr_at-signed word) from (omega (arith, to)))
+    ∙ none_wraps words (number + 1) (at + 2) ((printed (word ∷ words) at).count - 1) (omega (arith, from)) (omega (arith, to))
+
+pub inner_listings_come_back : InnerListingsComeBack
+inner_listings_come_back at bytes stands from to =
+    let fit = words_fit bytes in
+    word_listings_come_back at bytes stands
+    ∙ ap (λ far. unless_far far (module_of_words at (padded_words bytes) None)) (none_wraps (words_in bytes) 2 at 0 from (omega (arith, to, fit)))

@@ -12,7 +12,7 @@ pub fn word_listings_come_back()
 {}
 
 /// So the listing of bytes that stand far enough from the ends of memory is never refused.
-#[tactic(auto, using(crate::proofs::InnerLaw::inner_listings_come_back))]
+#[tactic(auto, using(crate::proofs::ListingLaw::inner_listings_come_back))]
 pub fn inner_listings_come_back()
     ensures { InnerListingsComeBack }
 {}

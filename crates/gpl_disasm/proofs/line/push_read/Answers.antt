@@ -9,28 +9,23 @@ use Rattle.gpl_disasm.proofs.line.push_read.Goals.{
   else-size-size_between-via-else-size-size_between,
 }
 
-pub returns-then-from-size-clause-text : goal.returns-then-from-size-clause-text
-returns-then-from-size-clause-text c =
+pub returns-then-from-size : goal.returns-then-from-size
+returns-then-from-size c =
     let same : length (bytes_of c.args.instr.now) ≡ size_between c.args.at c.args.next = omega arith in
     let within : c.args.at + length (bytes_of c.args.instr.now) ≤ min c.args.end (boundary c.args.at) = omega arith in
     let whole =
     whole_listed c.args.image.now c.args.at c.args.next c.args.end c.args.instr.now (omega arith) c.requires.read
     c.requires.means same within in
-    rw whole
-    c.push_instr.ensures.text
+    record {
+      text = rw whole c.push_instr.ensures.text;
+      size = rw whole c.size_of-size.ensures.value;
+      within = omega arith;
+      some = omega arith;
+      room = omega arith;
+    }
 
-pub returns-then-from-size-clause-size : goal.returns-then-from-size-clause-size
-returns-then-from-size-clause-size c =
-    let same : length (bytes_of c.args.instr.now) ≡ size_between c.args.at c.args.next = omega arith in
-    let within : c.args.at + length (bytes_of c.args.instr.now) ≤ min c.args.end (boundary c.args.at) = omega arith in
-    let whole =
-    whole_listed c.args.image.now c.args.at c.args.next c.args.end c.args.instr.now (omega arith) c.requires.read
-    c.requires.means same within in
-    rw whole
-    c.size_of-size.ensures.value
-
-pub returns-else-size-size_between-clause-text : goal.returns-else-size-size_between-clause-text
-returns-else-size-size_between-clause-text c =
+pub returns-else-size-size_between : goal.returns-else-size-size_between
+returns-else-size-size_between c =
     let byte : listed_at c.args.image.now c.args.at c.args.end ≡ byte_listed c.args.image.now c.args.at =
     elim c.else-size-size_between.branch [
       | else-size-size_between-via-then-size-size_between+else-from-size w ↦
@@ -40,17 +35,10 @@ returns-else-size-size_between-clause-text c =
           longer_listed c.args.image.now c.args.at c.args.next c.args.end c.args.instr.now (omega arith) c.requires.read
           c.requires.means (omega arith)
     ] in
-    rw byte (rw c.from-else-size-size_between.ensures at c.push_byte_line.ensures.text)
-
-pub returns-else-size-size_between-clause-size : goal.returns-else-size-size_between-clause-size
-returns-else-size-size_between-clause-size c =
-    let byte : listed_at c.args.image.now c.args.at c.args.end ≡ byte_listed c.args.image.now c.args.at =
-    elim c.else-size-size_between.branch [
-      | else-size-size_between-via-then-size-size_between+else-from-size w ↦
-          cut_listed c.args.image.now c.args.at c.args.next c.args.end c.args.instr.now (omega arith) c.requires.read
-          c.requires.means (omega arith) (omega arith)
-      | else-size-size_between-via-else-size-size_between w ↦
-          longer_listed c.args.image.now c.args.at c.args.next c.args.end c.args.instr.now (omega arith) c.requires.read
-          c.requires.means (omega arith)
-    ] in
-    rw byte c.push_byte_line.ensures.one
+    record {
+      text = rw byte (rw c.from-else-size-size_between.ensures at c.push_byte_line.ensures.text);
+      size = rw byte c.push_byte_line.ensures.one;
+      within = omega arith;
+      some = omega arith;
+      room = omega arith;
+    }
