@@ -17,7 +17,7 @@ use Rattle.reports.specs.Answers.{Ends, read_answer, WantsMemory, Reported, Ends
 use Rattle.reports.specs.Run.{Run, EndsBy, WroteNothing}
 use Rattle.reports.proofs.Runs as runs
 use Rattle.reports.proofs.NoUsage.{IsNoUsage}
-use Rattle.bench_commands.specs.InputRun.{ReadsInput, Reads, TakesWhole, TookWithin, InputCommands, Reports, Begins, Leaves, input_program}
+use Rattle.bench_commands.specs.InputRun.{ReadsInput, Reads, TakesWhole, InputCommands, Reports, Begins, Leaves, input_program}
 
 -- an input that was taken whole
 pub reads_whole : (reading : Bool) (before after : SourceState) (bytes : List ℕ) → TakesWhole reading before after bytes → Reads reading before after bytes

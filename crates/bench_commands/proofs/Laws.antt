@@ -19,7 +19,7 @@ use Rattle.word_listings.proofs.LinkLaw.{entered_listings_link}
 use Rattle.word_listings.proofs.ListingLaw.{entered_listings_come_back}
 use Rattle.reports.proofs.Runs.{IsProgram, laws_of}
 use Rattle.reports.specs.RunLaws.{OneReport}
-use Rattle.bench_commands.specs.InputRun.{ReadsInput, Reads, InputCommands, Reports, Shows, Fails, ReadFails, input_program}
+use Rattle.bench_commands.specs.InputRun.{ReadsInput, Reads, InputCommands, Reports, Shows, input_program}
 use Rattle.bench_commands.specs.Bench.{bench_input, bench_program}
 use Rattle.bench_commands.specs.Laws.{LawsOfRuns}
 

@@ -51,13 +51,8 @@ no_fault : (words : List (List ℕ)) (input input' : Supply) (out err : ℕ)
 no_fault words input input' out err = record { reading = none_rose; out = none_rose; err = none_rose }
 
 is_memory : (s : Status) → (s ≡ status.Memory) ⊎ (s ≢ status.Memory)
-is_memory status.Done = inr (λ e. absurd cc)
-is_memory status.Refused = inr (λ e. absurd cc)
-is_memory status.Usage = inr (λ e. absurd cc)
-is_memory status.ReadFault = inr (λ e. absurd cc)
-is_memory status.WriteFault = inr (λ e. absurd cc)
 is_memory status.Memory = inl refl
-is_memory status.Stopped = inr (λ e. absurd cc)
+is_memory _ = inr (λ e. absurd cc)
 
 -- such an input shows its bytes
 shows : (command : Command) (input : Supply) → Shows bench_input command (steady_source input) (read_of command input.left)

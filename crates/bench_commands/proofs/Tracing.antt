@@ -1,8 +1,7 @@
 -- A trace is the run of its program.
 use Rattle.std.proofs.Common.{◌≡◌, ◌≤◌, ℕ, List, ◌++◌, length, Option, Ok, refl, sym, ap, ◌∙◌, subst, inl, inr}
-use Rattle.std.proofs.Common.{Bool, true, false, Result, Err, arith}
-use Rattle.std.specs.Prelude.{nat_lt, is_err}
-use Rattle.std.proofs.lemmas.Bool.Decides.{nat_tests}
+use Rattle.std.proofs.Common.{Bool, true, false, Result, Err}
+use Rattle.std.specs.Prelude.{is_err}
 use Rattle.console_defs.specs.Grom.{GromState}
 use Rattle.gpl_defs.specs.Image.{Image}
 use Rattle.gpl_source_defs.specs.Programs.{program_of_source}
@@ -130,13 +129,10 @@ module _ (command : Command) (before after : SourceState) (o : Outputs) (bytes :
 -- what ends behind lines that were written ends with these in front of it
 ends_behind : (o : Outputs) (middle : SinkState) (first lines : List (List ℕ)) (own st : Status) → Wrote o.out middle first → EndsWith (record o { out = middle }) (spec.Whole own lines) st →
     EndsWith o (spec.Whole own (first ++ lines)) st
-ends_behind o middle first lines own status.Done w e = (e.0, (wrote_more o.out middle o.out' first lines w e.1.0, e.1.1))
-ends_behind o middle first lines own status.Refused w e = (e.0, (wrote_more o.out middle o.out' first lines w e.1.0, e.1.1))
-ends_behind o middle first lines own status.Usage w e = (e.0, (wrote_more o.out middle o.out' first lines w e.1.0, e.1.1))
 ends_behind o middle first lines own status.ReadFault w e = absurd e
 ends_behind o middle first lines own status.WriteFault w e = (missed_more o.out middle o.out' first lines w e.0, e.1)
 ends_behind o middle first lines own status.Memory w e = absurd e
-ends_behind o middle first lines own status.Stopped w e = (e.0, (wrote_more o.out middle o.out' first lines w e.1.0, e.1.1))
+ends_behind o middle first lines own _ w e = (e.0, (wrote_more o.out middle o.out' first lines w e.1.0, e.1.1))
 
 not_both : (b : Bool) → b ≡ true → b ≡ false → ⊥
 not_both b e f = cc

@@ -29,16 +29,12 @@ module _ (before after : ShelfState) (source : List ℕ) where
   files_agree files questions is dialogue =
       subst (λ shown. IfSome shown (λ files. Agrees most_bytes (of_files files) 0 questions)) is dialogue.files
 
-  gives_shown : (files : Files) (result : Result Module CopyError) (answered : Answered before after source result) → before.files ≡ Some files
-      → GivesBy result answered.questions source (of_files files)
-  gives_shown files result answered is =
-      answered.gives (of_files files) (files_agree files answered.questions is answered.dialogue)
-
   pub shown_module : (shown : Option Files) (result : Result Module CopyError) → before.files ≡ shown → Answered before after source result
       → IfSome shown (λ files. GivesCopied result (module_of_files files source))
   shown_module None result is answered = tt
   shown_module (Some files) result is answered =
-      copied_of result answered.questions source (of_files files) (gives_shown files result answered is)
+      copied_of result answered.questions source (of_files files)
+      (answered.gives (of_files files) (files_agree files answered.questions is answered.dialogue))
 
   -- a module is that of some lines, also where the shelf shows no files
   pub module_is_of_lines : (found : Module) → Answered before after source (Ok found)

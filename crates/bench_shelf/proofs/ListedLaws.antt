@@ -31,9 +31,7 @@ use Rattle.bench_shelf.specs.declared.listed.ListedSource.{ListedSource}
 use Rattle.bench_shelf.specs.declared.copy_error.CopyError.{CopyError}
 use Rattle.bench_shelf.specs.declared.copy_error.CopyError.TheVariants.{Fault, Memory}
 use Rattle.bench_shelf.specs.States.{ShelfState}
-use Rattle.bench_shelf.specs.declared.place.Place.{Place as KeptPlace}
-use Rattle.bench_shelf.specs.declared.copy_error.CopyCause.TheVariants.{Asm}
-use Rattle.bench_shelf.specs.CopyAnswers.{CopyRefuses, defined_place, refused_at}
+use Rattle.bench_shelf.specs.CopyAnswers.{CopyRefuses}
 use Rattle.bench_shelf.specs.Causes.{ShelfCauses, TookNoMore}
 use Rattle.bench_shelf.specs.Kept.{AreKept, IsKept}
 use Rattle.bench_shelf.specs.Leading.{Holds, EndsAs, GoesOn, LeadsTo, Halts, Stopped, WhereTold, EndsBy, Copies, IsHeld}
@@ -205,26 +203,17 @@ module _ (done : List PlacedLine) (builder : AsmLines) (has : HasTaken (texts do
   pub all_settled : (module_ : object.Module) → module_of_lines (texts done) ≡ Ok module_ → AllSettled has.lines
   all_settled module_ e = settled_by (settled (settle (names has.lines)) has.lines) has.lines module_ (sym behind_is ∙ e)
 
-  pub one_refused : (number : ℕ) (cause : AsmCause) → RefusesAt (asm.At number cause) (module_of_lines (texts done)) → SettledAs has.lines number cause
-  one_refused number cause refuses =
-      settled_not (settled (settle (names has.lines)) has.lines) has.lines (record { line = number; cause = cause })
-      (sym behind_is ∙ (refusal_is number cause _ refuses).1)
-
-  pub refused_behind : (number : ℕ) (cause : AsmCause) (at : KeptPlace) (error : CopyError) → RefusesAt (asm.At number cause) (module_of_lines (texts done))
-      → error ≡ refused_at at (Asm cause) → defined_place at ≡ place_of (places done) number → RefusedBehind done has.lines number error
-  refused_behind number cause at error refuses is place = record {
-    at = at;
-    cause = cause;
-    is = is;
-    own = (refusal_is number cause _ refuses).0;
-    settled = one_refused number cause refuses;
-    place = place;
-  }
-
   pub refused_told : (runs : List Run) (error : AsmError) (found : RefusedLine) → places_of runs ≡ places done → RefusesAt error (module_of_lines (texts done))
       → RefusesLine runs error (Ok found) → RefusedBehind done has.lines found.number found.error
   refused_told runs asm.Memory found kept refuses told = absurd told
   refused_told runs (asm.At line cause) found kept refuses told =
-      refused_behind found.number cause told.at found.error
-      (subst (λ n. RefusesAt (asm.At n cause) (module_of_lines (texts done))) (sym told.number) refuses) told.is
-      (told.place ∙ ap (λ places. place_of places found.number) kept)
+      let is = refusal_is line cause _ refuses in
+      record {
+        at = told.at;
+        cause = cause;
+        is = told.is;
+        own = is.0;
+        settled = subst (λ n. SettledAs has.lines n cause) (sym told.number)
+            (settled_not (settled (settle (names has.lines)) has.lines) has.lines (record { line = line; cause = cause }) (sym behind_is ∙ is.1));
+        place = told.place ∙ ap (λ places. place_of places found.number) kept;
+      }

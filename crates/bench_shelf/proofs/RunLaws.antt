@@ -3,6 +3,7 @@ use Rattle.std.proofs.Common.{◌≡◌, ℕ, zero, suc, ◌+◌, ◌-◌, ◌<�
 use Rattle.std.specs.Prelude.{Option, slice_get}
 use Rattle.std.specs.Option.{unwrap_or}
 use Rattle.std.proofs.Math.Seq.{split_at}
+use Rattle.std.proofs.lemmas.Grind.{flat_map-append}
 use Rattle.std.proofs.Math.ListN.{drop_of_length-le}
 use Rattle.std.proofs.lemmas.List.{drop_more, set_split}
 use Rattle.shelf_defs.specs.Copied as spec
@@ -22,13 +23,8 @@ from_more file line (suc count) =
     ap (λ others. record { file = file; line = line } ∷ others) (from_more file (line + 1) count
     ∙ ap (λ n. places_from file (line + 1) count ++ record { file = file; line = n } ∷ []) next)
 
-of_append : (first others : List Run) → places_of (first ++ others) ≡ places_of first ++ places_of others
-of_append [] others = refl
-of_append (run ∷ first) others =
-    ap (λ places. run_places run ++ places) (of_append first others) ∙ sym (append_assoc (run_places run) (places_of first) (places_of others))
-
 of_last : (first : List Run) (run : Run) → places_of (first ++ run ∷ []) ≡ places_of first ++ run_places run
-of_last first run = of_append first (run ∷ []) ∙ ap (λ places. places_of first ++ places) (append-nil (run_places run))
+of_last first run = flat_map-append run_places first (run ∷ []) ∙ ap (λ places. places_of first ++ places) (append-nil (run_places run))
 
 -- the last run with the place that comes next
 pub places_next : (old mid new : List Run) (last longer : Run) (place : Place) → old ≡ mid ++ last ∷ [] → ComesNext last place

@@ -1,7 +1,7 @@
 -- Files that are read one after the other.
-use Rattle.std.proofs.Common.{◌≡◌, ℕ, ◌+◌, ◌<◌, ◌≤◌, Bool, true, false, List, [], ◌∷◌, ◌++◌, length, Some, Ok, Err}
+use Rattle.std.proofs.Common.{◌≡◌, ℕ, ◌+◌, ◌<◌, true, false, List, [], ◌∷◌, ◌++◌, length, Some, Ok, Err}
 use Rattle.std.proofs.Common.{refl, sym, ap, ◌∙◌, subst, arith, append_assoc, append-nil, length-append, get_or, take, drop}
-use Rattle.std.specs.Prelude.{Option, Result, ⊤, IfSome, map, nat_lt, if◌then◌else◌}
+use Rattle.std.specs.Prelude.{Option, Result, ⊤, IfSome, map, nat_lt}
 use Rattle.std.specs.Result.{IsErrAnd}
 use Rattle.std.proofs.lemmas.Bool.Decides.{nat_tests}
 use Rattle.std.proofs.lemmas.List.{drop_more, take-append-drop, map-append, length-map}
@@ -21,16 +21,6 @@ use Rattle.report_defs.specs.LinkedFiles as spec
 use Rattle.report_defs.specs.LinkedFiles.{FilesRefusal, TooLarge, bytes_of, read_by}
 use Rattle.file_commands.specs.declared.file_text.FileText.{FileText}
 use Rattle.file_commands.specs.Reading.{defined_text, defined_texts, Refuses, LinkDialogue, EndsReading, Reads}
-
-by_size : (large : Bool) (name bytes : List ℕ) → nat_lt largest_input (length bytes) ≡ large
-    → bytes_of name (Some bytes) ≡ (if large then Err TooLarge else Ok (name, bytes))
-by_size large name bytes is = rw is refl
-
-pub fits : (name bytes : List ℕ) → length bytes ≤ largest_input → bytes_of name (Some bytes) ≡ Ok (name, bytes)
-fits name bytes le = by_size false name bytes (grind (arith, nat_tests, le))
-
-large : (name bytes : List ℕ) → largest_input < length bytes → bytes_of name (Some bytes) ≡ Err TooLarge
-large name bytes more = by_size true name bytes (grind (arith, nat_tests, more))
 
 -- the question for a file that was read
 abbrev pub question_of : FileText → Question
@@ -54,7 +44,10 @@ with_others rest first = rest >>= λ others. Ok (first ∷ others)
 -- ---- what is read by some contents
 
 text_read : (text : FileText) (content : Option (List ℕ)) → content ≡ Some text.bytes.items → bytes_of text.name content ≡ Ok (defined_text text)
-text_read text content is = ap (bytes_of text.name) is ∙ fits text.name text.bytes.items text.within
+text_read text content is =
+    let le = text.within in
+    let fits : nat_lt largest_input (length text.bytes.items) ≡ false = grind (arith, nat_tests, le) in
+    rw (is, fits) refl
 
 module _ (contents : Contents) where
   -- one file, and then others
@@ -87,7 +80,10 @@ module _ (contents : Contents) where
 refuses_one : (error : FileError) (name : List ℕ) (content : Option (List ℕ)) → IsOfName name error → Fits largest_input (answer_by error) content
     → Refuses error (bytes_of name content)
 refuses_one (unread.Missing other) name content is none = ap (bytes_of name) none ∙ ap (λ n. Err (spec.Missing n)) (sym is)
-refuses_one unread.TooLarge name content is more = ap (bytes_of name) more.1 ∙ large name more.0 more.2
+refuses_one unread.TooLarge name content is more =
+    let size : largest_input < length more.0 = more.2 in
+    let large : nat_lt largest_input (length more.0) ≡ true = grind (arith, nat_tests, size) in
+    rw (more.1, large) refl
 refuses_one _ name content is fits = tt
 
 refused_by : {A B : Type 0} (error : FileError) (a : Result A FilesRefusal) (b : Result B FilesRefusal)

@@ -84,13 +84,13 @@ halted_by items z w u v reason (Err other) t =
     same_watching items (shown_by z.cpu.memory) (shown_by w.cpu.memory) (sym t.2.cells) (sym t.2.vdp)
 
 -- the first that holds, where the address that a session stands at was told
-pub first_told : {z : SessionState} {watched : List WatchedItem} {pc : ℕ} {o : Option ℕ}
+pub first_told : (z : SessionState) (watched : List WatchedItem) {pc : ℕ} {o : Option ℕ}
     → pc ≡ address_in z.ended z.machine → o ≡ first_kept (at_address pc (seen z)) watched
     → first_kept (seen z) watched ≡ o
-first_told {z} {watched} e is = sym (is ∙ ap (λ (n : ℕ). first_kept (at_address n (seen z)) watched) e)
+first_told z watched e is = sym (is ∙ ap (λ (n : ℕ). first_kept (at_address n (seen z)) watched) e)
 
-module _ {items : List Item} {x y : SessionState} {t u v made : ℕ} {watched : List WatchedItem} (z : SessionState)
-    (p : Watching items x y t u made watched) where
+module _ {items : List Item} {x y : SessionState} {t u made : ℕ} {watched : List WatchedItem} (z : SessionState)
+    (v : ℕ) (p : Watching items x y t u made watched) where
   -- the state before the step
   before_is : seen y ≡ behind (seen x) made
   before_is =
@@ -160,8 +160,9 @@ module _ {items : List Item} {x y : SessionState} {t u v made : ℕ} {watched : 
     }
 
     -- an item holds
-    pub hit_runs : {limit from number : ℕ} {change : Option (ℕ × ℕ)} {hit : Found} → hit ≡ result.Hit (made + 1) from number change → Watches limit x z t v hit
-    hit_runs {limit} is =
+    pub hit_runs : (limit : ℕ) {from number : ℕ} {change : Option (ℕ × ℕ)} {hit : Found}
+        → hit ≡ result.Hit (made + 1) from number change → Watches limit x z t v hit
+    hit_runs limit is =
         subst (Watches limit x z t v) (sym is) (
           within_bounds (made + 1) x z t v (made + 1)
               (subst (RunsTurns (seen x) (made + 1) x.machine z.machine t v (made + 1)) (sym runs_on)
@@ -170,7 +171,8 @@ module _ {items : List Item} {x y : SessionState} {t u v made : ℕ} {watched : 
         )
 
     pub hit_found : (place limit : ℕ) {w : WatchedItem} {hit : Found} {from : ℕ} {shown : Option (ℕ × ℕ)}
-        → first_kept (seen z) watched ≡ Some place → made < limit → slice_get watched place ≡ Some w → hit ≡ result.Hit (made + 1) from (place + 1) shown → from ≡ address_in y.ended y.machine
+        → first_kept (seen z) watched ≡ Some place → made < limit → slice_get watched place ≡ Some w
+        → hit ≡ result.Hit (made + 1) from (place + 1) shown → from ≡ address_in y.ended y.machine
         → shown ≡ change_since w.item w.kept (seen z) → hit ≡ found items limit (seen x)
     unfolding hit_by
     hit_found place limit {w} {hit} {from} {shown} first less at is from_is shown_is =

@@ -23,6 +23,3 @@ module _ (items : List Item) (word : List ℕ) (left : List (List ℕ)) (all : O
     (said : Said items (word ∷ left) all) where
   pub said_more : (item : Item) → Some item ≡ item_word word → Said (items ++ item ∷ []) left all
   said_more item is = said ∙ ap (by_word items (item_words left)) (sym is) ∙ behind items item (item_words left)
-
-  pub said_none : None ≡ item_word word → None ≡ all
-  said_none is = ap (by_word items (item_words left)) is ∙ sym said

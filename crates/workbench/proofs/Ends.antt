@@ -85,17 +85,13 @@ pub ends_over : (command : FileCommand) (run : Run ProgramCommand Reading) (answ
     → EndsSaid file_program (Some (OverFiles command)) run end
 ends_over command run (Ok report) end is ends =
     by_report file_program (OverFiles command) run report end is (no_usage command run.before run.after report is) ends
-ends_over command run (Err status.Done) end fails ends = absurd fails
-ends_over command run (Err status.Refused) end fails ends = absurd fails
-ends_over command run (Err status.Usage) end fails ends = absurd fails
 ends_over command run (Err status.ReadFault) end (leaves, failed) (is, out, err) =
     subst (EndsSaid file_program (Some (OverFiles command)) run) (sym is)
     (record { leaves = leaves; out = out; err = err }, failed)
-ends_over command run (Err status.WriteFault) end fails ends = absurd fails
 ends_over command run (Err status.Memory) end leaves (is, out, err) =
     subst (EndsSaid file_program (Some (OverFiles command)) run) (sym is)
     (record { leaves = leaves; out = out; err = err })
-ends_over command run (Err status.Stopped) end fails ends = absurd fails
+ends_over command run (Err _) end fails ends = absurd fails
 
 -- a command of `bench` leaves the shelf as it was
 pub ends_plain : (command : Command) (shelf : ShelfState) (input input' : SourceState) (o : Outputs) (end : Status)
@@ -135,17 +131,13 @@ module _ (before after : SourceState) (source : List ℕ) (whole : ReadWhole lar
       → AnswersWith AsmFiles (at before shelf) (at after shelf') answer
   asm_answered shelf shelf' (Ok report) reported =
       (source, reads_whole true before after source whole, rw (is_small before after source whole) reported)
-  asm_answered shelf shelf' (Err status.Done) fails = absurd fails
-  asm_answered shelf shelf' (Err status.Refused) fails = absurd fails
-  asm_answered shelf shelf' (Err status.Usage) fails = absurd fails
   asm_answered shelf shelf' (Err status.ReadFault) (questions, dialogue, failed) = (
     (whole_within before after source whole, failed.within, inr (source, whole, questions, dialogue)),
     inr (source, whole, questions, dialogue, failed),
   )
-  asm_answered shelf shelf' (Err status.WriteFault) fails = absurd fails
   asm_answered shelf shelf' (Err status.Memory) (questions, dialogue, within) =
       (whole_within before after source whole, within, inr (source, whole, questions, dialogue))
-  asm_answered shelf shelf' (Err status.Stopped) fails = absurd fails
+  asm_answered shelf shelf' (Err _) fails = absurd fails
 
   pub watch_answered : (shelf : ShelfState) (limit : ℕ) (items : List Item) (answer : Result Report Status)
       → Reported (WatchReport limit items source) WantsMemory answer

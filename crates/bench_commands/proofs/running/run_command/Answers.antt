@@ -20,20 +20,10 @@ returns-in-Err g c =
 
 pub returns-in-Ok-prepare : goal.returns-in-Ok-prepare
 returns-in-Ok-prepare g c =
-    let source = g.S.Source.state in
-    let out = g.O.Sink.state in
-    let err = g.E.Sink.state in
-    let finish = c.finish-in-Ok-prepare in
-    let o : Outputs = record { out = out c.args.out.now; out' = out finish.new.out; err = err c.args.err.now; err' = err finish.new.err } in
-    by_prepared c.args.command (source c.args.input.now) (source c.take_input.new.input) o c.in-Ok.bytes.items c.in-Ok.ensures.ok
-    c.in-Ok-prepare.prepared finish.result c.in-Ok-prepare.ensures finish.ensures
+    by_prepared c.args.command _ _ _ c.in-Ok.bytes.items c.in-Ok.ensures.ok c.in-Ok-prepare.prepared _ c.in-Ok-prepare.ensures
+    c.finish-in-Ok-prepare.ensures
 
 pub returns-in-Err-prepare : goal.returns-in-Err-prepare
 returns-in-Err-prepare g c =
-    let source = g.S.Source.state in
-    let out = g.O.Sink.state in
-    let err = g.E.Sink.state in
-    let finish = c.finish-in-Err-prepare in
-    let o : Outputs = record { out = out c.args.out.now; out' = out finish.new.out; err = err c.args.err.now; err' = err finish.new.err } in
-    by_answer bench_input no_usage c.args.command (source c.args.input.now) (source c.take_input.new.input) o c.in-Ok.bytes.items c.in-Ok.ensures.ok
-    (error_answer c.in-Err-prepare.unreported) finish.result c.in-Err-prepare.ensures finish.ensures
+    by_answer bench_input no_usage c.args.command _ _ _ c.in-Ok.bytes.items c.in-Ok.ensures.ok (error_answer c.in-Err-prepare.unreported) _
+    c.in-Err-prepare.ensures c.finish-in-Err-prepare.ensures

@@ -15,12 +15,12 @@ next-requires g c = record { running = c.loop-made.invariant.running }
 
 pub returns-in-Stopped-clause-found : goal.returns-in-Stopped-clause-found
 returns-in-Stopped-clause-found g c =
-    sym (Watching.stops_found c.next.new.self c.loop-made.invariant c.in-Stopped.is c.next.ensures.turned
-    c.next.ensures.ended c.args.limit c.loop-made-test.true)
+    sym (Watching.stops_found c.next.new.self c.next.new.steps c.loop-made.invariant c.in-Stopped.is
+    c.next.ensures.turned c.next.ensures.ended c.args.limit c.loop-made-test.true)
 
 pub returns-in-Stopped-clause-runs : goal.returns-in-Stopped-clause-runs
 returns-in-Stopped-clause-runs g c =
-    Watching.stops_runs c.next.new.self c.loop-made.invariant c.in-Stopped.is c.next.ensures.turned
+    Watching.stops_runs c.next.new.self c.next.new.steps c.loop-made.invariant c.in-Stopped.is c.next.ensures.turned
     c.next.ensures.ended c.args.limit c.loop-made-test.true
 
 pub returns-in-Stopped-clause-items : goal.returns-in-Stopped-clause-items
@@ -28,20 +28,21 @@ returns-in-Stopped-clause-items g c = kept_items _ _ _ c.loop-made.invariant.kep
 
 pub returns-in-Stopped-clause-kept : goal.returns-in-Stopped-clause-kept
 returns-in-Stopped-clause-kept g c =
-    Watching.stops_kept c.next.new.self c.loop-made.invariant c.in-Stopped.is c.next.ensures.turned c.next.ensures.ended
+    Watching.stops_kept c.next.new.self c.next.new.steps c.loop-made.invariant c.in-Stopped.is
+    c.next.ensures.turned c.next.ensures.ended
 
 pub returns-in-Some-clause-found : goal.returns-in-Some-clause-found
 returns-in-Some-clause-found g c =
     let place = c.in-Some.place in
     let at = slice_get-get_or c.loop-made.watched place c.index-watched-place.result c.in-Some.ensures.within in
-    let first = Watching.first_told c.pc-behind.ensures c.first_that_holds.ensures.first ∙ c.in-Some.is in
-    Watching.hit_found c.next.new.self c.loop-made.invariant c.in_default.is c.next.ensures.turned c.next.ensures.ended
-    place c.args.limit first c.loop-made-test.true at c.hit-found.ensures c.pc-from.ensures c.change.ensures
+    let first = Watching.first_told c.next.new.self c.loop-made.watched c.pc-behind.ensures c.first_that_holds.ensures.first ∙ c.in-Some.is in
+    Watching.hit_found c.next.new.self c.next.new.steps c.loop-made.invariant c.in_default.is
+    c.next.ensures.turned c.next.ensures.ended place c.args.limit first c.loop-made-test.true at c.hit-found.ensures c.pc-from.ensures c.change.ensures
 
 pub returns-in-Some-clause-runs : goal.returns-in-Some-clause-runs
 returns-in-Some-clause-runs g c =
-    Watching.hit_runs c.next.new.self c.loop-made.invariant c.in_default.is c.next.ensures.turned c.next.ensures.ended
-    c.hit-found.ensures
+    Watching.hit_runs c.next.new.self c.next.new.steps c.loop-made.invariant c.in_default.is c.next.ensures.turned
+    c.next.ensures.ended c.args.limit c.hit-found.ensures
 
 pub returns-in-Some-clause-items : goal.returns-in-Some-clause-items
 returns-in-Some-clause-items g c =
@@ -55,8 +56,9 @@ returns-in-Some-clause-kept g c =
 
 pub loop-made-preserved : goal.loop-made-preserved
 loop-made-preserved g c =
-    Watching.goes_on c.next.new.self c.loop-made.invariant c.in_default.is c.next.ensures.turned c.next.ensures.ended
-    (Watching.first_told c.pc-behind.ensures c.first_that_holds.ensures.first ∙ c.in_default-first_that_holds.is)
+    Watching.goes_on c.next.new.self c.next.new.steps c.loop-made.invariant c.in_default.is
+    c.next.ensures.turned c.next.ensures.ended
+    (Watching.first_told c.next.new.self c.loop-made.watched c.pc-behind.ensures c.first_that_holds.ensures.first ∙ c.in_default-first_that_holds.is)
 
 pub returns-clause-found : goal.returns-clause-found
 returns-clause-found g c =
