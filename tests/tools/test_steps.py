@@ -106,7 +106,7 @@ class Steps(Calling):
                              b"SUM DATA 1,2,SUM,4,5\n COPY 'part.src'\n END\n")
         self.file('part.src', b'MORE INC R2\n B *R11\n')
         for name in ('one', 'two'):
-            self.assertEqual(self.call('assemble', f'{name}.asm', f'{name}.obj').returncode, 0)
+            self.assertEqual(self.call('assemble', '-o', f'{name}.obj', f'{name}.asm').returncode, 0)
         self.file('both.obj', b''.join((self.folder / f'{name}.obj').read_bytes() for name in ('one', 'two')))
         ended = self.call('steps', '--exec', '--source', 'one.asm', '--source', 'two.asm', 'both.obj', '5')
         self.assertEqual((ended.returncode, ended.stderr), (0, b''))
@@ -124,7 +124,7 @@ class Steps(Calling):
     def test_a_source_of_another_object_makes_no_page(self):
         self.file('a.asm', b"S LI R1,5\n JMP $\n END S\n")
         self.file('b.asm', b"S LI R1,6\n JMP $\n END S\n")
-        self.call('assemble', 'a.asm', 'a.obj')
+        self.call('assemble', '-o', 'a.obj', 'a.asm')
         ended = self.call('steps', '--exec', '--source', 'b.asm', 'a.obj')
         self.assertEqual((ended.returncode, ended.stdout), (1, b''))
         self.assertIn(b'b.asm: the object has the words of this source nowhere\n', ended.stderr)
@@ -132,7 +132,7 @@ class Steps(Calling):
 
     def test_a_refused_source_of_an_object_is_reported(self):
         self.file('a.asm', b"S LI R1,5\n JMP $\n END S\n")
-        self.call('assemble', 'a.asm', 'a.obj')
+        self.call('assemble', '-o', 'a.obj', 'a.asm')
         self.file('b.asm', b"S LI R1\n END S\n")
         ended = self.call('steps', '--exec', '--source', 'b.asm', 'a.obj')
         self.assertEqual((ended.returncode, ended.stderr.splitlines()[0]), (1, b'b.asm:1: operand count'))
