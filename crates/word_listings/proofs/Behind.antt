@@ -283,9 +283,11 @@ module _ (from : ℕ) (total : List ℕ) (tails : List (List ℕ)) (whole : Modu
           length-append held (take count (word ∷ words)) ∙ ap (λ n. length held + n) (length-take-le count (word ∷ words) within) in
           let there = all.0 in
           go_on line (Ok (held ++ take count (word ∷ words))) counts
-          (_, holds_next before number text at (at + 2 * count) (take count (word ∷ words)) comes.0 from held line comes.1 (sym there))
-          (omega (arith, long, there), append_assoc held (take count (word ∷ words)) (drop count (word ∷ words))
-          ∙ (ap (λ rest. held ++ rest) (take-append-drop count (word ∷ words)) ∙ all.1))
+          (_, holds_next before number text at (at + 2 * count) (take count (word ∷ words)) comes.0 from held line comes.1 (sym there)) (
+            omega (arith, long, there),
+            append_assoc held (take count (word ∷ words)) (drop count (word ∷ words))
+                ∙ (ap (λ rest. held ++ rest) (take-append-drop count (word ∷ words)) ∙ all.1),
+          )
 
     pub goes_from : (words : List ℕ) → GoesFrom words
     goes_from [] at belonging number before (Err refusal) le even size are stands comes all =

@@ -184,9 +184,10 @@ module _ (half : ℕ) (bytes : List ℕ) (entered : Option ℕ) (all : AllBytes 
       (unless_far (first_wrapping 2 (2 * half) 0 words) (module_of_words (2 * half) found entered))) (sym padded)
       (all_go (end_text entered ∷ []) (module_of_words (2 * half) words entered) below
       (λ before number stands. (
-      λ earlier holds. closes_end entered is_entry (2 * half + 2 * length words) below before earlier number _ stands holds.settled_are
-      (words_held earlier half words holds.hold holds.entry_is (omega (arith, below))),
-      λ refusal fails. breaks_end entered is_entry (2 * half + 2 * length words) below before number refusal stands fails))))
+        λ earlier holds. closes_end entered is_entry (2 * half + 2 * length words) below before earlier number _ stands holds.settled_are
+            (words_held earlier half words holds.hold holds.entry_is (omega (arith, below))),
+        λ refusal fails. breaks_end entered is_entry (2 * half + 2 * length words) below before number refusal stands fails,
+      ))))
   by_rest (Odd byte lt odd padded size) =
       let below : 2 * half + 2 * length words ≤ 65536 = omega (arith, fits, size) in
       let more : 2 * half + 2 * length words < 65536 = omega (arith, fits, size) in
@@ -195,8 +196,9 @@ module _ (half : ℕ) (bytes : List ℕ) (entered : Option ℕ) (all : AllBytes 
       (unless_far (first_wrapping 2 (2 * half) 0 words) (module_of_words (2 * half) found entered))) (sym padded)
       (all_go ((codes "BYTE " ++ marked_byte byte) ∷ end_text entered ∷ []) (module_of_words (2 * half) (words ++ join byte 0 ∷ []) entered) below
       (λ before number stands. (
-      λ earlier holds. closes_byte entered is_entry (2 * half + 2 * length words) byte more lt half words (omega arith) before earlier number stands holds,
-      λ refusal fails. breaks_byte entered is_entry (2 * half + 2 * length words) byte more lt before number refusal stands fails))))
+        λ earlier holds. closes_byte entered is_entry (2 * half + 2 * length words) byte more lt half words (omega arith) before earlier number stands holds,
+        λ refusal fails. breaks_byte entered is_entry (2 * half + 2 * length words) byte more lt before number refusal stands fails,
+      ))))
 
   abbrev pub listing_texts : List (List ℕ)
   listing_texts = aorg_text (2 * half) inside ∷ texts
