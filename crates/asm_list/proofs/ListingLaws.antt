@@ -14,28 +14,26 @@ use Rattle.asm_defs.specs.Memory.{Settled}
 use Rattle.asm_defs.specs.Modules.{settle}
 use Rattle.shelf_defs.specs.Copied as spec
 use Rattle.shelf_defs.specs.Copied.{PlacedLine, CopyRefusal, Copied, most_bytes, copied_by}
-use Rattle.shelf_defs.specs.Assembly.{texts, places, place_of, laid_copied}
-use Rattle.shelf_defs.specs.Questions.{Unanswered, Question, EndsWith}
-use Rattle.asm_list_defs.specs.Listed as listed
-use Rattle.asm_list_defs.specs.Listed.{front, shown, heres, paired, defined, names_of_line, listed_names, listing_before, listing_behind, listing_by, listing_of, Listing, first_answer, lines_in}
+use Rattle.shelf_defs.specs.Assembly.{texts, laid_copied}
+use Rattle.asm_list_defs.specs.Listed.{front, shown, paired, defined, names_of_line, listing_before, listing_behind, listing_by, listing_of, Listing, first_answer, lines_in}
 use Rattle.asm_list_defs.specs.Rows.{lines_rows, name_row, listing_rows}
 use Rattle.asm_list_defs.specs.ByText.{shown_line, names_text}
 use Rattle.asm_list_defs.proofs.TextLaws.{shown_by_texts, defined_by_texts}
 use Rattle.bench_shelf.specs.States.{ShelfState}
 use Rattle.bench_shelf.specs.declared.copy_error.CopyError.{CopyError}
 use Rattle.bench_shelf.specs.declared.copy_error.CopyError.TheVariants.{At, TooLarge, Fault, Memory}
-use Rattle.bench_shelf.specs.declared.copy_error.CopyCause.TheVariants.{Asm, Missing}
+use Rattle.bench_shelf.specs.declared.copy_error.CopyCause.TheVariants.{Missing}
 use Rattle.bench_shelf.specs.declared.kept_line.KeptLine.{KeptLine}
 use Rattle.bench_shelf.specs.declared.listed.ListedEnding.{ListedEnding}
 use Rattle.bench_shelf.specs.declared.listed.ListedEnding.TheVariants.{Whole, Behind, Before}
 use Rattle.bench_shelf.specs.declared.listed.ListedSource.{ListedSource}
-use Rattle.bench_shelf.specs.CopyAnswers.{CopyRefuses, defined_cause, defined_place, refused_at}
-use Rattle.bench_shelf.specs.Causes.{ShelfCauses, TookMore, TookNoMore}
+use Rattle.bench_shelf.specs.CopyAnswers.{CopyRefuses, defined_cause}
+use Rattle.bench_shelf.specs.Causes.{ShelfCauses}
 use Rattle.bench_shelf.specs.Kept.{defined_kept}
-use Rattle.bench_shelf.specs.Listed.{KeepsFront, EndsListed, GivesListed, ListFaultEnds, ListAnswered, EndingCauses, ListCauses, RefusedBehind, FinishesBy, IsTold, IsUntold}
+use Rattle.bench_shelf.specs.Listed.{KeepsFront, EndsListed, GivesListed, ListFaultEnds, ListAnswered, EndingCauses, ListCauses, RefusedBehind, IsTold}
 use Rattle.asm_list.specs.declared.listing.AsmListing.{AsmListing}
-use Rattle.asm_list.specs.Adding.{texts_in, listed_line, named_line, rows_by_names, rows_of_names, all_rows, refused_in}
-use Rattle.asm_list.specs.Listings.{rows_of, as_result, RefusedAs, Lists, GivesListing, FaultEnds, ListingAnswered, RefusedCauses, ListingCauses}
+use Rattle.asm_list.specs.Adding.{listed_line, named_line, rows_of_names, all_rows, refused_in}
+use Rattle.asm_list.specs.Listings.{rows_of, RefusedAs, Lists, FaultEnds, ListingAnswered, RefusedCauses, ListingCauses}
 
 -- what is shown of kept lines
 module _ (known : Option Names) where

@@ -1,5 +1,5 @@
 -- What is shown of a line that places nothing.
-use Rattle.std.proofs.Common.{◌≡◌, ℕ, List, [], false, Ok, Err, refl, sym, ap, ◌∙◌}
+use Rattle.std.proofs.Common.{◌≡◌, [], false, Ok, Err, refl, sym, ap}
 use Rattle.std.specs.Prelude.{Option, Result}
 use Rattle.source_defs.specs.Symbols.{Names}
 use Rattle.source_defs.specs.declared.causes.ExprError.TheVariants as expr
@@ -11,7 +11,7 @@ use Rattle.asm_defs.specs.Statements.{Statement}
 use Rattle.asm_defs.specs.SecondChecks.{Outcome, Nothing}
 use Rattle.asm_defs.specs.Memory.{is_placed_in}
 use Rattle.asm_checks.specs.Answers.{Causes}
-use Rattle.asm_list_defs.specs.Listed.{Shown, found_or}
+use Rattle.asm_list_defs.specs.Listed.{found_or}
 use Rattle.asm_list_defs.specs.ByText.{shown_text}
 use Rattle.asm_list_defs.specs.Rows.{outcome_text}
 

@@ -116,10 +116,7 @@ impl AsmListing {
     pub fn write<O: Sink>(&self, out: &mut O) -> Result<(), Failed>
         ensures { Written result (O.state out.old) (O.state out.new) (rows_of self.now) }
     {
-        for row in self.rows.as_slice() {
-            put_piece(out, row.as_slice())?;
-        }
-        Ok(())
+        put_rows(self.rows.as_slice(), out)
     }
 
     /// The error of the line that is refused, or that a file is too large, where one is.
@@ -128,4 +125,14 @@ impl AsmListing {
     {
         self.refused
     }
+}
+
+/// Writes rows, each by one call.
+fn put_rows<O: Sink>(rows: &[Vec<u8>], out: &mut O) -> Result<(), Failed>
+    ensures { Written result (O.state out.old) (O.state out.new) (texts_in rows.now) }
+{
+    for row in rows {
+        put_piece(out, row.as_slice())?;
+    }
+    Ok(())
 }

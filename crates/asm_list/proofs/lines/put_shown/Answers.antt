@@ -1,5 +1,5 @@
-use Rattle.std.proofs.Common.{◌≡◌, ◌∷◌, ◌++◌, [], List, ℕ, take, drop, sym, ap, ◌∙◌, append_assoc}
-use Rattle.asm_list_defs.specs.Rows.{first_row, rows_of, eight_on}
+use Rattle.std.proofs.Common.{◌∷◌, ◌++◌, [], List, ℕ, take, drop, sym, ap, ◌∙◌, append_assoc}
+use Rattle.asm_list_defs.specs.Rows.{first_row, eight_on}
 use Rattle.bench_shelf.specs.Kept.{defined_kept}
 use Rattle.asm_list.specs.Adding.{texts_in, below}
 use Rattle.asm_list.proofs.RowLaws.{line_by}

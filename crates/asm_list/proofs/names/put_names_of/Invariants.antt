@@ -5,7 +5,7 @@ use Rattle.asm_list.specs.Adding.{texts_in, named_line, named_rows}
 use Rattle.asm_list.proofs.names.put_names_of.Given as goal
 
 abbrev pub invariant-loop-rest : goal.invariant-loop-rest
-invariant-loop-rest l = 
+invariant-loop-rest l =
     texts_in l.rows.items ++ map name_row (named_rows l.known l.line l.rest)
     ≡ texts_in l.fn.rows.items ++ map name_row (names_of_line l.known (named_line l.line))
 

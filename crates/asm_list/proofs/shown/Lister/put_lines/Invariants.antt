@@ -4,7 +4,7 @@ use Rattle.asm_list.specs.Adding.{texts_in, known_to, listed_line, rows_by_names
 use Rattle.asm_list.proofs.shown.Lister.put_lines.Given as goal
 
 abbrev pub invariant-loop-rest : goal.invariant-loop-rest
-invariant-loop-rest l = 
+invariant-loop-rest l =
     texts_in l.rows.items ++ lines_rows l.before (map (listed_line (known_to l.self)) l.rest)
     ≡ texts_in l.fn.rows.items ++ rows_by_names (known_to l.self) l.lines
 
