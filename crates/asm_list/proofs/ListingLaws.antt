@@ -1,5 +1,6 @@
 -- The rows of kept lines are those of the listing.
-use Rattle.std.proofs.Common.{◌≡◌, ℕ, zero, suc, ◌-◌, List, [], ◌∷◌, ◌++◌, Some, None, Ok, Err, length, map, take, refl, sym, ap, ◌∙◌, subst, append-nil, inl, inr}
+use Rattle.std.proofs.Common.{◌≡◌, ℕ, zero, suc, ◌-◌, List, [], ◌∷◌, ◌++◌, Some, None, Ok, Err, length, map, take, refl, sym, ap, ◌∙◌, subst}
+use Rattle.std.proofs.Common.{append-nil, inl, inr}
 use Rattle.std.specs.Prelude.{Option, Result}
 use Rattle.std.specs.List.{flat_map}
 use Rattle.std.proofs.lemmas.List.{length-map}
@@ -15,7 +16,8 @@ use Rattle.asm_defs.specs.Modules.{settle}
 use Rattle.shelf_defs.specs.Copied as spec
 use Rattle.shelf_defs.specs.Copied.{PlacedLine, CopyRefusal, Copied, most_bytes, copied_by}
 use Rattle.shelf_defs.specs.Assembly.{texts, laid_copied}
-use Rattle.asm_list_defs.specs.Listed.{front, shown, paired, defined, names_of_line, listing_before, listing_behind, listing_by, listing_of, Listing, first_answer, lines_in}
+use Rattle.asm_list_defs.specs.Listed.{front, shown, paired, defined, first_answer, lines_in}
+use Rattle.asm_list_defs.specs.Listed.{Listing, names_of_line, listing_before, listing_behind, listing_by, listing_of}
 use Rattle.asm_list_defs.specs.Rows.{lines_rows, name_row, listing_rows}
 use Rattle.asm_list_defs.specs.ByText.{shown_line, names_text}
 use Rattle.asm_list_defs.proofs.TextLaws.{shown_by_texts, defined_by_texts}
@@ -38,7 +40,8 @@ use Rattle.asm_list.specs.Listings.{rows_of, RefusedAs, Lists, FaultEnds, Listin
 -- what is shown of kept lines
 module _ (known : Option Names) where
   pairs_by : (kept : List KeptLine)
-      → paired (map defined_kept kept) (map (shown_line known) (paired (map (λ line. line.here) kept) (texts (map defined_kept kept)))) ≡ map (listed_line known) kept
+      → paired (map defined_kept kept) (map (shown_line known) (paired (map (λ line. line.here) kept) (texts (map defined_kept kept))))
+      ≡ map (listed_line known) kept
   pairs_by [] = refl
   pairs_by (line ∷ kept) = ap (λ others. listed_line known line ∷ others) (pairs_by kept)
 
@@ -116,7 +119,8 @@ module _ (found : Copied) (lines : List Line) (kept : List KeptLine) (keeps : Ke
         by_listing (Whole known) (listing_behind found.lines lines (Ok settled_as)) (listing_is (Ok settled_as) is)
         (ap (λ known. all_rows kept (Whole known)) same
         ∙ (ap (λ pairs. lines_rows None pairs ++ rows_of_names (names lines) kept) (sym (all_pairs (Some (names lines))))
-        ∙ ap (λ named. lines_rows None (paired found.lines (shown (Some (names lines)) lines)) ++ map name_row (flat_map (names_of_line (names lines)) named)) (sym all_names)))
+        ∙ ap (λ named. lines_rows None (paired found.lines (shown (Some (names lines)) lines))
+        ++ map name_row (flat_map (names_of_line (names lines)) named)) (sym all_names)))
         refl
 
     behind_listing : (known : Names) (number : ℕ) (error : CopyError) → known ≡ names lines → RefusedBehind found.lines lines number error

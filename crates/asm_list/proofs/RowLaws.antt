@@ -45,8 +45,8 @@ one_row at (byte ∷ text) some =
 pub rows_are : (at : Location) (text : List ℕ) → rows_below (length text) at (drop 24 text) ≡ below at (drop 24 text)
 rows_are at text = let left = length-drop 24 text in rows_enough (length text) (length (drop 24 text)) at (drop 24 text) (omega (arith, left)) (omega arith)
 
-pub shorter : (text : List ℕ) → 0 < length text → length (drop 24 text) < length text
-shorter text some = let left = length-drop 24 text in omega (arith, some, left)
+pub less : (text : List ℕ) → 0 < length text → length (drop 24 text) < length text
+less text some = let left = length-drop 24 text in omega (arith, some, left)
 
 pub line_by : (line : PlacedLine) (at : Location) (text : List ℕ) → rows_of line at text ≡ first_row line at (take 24 text) ∷ below (eight_on at) (drop 24 text)
 line_by line at text = ap (λ rows. first_row line at (take 24 text) ∷ rows) (rows_are (eight_on at) text)

@@ -86,7 +86,7 @@ fn same_file(one: &Option<FileName>, other: &Option<FileName>) -> bool
 }
 
 /// Appends the rows below a line.
-#[tactic(auto, using(std::proofs::Common::append_assoc, crate::proofs::RowLaws::one_row, crate::proofs::RowLaws::shorter))]
+#[tactic(auto, using(std::proofs::Common::append_assoc, crate::proofs::RowLaws::one_row, crate::proofs::RowLaws::less))]
 fn put_below(
     alloc: Global,
     at: Location,

@@ -7,11 +7,11 @@ use bench_shelf::{CopyError, FileName};
 use std::alloc::{AllocError, Global};
 use std::test::Fail;
 
-/// Sources, their rows, and the file of the refused line, or nothing, with its number there, or 0 where none is refused.
+/// Sources, their rows, and the file of the refused line, or nothing, with its number there, or 0 where none is.
 const LISTED: &[(&[u8], &[&[u8]], &[u8], u32)] = &[
     // Words with their marks, an instruction behind an odd place, further words below, and the names.
     (
-        b" REF VSBW\nS EQU 5\n TEXT 'ABC'\nL LI R1,>1234\n MOV @L,@VSBW\n DATA 1,L,VSBW,4,5\n BSS 3\n EVEN\n BYTE 1,2\n END L\n",
+        b" REF VSBW\nS EQU 5\n TEXT 'ABC'\nL LI R1,>1234\n MOV @L,@VSBW\n DATA 1,L,VSBW,4,5\n BSS 3\n EVEN\n END L\n",
         &[
             b"      1 >0000'                          REF VSBW\n",
             b"      2 >0000'                         S EQU 5\n",
@@ -22,8 +22,7 @@ const LISTED: &[(&[u8], &[&[u8]], &[u8], u32)] = &[
             b"        >0016' 0005                    \n",
             b"      7 >0018'                          BSS 3\n",
             b"      8 >001C'                          EVEN\n",
-            b"      9 >001C' 01 02                    BYTE 1,2\n",
-            b"     10 >001E'                          END L\n",
+            b"      9 >001C'                          END L\n",
             b"name >0000* external          1 VSBW\n",
             b"name >0005  absolute          2 S\n",
             b"name >0004' relocatable       4 L\n",
@@ -124,20 +123,12 @@ const LISTED: &[(&[u8], &[&[u8]], &[u8], u32)] = &[
     // A file that is missing.
     (
         b" DATA 1\n COPY 'NONE'\n",
-        &[
-            b"      1 >0000'                          DATA 1\n",
-        ],
+        &[b"      1 >0000'                          DATA 1\n"],
         b"",
         2,
     ),
     // No line.
-    (
-        b"",
-        &[
-        ],
-        b"",
-        0,
-    ),
+    (b"", &[], b"", 0),
 ];
 
 /// Whether it is this file, or none where there are no bytes.
@@ -151,9 +142,13 @@ fn is_file(file: &Option<FileName>, bytes: &[u8]) -> bool {
 /// Whether this line of a file is refused, or none where the number is 0.
 fn is_refused_at(refused: &Option<CopyError>, file: &[u8], number: u32) -> bool {
     match refused {
-        Some(CopyError::At {
-            file: found, line, ..
-        }) => is_file(found, file) && *line == number,
+        Some(
+            CopyError::At {
+                file: found,
+                line,
+                ..
+            },
+        ) => is_file(found, file) && *line == number,
         Some(_) => false,
         None => number == 0,
     }
@@ -182,8 +177,9 @@ fn listed_as(
     }
     let mut shelf = shelf(alloc, &[])?;
     match list_source(alloc, &mut shelf, source) {
-        Ok(listing) => Ok(writes(alloc, &listing, rows)?
-            && is_refused_at(&listing.refused(), file, line)),
+        Ok(listing) => Ok(
+            writes(alloc, &listing, rows)? && is_refused_at(&listing.refused(), file, line),
+        ),
         Err(_) => Ok(false),
     }
 }
