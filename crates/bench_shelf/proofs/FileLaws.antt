@@ -37,7 +37,7 @@ leads_refusal old last copies refusal error refuses same done holds =
       told_by _ error (record { taken = done; holds = same done holds; halts = inl (none, tt) }),
     )
 
--- a COPY line for which no file is asked, and which is told at the place of the line
+-- a COPY line for which no file is asked; its error has the place of the line
 pub refuses_none : (old : Copying) (found : Contents → Copied) (place : Place) (refusal : spec.Cause) (kept : CopyCause) (error : CopyError) (s : ShelfState)
     → defined_cause kept ≡ refusal → IsNoMemory kept → error ≡ refused_at place kept
     → ((contents : Contents) → found contents ≡ refused old.copies (spec.At (defined_place place) refusal)) → Copies old old found (Some error) s s

@@ -14,7 +14,7 @@ use Rattle.bench_shelf.specs.Causes.{Later, FileCauses, ShelfCauses, TookNoMore}
 use Rattle.bench_shelf.specs.CopyAnswers.{unread_at}
 use Rattle.bench_shelf.proofs.Keeping.{within_then}
 
--- and so does what is told of a file that was not read, of its COPY line
+-- what an unread file says of the shelf, the error of its COPY line says too
 pub causes_unread : (a b : ShelfState) (place : Place) (error : FileError) (said : CopyError) → said ≡ unread_at place error → FileCauses most_bytes error a b
     → ShelfCauses said a b
 causes_unread a b place unread.TooLarge said is causes = rw is causes

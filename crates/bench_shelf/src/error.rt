@@ -24,7 +24,7 @@ pub enum FileError {
     TooLarge,
     /// The shelf failed. Its count of faults has risen.
     Fault,
-    /// Memory was wanting.
+    /// Memory ran out.
     Memory,
 }
 

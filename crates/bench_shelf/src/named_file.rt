@@ -14,8 +14,9 @@ use std::alloc::Global;
 /// past the limit is taken.
 ///
 /// # Errors
-/// `Missing` carries the name. It comes only where the shelf's count of misses rose, and `Fault` only where that of faults rose. `TooLarge`
-/// comes exactly where more than `limit` bytes were taken of the file, and `Memory` is want of memory.
+/// `Missing` carries the name, and comes only where the shelf's count of misses rose; `Fault` comes only where its
+/// count of faults rose. `TooLarge` comes exactly where more than `limit` bytes were taken of the file, and `Memory`
+/// means out of memory.
 pub fn read_named<F: Shelf>(
     alloc: Global,
     shelf: &mut F,

@@ -1,6 +1,6 @@
 -- How a run with files ends.
 use Rattle.std.proofs.Common.{◌≡◌, ℕ, List, length, Some, Bool, true, false, refl, sym, subst, inl, inr, arith}
-use Rattle.std.specs.Prelude.{nat_lt, MatchBool, Result, Ok, Err}
+use Rattle.std.specs.Prelude.{nat_lt, MatchBool, Option, Result, Ok, Err}
 use Rattle.std.proofs.lemmas.Bool.Decides.{nat_tests}
 use Rattle.bench_io.specs.Stream.{SourceState}
 use Rattle.bench_io.specs.ReadAll.{ReadWhole}
@@ -44,15 +44,13 @@ use Rattle.workbench.specs.Answered.{FailsWith, AnswersWith}
 
 copy_no_usage : (answer : Result Module CopyRefusal) → IsNoUsage (copy_report answer)
 copy_no_usage (Ok found) e = absurd cc
-copy_no_usage (Err (copied.At place cause)) e = absurd cc
 copy_no_usage (Err copied.TooLarge) e = absurd cc
+copy_no_usage (Err _) e = absurd cc
 
 files_no_usage : (answer : Result LinkedMemory FilesRefusal) → IsNoUsage (files_report answer)
 files_no_usage (Ok linked) e = absurd cc
-files_no_usage (Err (linked.Missing name)) e = absurd cc
 files_no_usage (Err linked.TooLarge) e = absurd cc
-files_no_usage (Err (linked.InFile name refused)) e = absurd cc
-files_no_usage (Err (linked.Unlinked cause)) e = absurd cc
+files_no_usage (Err _) e = absurd cc
 
 found_no_usage : (found : Found) (limit : ℕ) (s : GplState) (left : MachineState)
     → IsNoUsage (watch_report found limit s left)
@@ -92,6 +90,12 @@ ends_over command run (Err status.Memory) end leaves (is, out, err) =
     subst (EndsSaid file_program (Some (OverFiles command)) run) (sym is)
     (record { leaves = leaves; out = out; err = err })
 ends_over command run (Err _) end fails ends = absurd fails
+
+-- what holds of what the words say holds of the command that was read of them
+pub ends_said : (before after : Reading) (o : Outputs) (end : Status) (said words : Option ProgramCommand) → said ≡ words
+    → EndsSaid file_program said (record { said = said; before = before; after = after; outputs = o }) end
+    → EndsSaid file_program words (record { said = words; before = before; after = after; outputs = o }) end
+ends_said before after o end said words same ends = rw (sym same) ends
 
 -- a command of `bench` leaves the shelf as it was
 pub ends_plain : (command : Command) (shelf : ShelfState) (input input' : SourceState) (o : Outputs) (end : Status)
