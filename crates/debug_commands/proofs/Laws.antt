@@ -48,12 +48,12 @@ shown : (command : DebugCommand) (before after : Reading) (read : Shown) (report
 shown command.List before after read report shows (source, reading, on) =
     on_all (AcceptedReport command.List read.files) before.input after.input source read.bytes report shows.0 reading
     (list_on_input before.shelf after.shelf source report read.files shows.1 on)
-shown command before after read report shows (on, same) =
-    bench.shown debug_input command before.input after.input read.bytes report shows on
+shown command before after read report shows on =
+    bench.shown debug_input command before.input after.input read.bytes report shows on.0
 
 fails : (command : DebugCommand) (before after : Reading) → ReadFails command before after → Fails before after
 fails command.List before after (inl failed) = inl failed.0
-fails command.List before after (inr (source, whole, questions, dialogue, failed)) = inr failed.rose
+fails command.List before after (inr (source, whole, failed)) = inr failed.2.rose
 fails _ before after failed = inl failed.1
 
 is_program : IsProgram debug_program

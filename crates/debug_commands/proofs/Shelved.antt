@@ -91,21 +91,21 @@ module _ (before after : SourceState) (source : List ℕ) (whole : ReadWhole lar
         → Ends o answer end → EndsSaid debug_program (Some command.List) run end
     answered (Ok report) reported ends =
         by_report debug_program command.List run report end
-        (source, reads_whole true before after source whole, rw (is_small before after source whole) reported)
+        (source, reads_whole true before after source whole, rw is_small reported)
         (same_no_usage report (rows_report reported.rows reported.refusal) reported.is (rows_no_usage reported.rows reported.refusal)) ends
     answered (Err status.Done) fails ends = absurd fails
     answered (Err status.Refused) fails ends = absurd fails
     answered (Err status.Usage) fails ends = absurd fails
-    answered (Err status.ReadFault) (questions, dialogue, failed) (is, out, err) =
+    answered (Err status.ReadFault) failed (is, out, err) =
         subst (EndsSaid debug_program (Some command.List) run) (sym is) (
-          record { leaves = (within before after source whole, inl failed.within, inr (source, whole, questions, dialogue)); out = out; err = err },
-          inr (source, whole, questions, dialogue, failed),
+          record { leaves = (within, inl failed.2.within, inr (source, whole, failed.0, failed.1)); out = out; err = err },
+          inr (source, whole, failed),
         )
     answered (Err status.WriteFault) fails ends = absurd fails
-    answered (Err status.Memory) (questions, dialogue, took) (is, out, err) =
+    answered (Err status.Memory) fails (is, out, err) =
         subst (EndsSaid debug_program (Some command.List) run) (sym is)
-        (record { leaves = (within before after source whole, took, inr (source, whole, questions, dialogue)); out = out; err = err })
+        (record { leaves = (within, fails.2, inr (source, whole, fails.0, fails.1)); out = out; err = err })
     answered (Err status.Stopped) fails ends = absurd fails
 
     pub by_listed : EndsListed shelf shelf' source o end → EndsSaid debug_program (Some command.List) run end
-    by_listed (answer, reported, ends) = answered before after source whole shelf shelf' o end answer reported ends
+    by_listed (answer, reported, ends) = answered answer reported ends

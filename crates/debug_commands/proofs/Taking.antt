@@ -33,13 +33,13 @@ reporting command.List before after report (source, reads, on) = by (nat_lt larg
         → Takes command.List before after
     by true on = none_taken command.List before.shelf after.shelf on.1
     by false on = dialogue_takes most_bytes most_copies _ before.shelf after.shelf on.questions on.dialogue
-reporting _ before after report (on, same) = same
+reporting _ before after report on = on.1
 
 leaving : (command : DebugCommand) (before after : Reading) → Leaves command before after → Takes command before after
 leaving command.List before after (input, took, inl same) = none_taken command.List before.shelf after.shelf same
 leaving command.List before after (input, took, inr (source, whole, questions, dialogue)) =
     dialogue_takes most_bytes most_copies _ before.shelf after.shelf questions dialogue
-leaving _ before after (input, same) = same
+leaving _ before after leaves = leaves.1
 
 takes_said : (said : Option DebugCommand) (run : Run DebugCommand Reading) (end : Status)
     → EndsSaid debug_program said run end → TakesOfShelf said run.before.shelf run.after.shelf

@@ -3,6 +3,7 @@ use Rattle.std.specs.Prelude.{Result}
 use Rattle.source_defs.specs.Refusals.{Refusal}
 use Rattle.gpl_source_defs.specs.declared.causes.GplCause.{GplCause}
 use Rattle.report_defs.specs.declared.status.Status.TheVariants as status
+use Rattle.report_defs.specs.SourceFaults.{gpl_line}
 use Rattle.reports.specs.Outputs.{Outputs, EndsWith}
 use Rattle.gpl_list_defs.specs.Text.{listing_lines}
 use Rattle.gpl_list_defs.specs.Listing.{report_by}
@@ -35,7 +36,7 @@ returns-in-Some g c =
     let wrote = rows_written c.write.result o lines (sym c.is_err.ensures.value ∙ c.if-is_err.false) c.write.ensures in
     let told = rw (c.as_slice.ensures.value, c.gpl_line.ensures) at c.tell.ensures in
     subst (λ (refused : Result Unit (Refusal GplCause)). EndsWith o (report_by lines refused) c.tell.result) c.in-Some.ensures
-    (line_told o lines (defined_refusal c.in-Some.refused) c.tell.result wrote told)
+    (line_told o lines (gpl_line (defined_refusal c.in-Some.refused)) c.tell.result wrote told)
 
 pub returns-in-None : goal.returns-in-None
 returns-in-None g c =

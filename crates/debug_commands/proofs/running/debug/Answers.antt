@@ -1,34 +1,38 @@
 use Rattle.std.proofs.Common.{Option, None, refl, subst}
-use Rattle.bench_io.specs.Stream.{SourceState}
 use Rattle.debug_report_defs.specs.declared.command.DebugCommand.{DebugCommand}
 use Rattle.reports.specs.Run.{EndsSaid, Run}
-use Rattle.bench_commands.proofs.Ends.{by_usage}
-use Rattle.debug_commands.specs.Debug.{debug_input, debug_program}
+use Rattle.debug_commands.specs.Debug.{Reading, debug_program}
+use Rattle.debug_commands.proofs.Taking.{takes_of_shelf}
 use Rattle.debug_commands.proofs.running.debug.Goals as goal
 
 pub returns-in-Some-clause-ends : goal.returns-in-Some-clause-ends
 returns-in-Some-clause-ends g c =
+    let source = g.S.Source.state in
+    let shelf = g.F.Shelf.shelf in
     let out = g.O.Sink.state in
     let err = g.E.Sink.state in
     let new = c.run_debug_command.new in
-    let run : Option DebugCommand → Run DebugCommand SourceState = λ said. record {
+    let run : Option DebugCommand → Run DebugCommand Reading = λ said. record {
       said = said;
-      before = g.S.Source.state c.args.input.now;
-      after = g.S.Source.state new.input;
+      before = record { input = source c.args.input.now; shelf = shelf c.args.shelf.now };
+      after = record { input = source new.input; shelf = shelf new.shelf };
       outputs = record { out = out c.args.out.now; out' = out new.out; err = err c.args.err.now; err' = err new.err };
     } in
-    subst (λ said. EndsSaid debug_program said (run said) c.run_debug_command.result) c.in-Some.ensures.command c.run_debug_command.ensures
+    subst (λ said. EndsSaid debug_program said (run said) c.run_debug_command.result) c.in-Some.ensures.command c.run_debug_command.ensures.ends
+
+pub returns-in-Some-clause-shelf : goal.returns-in-Some-clause-shelf
+returns-in-Some-clause-shelf g c = takes_of_shelf _ c.run_debug_command.result (returns-in-Some-clause-ends g c)
 
 pub returns-in-None-clause-ends : goal.returns-in-None-clause-ends
 returns-in-None-clause-ends g c =
-    let source = g.S.Source.state c.args.input.now in
+    let reading : Reading = record { input = g.S.Source.state c.args.input.now; shelf = g.F.Shelf.shelf c.args.shelf.now } in
     let out = g.O.Sink.state c.args.out.now in
     let err = g.E.Sink.state in
-    let run : Option DebugCommand → Run DebugCommand SourceState = λ said. record {
+    let run : Option DebugCommand → Run DebugCommand Reading = λ said. record {
       said = said;
-      before = source;
-      after = source;
+      before = reading;
+      after = reading;
       outputs = record { out = out; out' = out; err = err c.args.err.now; err' = err c.tell.new.err };
     } in
     subst (λ said. EndsSaid debug_program said (run said) c.tell.result) c.in-None.ensures.command
-    (by_usage debug_input source (run None).outputs c.tell.result (rw (c.usage.ensures) at c.tell.ensures) refl)
+    (record { unread = refl; out = refl; line = rw (c.usage.ensures) at c.tell.ensures })
