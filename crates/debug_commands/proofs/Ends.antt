@@ -1,5 +1,5 @@
 -- How a run of a command of `ti_debug` ends that reads the input alone.
-use Rattle.std.proofs.Common.{◌≤◌, ℕ, List, length, Result, Ok, Err, sym, subst, inl, inr}
+use Rattle.std.proofs.Common.{ℕ, List, length, Result, Ok, Err, sym, subst, inl, inr}
 use Rattle.std.specs.Prelude.{nat_lt}
 use Rattle.bench_io.specs.Stream.{SourceState}
 use Rattle.bench_io.specs.ReadAll.{ReadWhole}

@@ -1,6 +1,6 @@
 -- The report of an assembler source with the files that it copies.
-use Rattle.std.proofs.Common.{◌≡◌, ℕ, List, refl, sym, ap, ◌∙◌}
-use Rattle.std.specs.Prelude.{Result, Ok, Err, Option, Some, None, IfSome}
+use Rattle.std.proofs.Common.{◌≡◌, ℕ, List, refl, sym, ap}
+use Rattle.std.specs.Prelude.{Ok, Err, Option, Some, None, IfSome}
 use Rattle.source_defs.specs.Refusals.{seen}
 use Rattle.shelf_defs.specs.Copied as copied
 use Rattle.shelf_defs.specs.Copied.{CopyRefusal, most_bytes}

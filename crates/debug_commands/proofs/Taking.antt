@@ -12,7 +12,7 @@ use Rattle.reports.specs.Run.{Run, EndsSaid, EndsBy}
 use Rattle.debug_report_defs.specs.declared.command.DebugCommand.{DebugCommand}
 use Rattle.debug_report_defs.specs.declared.command.DebugCommand.TheVariants as command
 use Rattle.debug_commands.specs.Listed.{ListReported}
-use Rattle.debug_commands.specs.Debug.{Reading, Reports, Begins, Leaves, debug_program, TakesOfShelf}
+use Rattle.debug_commands.specs.Debug.{Reading, Reports, Leaves, debug_program, TakesOfShelf}
 
 abbrev Takes : DebugCommand → Reading → Reading → Type 0
 Takes command before after = TakesOfShelf (Some command) before.shelf after.shelf

@@ -1,4 +1,4 @@
-use Rattle.std.proofs.Common.{◌≡◌, refl, sym, ap, subst, ◌∙◌, Ok, Err}
+use Rattle.std.proofs.Common.{refl, sym, subst, ◌∙◌}
 use Rattle.std.specs.Prelude.{Result}
 use Rattle.source_defs.specs.Refusals.{Refusal}
 use Rattle.gpl_source_defs.specs.declared.causes.GplCause.{GplCause}
@@ -7,7 +7,7 @@ use Rattle.report_defs.specs.SourceFaults.{gpl_line}
 use Rattle.reports.specs.Outputs.{Outputs, EndsWith}
 use Rattle.gpl_list_defs.specs.Text.{listing_lines}
 use Rattle.gpl_list_defs.specs.Listing.{report_by}
-use Rattle.gpl_list.specs.Listings.{defined_listing, defined_refusal, refused_by}
+use Rattle.gpl_list.specs.Listings.{defined_listing, defined_refusal}
 use Rattle.debug_commands.proofs.Listed.{rows_missed, rows_written, line_told}
 use Rattle.debug_commands.proofs.glist.finish_listing.Goals as goal
 

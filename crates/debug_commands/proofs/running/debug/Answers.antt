@@ -1,4 +1,4 @@
-use Rattle.std.proofs.Common.{Option, None, refl, subst}
+use Rattle.std.proofs.Common.{Option, refl, subst}
 use Rattle.debug_report_defs.specs.declared.command.DebugCommand.{DebugCommand}
 use Rattle.reports.specs.Run.{EndsSaid, Run}
 use Rattle.debug_commands.specs.Debug.{Reading, debug_program}

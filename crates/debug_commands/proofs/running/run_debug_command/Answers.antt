@@ -4,7 +4,6 @@ use Rattle.reports.specs.Outputs.{Outputs}
 use Rattle.reports.specs.Run.{EndsBy}
 use Rattle.debug_report_defs.specs.declared.command.DebugCommand.{DebugCommand}
 use Rattle.debug_report_defs.specs.declared.command.DebugCommand.TheVariants.{Glist, Gsteps, Steps}
-use Rattle.debug_report_defs.specs.declared.command.DebugCommand.TheVariants as command
 use Rattle.gpl_list_defs.specs.Listing.{listing_of, listing_report}
 use Rattle.bench_commands.proofs.Ends.{by_unread}
 use Rattle.steps_command.specs.Ends.{EndsInstructions}
