@@ -6,13 +6,13 @@ use Rattle.source_defs.specs.Fields.{Fields, fields}
 use Rattle.source_defs.specs.declared.causes.TextError.{TextError}
 use Rattle.asm_defs.specs.declared.causes.AsmCause.{AsmCause}
 use Rattle.asm_defs.specs.declared.causes.AsmCause.TheVariants.{DuplicateLabel, BadDirective, Overflow}
-use Rattle.asm_defs.specs.Statements.{said_of, statement_in, as_text}
+use Rattle.asm_defs.specs.Statements.{parse_line, statement_in, as_text}
 use Rattle.asm_defs.specs.Locations.{is_in_part}
-use Rattle.asm_defs.specs.Growing.{size_said}
+use Rattle.asm_defs.specs.Growing.{declared_size}
 use Rattle.asm_defs.specs.FirstChecks as spec
 use Rattle.asm_defs.proofs.CheckLaws.{bound, moved_room}
 use Rattle.asm_checks.specs.Answers.{Fails}
-use Rattle.asm_checks.specs.Checks.{said_as_new, checked_as_new}
+use Rattle.asm_checks.specs.Checks.{parsed_as_new, checked_as_new}
 use Rattle.asm_checks.specs.declared.failure.Failure.{Failure}
 use Rattle.asm_checks.specs.declared.failure.Failure.TheVariants.{Refused}
 
@@ -24,22 +24,22 @@ as_read : {A : Type 0} (answer : Result A TextError) (found : A) → as_text ans
 as_read (Ok value) found e = cc e
 as_read (Err error) found e = cc e
 
-abbrev said_in : spec.Checked → spec.Said
+abbrev said_in : spec.Checked → spec.ParsedLine
 said_in checked = record { label = checked.label; statement = checked.statement }
 
-module _ (before : spec.Before) (text : List ℕ) where
+module _ (before : spec.EarlierLines) (text : List ℕ) where
   abbrev pub knows : Option (List ℕ) → Bool
   knows label = spec.any_known before.names (spec.label_in label)
 
   module _ (found : Fields) (read : fields text ≡ Ok found) where
     -- a label that stands for something already
-    said_known : knows found.label ≡ true → spec.said before text ≡ Err DuplicateLabel
-    unfolding spec.said
+    said_known : knows found.label ≡ true → spec.parsed before text ≡ Err DuplicateLabel
+    unfolding spec.parsed
     said_known is = rw (read, is) refl
 
     -- and one that is new
-    said_new : knows found.label ≡ false → spec.said before text ≡ said_as_new before text
-    unfolding spec.said said_as_new
+    said_new : knows found.label ≡ false → spec.parsed before text ≡ parsed_as_new before text
+    unfolding spec.parsed parsed_as_new
     said_new is = rw (read, is) refl
 
     pub fails_known : knows found.label ≡ true → Fails (Refused DuplicateLabel) (spec.checked before text)
@@ -50,7 +50,7 @@ module _ (before : spec.Before) (text : List ℕ) where
 
   -- a line without fields is refused for them
   unread : (error : TextError) → fields text ≡ Err error → checked_as_new before text ≡ spec.checked before text
-  unfolding spec.said said_as_new
+  unfolding spec.parsed parsed_as_new
   unread error read = rw read refl
 
   pub fails_unread : (failure : Failure) (error : TextError) → fields text ≡ Err error → Fails failure (checked_as_new before text)
@@ -58,14 +58,14 @@ module _ (before : spec.Before) (text : List ℕ) where
   fails_unread failure error read fails = subst (Fails failure) (unread error read) fails
 
   -- by the fields of the line
-  record Reads (line : spec.Said) : Type 0 where
+  record Reads (line : spec.ParsedLine) : Type 0 where
     found : Fields
     read : fields text ≡ Ok found
-    says : said_of text ≡ Ok line.statement
+    says : parse_line text ≡ Ok line.statement
     label : found.label ≡ line.label
 
-  reads : (line : spec.Said) → said_as_new before text ≡ Ok line → Reads line
-  unfolding said_as_new
+  reads : (line : spec.ParsedLine) → parsed_as_new before text ≡ Ok line → Reads line
+  unfolding parsed_as_new
   reads line e =
       let a = bound (as_text (fields text)) _ line e in
       let b = bound (statement_in text a.0) _ line a.2 in
@@ -74,12 +74,12 @@ module _ (before : spec.Before) (text : List ℕ) where
       record {
         found = a.0;
         read = read;
-        says = ap (λ answer. as_text answer >>= statement_in text) read ∙ (b.1 ∙ ap (λ (said : spec.Said). Ok said.statement) c);
-        label = ap (λ (said : spec.Said). said.label) c;
+        says = ap (λ answer. as_text answer >>= statement_in text) read ∙ (b.1 ∙ ap (λ (parsed : spec.ParsedLine). Ok parsed.statement) c);
+        label = ap (λ (parsed : spec.ParsedLine). parsed.label) c;
       }
 
   -- where a line leads is with what it says
-  module _ (line : spec.Said) (found : spec.Checked) where
+  module _ (line : spec.ParsedLine) (found : spec.Checked) where
     keeps : spec.moved before line ≡ Ok found → line ≡ said_in found
     unfolding spec.moved
     keeps e =
@@ -95,20 +95,20 @@ module _ (before : spec.Before) (text : List ℕ) where
 
   -- what the first checks let through but for its label
   module _ (found : spec.Checked) (is : checked_as_new before text ≡ Ok found) where
-    line : (line : spec.Said) × (said_as_new before text ≡ Ok line) × (spec.moved before line ≡ Ok found)
-    line = bound (said_as_new before text) (spec.moved before) found is
+    line : (line : spec.ParsedLine) × (parsed_as_new before text ≡ Ok line) × (spec.moved before line ≡ Ok found)
+    line = bound (parsed_as_new before text) (spec.moved before) found is
 
     kept : line.0 ≡ said_in found
     kept = keeps line.0 found line.2
 
-    pub says : said_of text ≡ Ok found.statement
-    says = (reads line.0 line.1).says ∙ ap (λ (said : spec.Said). Ok said.statement) kept
+    pub says : parse_line text ≡ Ok found.statement
+    says = (reads line.0 line.1).says ∙ ap (λ (parsed : spec.ParsedLine). Ok parsed.statement) kept
 
-    pub has_room : is_in_part before.location ≡ true → before.location.number + found.move.gap + size_said found.statement ≤ 65536
+    pub has_room : is_in_part before.location ≡ true → before.location.number + found.move.gap + declared_size found.statement ≤ 65536
     has_room here = moved_room before line.0 found here line.2
 
     label_is : knows (reads line.0 line.1).found.label ≡ knows found.label
-    label_is = ap knows ((reads line.0 line.1).label ∙ ap (λ (said : spec.Said). said.label) kept)
+    label_is = ap knows ((reads line.0 line.1).label ∙ ap (λ (parsed : spec.ParsedLine). parsed.label) kept)
 
     pub checked_new : knows found.label ≡ false → spec.checked before text ≡ Ok found
     checked_new new =

@@ -12,12 +12,12 @@ use Rattle.asm_defs.specs.Statements.{upper_names, as_text, statement_in}
 use Rattle.source_defs.specs.Operands.{operand_texts}
 use Rattle.asm_checks.specs.declared.statement.Statement.{Statement}
 use Rattle.asm_checks.specs.declared.statement.Statement.TheVariants.{Def, Ref}
-use Rattle.asm_checks.specs.declared.first_checks.Before.{Before}
-use Rattle.asm_checks.specs.declared.first_checks.Said.{Said}
+use Rattle.asm_checks.specs.declared.first_checks.EarlierLines.{EarlierLines}
+use Rattle.asm_checks.specs.declared.first_checks.ParsedLine.{ParsedLine}
 use Rattle.asm_checks.specs.declared.first_checks.Checked.{Checked}
 
-abbrev pub defined_before : Before → spec.Before
-defined_before before =
+abbrev pub defined_earlier_lines : EarlierLines → spec.EarlierLines
+defined_earlier_lines before =
     record {
       names = before.symbols.now;
       location = before.location;
@@ -26,14 +26,14 @@ defined_before before =
       refs = before.refs.now;
     }
 
-abbrev pub defined_said : Said → spec.Said
-defined_said said = record { label = said.label; statement = defined_statement said.statement }
+abbrev pub defined_said : ParsedLine → spec.ParsedLine
+defined_said parsed = record { label = parsed.label; statement = defined_statement parsed.statement }
 
 abbrev pub defined_checked : Checked → spec.Checked
 defined_checked checked =
     record {
-      label = checked.said.label;
-      statement = defined_statement checked.said.statement;
+      label = checked.parsed.label;
+      statement = defined_statement checked.parsed.statement;
       move = defined_move checked.moved;
     }
 
@@ -43,25 +43,25 @@ listed_in (Def field) = upper_names (operand_texts field.now)
 listed_in (Ref field) = upper_names (operand_texts field.now)
 listed_in _ = []
 
-abbrev pub ListsNames : Said → Type 0
-ListsNames said = said.listed.items ≡ listed_in said.statement
+abbrev pub ListsNames : ParsedLine → Type 0
+ListsNames parsed = parsed.listed.items ≡ listed_in parsed.statement
 
 -- what the code keeps of what a line says
-pub record IsSaid (said : Said) : Type 0 where
-  pub skeleton : KeepsSkeleton said.statement
-  pub names : NamesOnly said.statement
-  pub little : MovesLittle said.statement
+pub record IsParsed (parsed : ParsedLine) : Type 0 where
+  pub skeleton : KeepsSkeleton parsed.statement
+  pub names : NamesOnly parsed.statement
+  pub little : MovesLittle parsed.statement
 
 -- the locations that were reached lie in their parts
-pub record KnowsPlaces (before : Before) : Type 0 where
+pub record KnowsPlaces (before : EarlierLines) : Type 0 where
   pub location : IsTrue (is_in_part before.location)
   pub reached : before.reached ≤ 65535
 
 -- by what is known of the lines before
-module _ (before : spec.Before) where
+module _ (before : spec.EarlierLines) where
   -- what a line says, whose names of REF are new, and whose label may stand for something already
-  unfoldable pub said_as_new : List ℕ → Result spec.Said AsmCause
-  said_as_new text = do
+  unfoldable pub parsed_as_new : List ℕ → Result spec.ParsedLine AsmCause
+  parsed_as_new text = do
     found ← as_text (fields text)
     statement ← statement_in text found
     unless (spec.is_taken before.names found.label (spec.refs_in statement)) DuplicateLabel
@@ -69,4 +69,4 @@ module _ (before : spec.Before) where
 
   -- and where it leads
   abbrev pub checked_as_new : List ℕ → Result spec.Checked AsmCause
-  checked_as_new text = said_as_new text >>= spec.moved before
+  checked_as_new text = parsed_as_new text >>= spec.moved before

@@ -4,9 +4,9 @@ use Rattle.asm_text.specs.GivenValues.{defined_value}
 use Rattle.asm_defs.specs.FirstChecks as spec
 use Rattle.asm_checks.specs.declared.statement.Statement.{Statement}
 use Rattle.asm_checks.specs.declared.statement.Statement.TheVariants.{Data, Byte, Text}
-use Rattle.asm_checks.specs.declared.moves.Move.{Move}
+use Rattle.asm_checks.specs.declared.moves.LocationChange.{LocationChange}
 
-abbrev pub defined_move : Move → spec.Move
+abbrev pub defined_move : LocationChange → spec.LocationChange
 defined_move move =
     record { origin = move.origin; gap = move.gap; size = move.size; label = defined_value move.label }
 
@@ -18,6 +18,6 @@ MovesLittle (Text quoted) = length quoted.now ≤ 256
 MovesLittle _ = ⊤
 
 -- a line leads no further than two parts' ends
-pub record MovesWithin (move : Move) : Type 0 where
+pub record MovesWithin (move : LocationChange) : Type 0 where
   pub size : move.gap + move.size ≤ 65536
   pub origin : IfSome move.origin (λ location. location.number ≤ 65535)

@@ -62,8 +62,8 @@ impl From<FormError> for Failure {
 }
 
 /// Whether a refusal may be lifted by names that are still to come.
-pub fn is_open(cause: AsmCause) -> bool
-    ensures { result ≡ growing.is_open cause }
+pub fn is_unresolved(cause: AsmCause) -> bool
+    ensures { result ≡ growing.is_unresolved cause }
 {
     matches!(
         cause,

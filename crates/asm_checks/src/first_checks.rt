@@ -7,12 +7,12 @@ ghost use Rattle.asm_defs.specs.FirstChecks as spec;
 ghost use Rattle.asm_checks.specs.Answers.{Fails, Gives};
 ghost use Rattle.asm_checks.specs.Defined.{defined_statement, NamesOnly};
 ghost use Rattle.asm_checks.specs.Moves.{defined_move, MovesLittle};
-ghost use Rattle.asm_checks.specs.Checks.{defined_before, defined_said, defined_checked, IsSaid, KnowsPlaces};
-ghost use Rattle.asm_checks.specs.Checks.{ListsNames, listed_in, said_as_new, checked_as_new};
+ghost use Rattle.asm_checks.specs.Checks.{defined_earlier_lines, defined_said, defined_checked, IsParsed, KnowsPlaces};
+ghost use Rattle.asm_checks.specs.Checks.{ListsNames, listed_in, parsed_as_new, checked_as_new};
 ghost use Rattle.asm_checks.specs.Moves.{MovesWithin};
 
 use crate::failure::Failure;
-use crate::moves::{Move, behind};
+use crate::moves::{LocationChange, behind};
 use crate::names::{any_known, is_taken, label_in, names_in, repeats};
 use crate::statement::{Statement, statement_in};
 use crate::titles::title_in;
@@ -24,7 +24,7 @@ use std::alloc::{AllocError, Global};
 
 /// What is known of the lines before a line.
 #[derive(Clone, Copy)]
-pub struct Before<'a> {
+pub struct EarlierLines<'a> {
     /// The allocator.
     pub alloc: Global,
     /// The names.
@@ -41,7 +41,7 @@ pub struct Before<'a> {
 
 /// What a line says.
 #[derive(Drop)]
-pub struct Said<'a> {
+pub struct ParsedLine<'a> {
     /// Its label.
     pub label: Option<Name>,
     /// What stands in its fields.
@@ -54,30 +54,30 @@ pub struct Said<'a> {
 #[derive(Drop)]
 pub struct Checked<'a> {
     /// What it says.
-    pub said: Said<'a>,
+    pub parsed: ParsedLine<'a>,
     /// What it does to the location.
-    pub moved: Move,
+    pub moved: LocationChange,
 }
 
-impl Before<'_> {
+impl EarlierLines<'_> {
     /// A line by the first checks, but for whether its label is new, which is told where the label is defined.
     pub fn checked<'b>(&self, text: &'b [u8]) -> Result<Checked<'b>, Failure>
         requires { KnowsPlaces self.now }
-        ensures checked { Gives defined_checked result (checked_as_new (defined_before self.now) text.now) }
-        ensures line { IfOk result (λ checked. IsSaid checked.said) }
-        ensures listed { IfOk result (λ checked. ListsNames checked.said) }
+        ensures checked { Gives defined_checked result (checked_as_new (defined_earlier_lines self.now) text.now) }
+        ensures line { IfOk result (λ checked. IsParsed checked.parsed) }
+        ensures listed { IfOk result (λ checked. ListsNames checked.parsed) }
         ensures within { IfOk result (λ checked. MovesWithin checked.moved) }
     {
-        let said = self.said(text)?;
-        let moved = self.moved(&said)?;
-        Ok(Checked { said, moved })
+        let parsed = self.parsed(text)?;
+        let moved = self.moved(&parsed)?;
+        Ok(Checked { parsed, moved })
     }
 
     /// Why the first checks refuse a line that they refuse with any label: a label that stands for something already
     /// comes before another reason.
     pub fn failure_of(&self, text: &[u8], failure: Failure) -> Failure
-        requires { Fails failure (checked_as_new (defined_before self.now) text.now) }
-        ensures { Fails result (spec.checked (defined_before self.now) text.now) }
+        requires { Fails failure (checked_as_new (defined_earlier_lines self.now) text.now) }
+        ensures { Fails result (spec.checked (defined_earlier_lines self.now) text.now) }
     {
         match fields(text) {
             Ok(found) if self.knows_label(&found.label) => {
@@ -88,10 +88,10 @@ impl Before<'_> {
     }
 
     /// What a line says, whose names of REF are new.
-    #[tactic(auto, unfolding(crate::specs::Checks::said_as_new))]
-    fn said<'b>(&self, text: &'b [u8]) -> Result<Said<'b>, Failure>
-        ensures said { Gives defined_said result (said_as_new (defined_before self.now) text.now) }
-        ensures line { IfOk result IsSaid }
+    #[tactic(auto, unfolding(crate::specs::Checks::parsed_as_new))]
+    fn parsed<'b>(&self, text: &'b [u8]) -> Result<ParsedLine<'b>, Failure>
+        ensures parsed { Gives defined_said result (parsed_as_new (defined_earlier_lines self.now) text.now) }
+        ensures line { IfOk result IsParsed }
         ensures listed { IfOk result ListsNames }
     {
         let found = match fields(text) {
@@ -103,7 +103,7 @@ impl Before<'_> {
         if self.takes_known(found.label, &statement, listed.as_slice()) {
             return Err(Failure::Refused(AsmCause::DuplicateLabel));
         }
-        Ok(Said {
+        Ok(ParsedLine {
             label: found.label,
             statement,
             listed,
@@ -130,12 +130,12 @@ impl Before<'_> {
 
     /// Where a line leads.
     #[tactic(auto, using(crate::proofs::Failures::expr_fails), unfolding(asm_defs::specs::FirstChecks::moved))]
-    fn moved(&self, said: &Said<'_>) -> Result<Move, Failure>
+    fn moved(&self, parsed: &ParsedLine<'_>) -> Result<LocationChange, Failure>
         requires places { KnowsPlaces self.now }
-        requires listed { ListsNames said.now }
-        requires little { MovesLittle said.now.statement }
-        ensures checked { Gives (λ moved. defined_checked (record { said = said.now; moved = moved })) result
-            (spec.moved (defined_before self.now) (defined_said said.now)) }
+        requires listed { ListsNames parsed.now }
+        requires little { MovesLittle parsed.now.statement }
+        ensures checked { Gives (λ moved. defined_checked (record { parsed = parsed.now; moved = moved })) result
+            (spec.moved (defined_earlier_lines self.now) (defined_said parsed.now)) }
         ensures within { IfOk result MovesWithin }
     {
         let scope = Scope {
@@ -143,50 +143,50 @@ impl Before<'_> {
             symbols: self.symbols,
             at: self.location,
         };
-        let moved = scope.move_by(self.reached, &said.statement)?;
-        if self.is_too_far(said, &moved) {
+        let moved = scope.move_by(self.reached, &parsed.statement)?;
+        if self.is_too_far(parsed, &moved) {
             return Err(Failure::Refused(AsmCause::Overflow));
         }
-        if self.is_bad(said) {
+        if self.is_bad(parsed) {
             return Err(Failure::Refused(AsmCause::BadDirective));
         }
         Ok(moved)
     }
 
     /// Whether a line leads past the end of its part, or lists too many names.
-    fn is_too_far(&self, said: &Said<'_>, moved: &Move) -> bool
+    fn is_too_far(&self, parsed: &ParsedLine<'_>, moved: &LocationChange) -> bool
         requires places { KnowsPlaces self.now }
         requires within { MovesWithin moved.now }
-        requires listed { ListsNames said.now }
-        ensures { result ≡ spec.is_too_far (defined_before self.now) (defined_statement said.now.statement)
+        requires listed { ListsNames parsed.now }
+        ensures { result ≡ spec.is_too_far (defined_earlier_lines self.now) (defined_statement parsed.now.statement)
             (defined_move moved.now) }
     {
-        !is_in_part(location_behind(self.location, moved)) || self.lists_too_many(said)
+        !is_in_part(location_behind(self.location, moved)) || self.lists_too_many(parsed)
     }
 
     /// Whether DEF or REF lists more names than a module may have.
-    fn lists_too_many(&self, said: &Said<'_>) -> bool
-        requires { ListsNames said.now }
-        ensures { result ≡ spec.lists_too_many (defined_before self.now) (defined_statement said.now.statement) }
+    fn lists_too_many(&self, parsed: &ParsedLine<'_>) -> bool
+        requires { ListsNames parsed.now }
+        ensures { result ≡ spec.lists_too_many (defined_earlier_lines self.now) (defined_statement parsed.now.statement) }
     {
-        match said.statement {
-            Statement::Def(_) => self.defs.len() + said.listed.len() > MOST_NAMES,
-            Statement::Ref(_) => self.refs.len() + said.listed.len() > MOST_NAMES,
+        match parsed.statement {
+            Statement::Def(_) => self.defs.len() + parsed.listed.len() > MOST_NAMES,
+            Statement::Ref(_) => self.refs.len() + parsed.listed.len() > MOST_NAMES,
             _ => false,
         }
     }
 
     /// Whether a directive cannot stand as it is.
-    fn is_bad(&self, said: &Said<'_>) -> bool
-        requires { ListsNames said.now }
+    fn is_bad(&self, parsed: &ParsedLine<'_>) -> bool
+        requires { ListsNames parsed.now }
         ensures { result
-            ≡ spec.is_bad (defined_before self.now) said.now.label (defined_statement said.now.statement) }
+            ≡ spec.is_bad (defined_earlier_lines self.now) parsed.now.label (defined_statement parsed.now.statement) }
     {
-        match said.statement {
-            Statement::Equ(_) => said.label.is_none(),
+        match parsed.statement {
+            Statement::Equ(_) => parsed.label.is_none(),
             Statement::Idt(text) => !(is_quoted(text) && title_in(text).is_some()),
             Statement::Titl(text) => !is_quoted(text),
-            Statement::Def(_) => repeats(self.defs, said.listed.as_slice()),
+            Statement::Def(_) => repeats(self.defs, parsed.listed.as_slice()),
             _ => false,
         }
     }
@@ -204,7 +204,7 @@ fn listed_names(alloc: Global, statement: &Statement<'_>) -> Result<Vec<Name>, A
 }
 
 /// The location behind a line.
-pub fn location_behind(here: Location, moved: &Move) -> Location
+pub fn location_behind(here: Location, moved: &LocationChange) -> Location
     requires here { here.number ≤ 65536 }
     requires within { MovesWithin moved.now }
     ensures { result ≡ spec.location_behind here (defined_move moved.now) }

@@ -3,7 +3,7 @@
 ghost use Rattle.std.specs.Prelude.{◌≡◌, ◌≤◌, ◌<◌, ◌+◌, ◌^◌, length, OnOk, IfOk};
 ghost use Rattle.asm_defs.specs.Locations as places;
 ghost use Rattle.asm_defs.specs.FirstChecks as spec;
-ghost use Rattle.asm_defs.specs.Growing.{size_said};
+ghost use Rattle.asm_defs.specs.Growing.{declared_size};
 ghost use Rattle.asm_text.specs.GivenValues.{defined_value};
 ghost use Rattle.source_defs.specs.Refusals.{seen};
 ghost use Rattle.asm_text.specs.Yielded.{Yields};
@@ -17,7 +17,7 @@ use asm_text::{ExprError, Value, character_count, operand_count};
 
 /// What a line does to the location.
 #[derive(Clone, Copy)]
-pub struct Move {
+pub struct LocationChange {
     /// The location that it sets.
     pub origin: Option<Location>,
     /// How many bytes it leaves free before it.
@@ -30,7 +30,11 @@ pub struct Move {
 
 impl Scope<'_> {
     /// What a line does to the location, where a relocatable one is the highest reached so far.
-    pub fn move_by(&self, reached: u32, statement: &Statement<'_>) -> Result<Move, ExprError>
+    pub fn move_by(
+        &self,
+        reached: u32,
+        statement: &Statement<'_>,
+    ) -> Result<LocationChange, ExprError>
         requires here { self.now.at.number ≤ 65536 }
         requires reached { reached ≤ 65535 }
         requires field { MovesLittle statement.now }
@@ -45,14 +49,14 @@ impl Scope<'_> {
             Statement::Rorg(Some(text)) => {
                 Ok(set_to(
                     Part::Relocatable,
-                    u32::from(internal_number(self.value_of(text)?)?),
+                    u32::from(non_external_number(self.value_of(text)?)?),
                 ))
             }
             Statement::Bss(text) => Ok(stays_at(self.at, u32::from(self.absolute_of(text)?))),
             Statement::Bes(text) => Ok(ends_block(self.at, u32::from(self.absolute_of(text)?))),
-            Statement::Equ(text) => Ok(equals(known_here(self.value_of(text)?)?)),
+            Statement::Equ(text) => Ok(equals(non_external(self.value_of(text)?)?)),
             Statement::Even | Statement::Instruction(..) | Statement::Data(_) => {
-                Ok(stays_even(self.at, size_said(statement)))
+                Ok(stays_even(self.at, declared_size(statement)))
             }
             Statement::Byte(_)
             | Statement::Text(_)
@@ -61,16 +65,16 @@ impl Scope<'_> {
             | Statement::Ref(_)
             | Statement::Idt(_)
             | Statement::Titl(_)
-            | Statement::End(_) => Ok(stays_at(self.at, size_said(statement))),
+            | Statement::End(_) => Ok(stays_at(self.at, declared_size(statement))),
         }
     }
 }
 
 /// How many bytes a line says that it places.
 #[inline(always)]
-pub fn size_said(statement: &Statement<'_>) -> u32
+pub fn declared_size(statement: &Statement<'_>) -> u32
     requires { MovesLittle statement.now }
-    ensures size { result ≡ size_said (defined_statement statement.now) }
+    ensures size { result ≡ declared_size (defined_statement statement.now) }
     ensures most { result ≤ 65535 }
 {
     match statement {
@@ -94,12 +98,12 @@ pub fn behind(at: Location, bytes: u32) -> Location
 }
 
 /// A line that takes some bytes from the location on.
-fn stays_at(here: Location, size: u32) -> Move
+fn stays_at(here: Location, size: u32) -> LocationChange
     requires { size ≤ 65535 }
     ensures moved { defined_move result ≡ spec.stays_at here size }
     ensures within { MovesWithin result }
 {
-    Move {
+    LocationChange {
         origin: None,
         gap: 0,
         size,
@@ -108,14 +112,14 @@ fn stays_at(here: Location, size: u32) -> Move
 }
 
 /// A line that takes some bytes from the next even place on.
-fn stays_even(here: Location, size: u32) -> Move
+fn stays_even(here: Location, size: u32) -> LocationChange
     requires here { here.number ≤ 65536 }
     requires size { size ≤ 65535 }
     ensures moved { defined_move result ≡ spec.stays_even here size }
     ensures within { MovesWithin result }
 {
     let gap = here.number % 2;
-    Move {
+    LocationChange {
         origin: None,
         gap,
         size,
@@ -124,13 +128,13 @@ fn stays_even(here: Location, size: u32) -> Move
 }
 
 /// A line whose label stands for the location behind it.
-fn ends_block(here: Location, size: u32) -> Move
+fn ends_block(here: Location, size: u32) -> LocationChange
     requires here { here.number ≤ 65536 }
     requires size { size ≤ 65535 }
     ensures moved { defined_move result ≡ spec.ends_block here size }
     ensures within { MovesWithin result }
 {
-    Move {
+    LocationChange {
         origin: None,
         gap: 0,
         size,
@@ -139,13 +143,13 @@ fn ends_block(here: Location, size: u32) -> Move
 }
 
 /// A line that sets the location.
-fn set_to(part: Part, number: u32) -> Move
+fn set_to(part: Part, number: u32) -> LocationChange
     requires { number ≤ 65535 }
     ensures moved { defined_move result ≡ spec.set_to (record { part = part; number = number }) }
     ensures within { MovesWithin result }
 {
     let location = Location { part, number };
-    Move {
+    LocationChange {
         origin: Some(location),
         gap: 0,
         size: 0,
@@ -154,11 +158,11 @@ fn set_to(part: Part, number: u32) -> Move
 }
 
 /// A line that says what its label stands for.
-fn equals(value: Value) -> Move
+fn equals(value: Value) -> LocationChange
     ensures moved { defined_move result ≡ spec.equals (defined_value value) }
     ensures within { MovesWithin result }
 {
-    Move {
+    LocationChange {
         origin: None,
         gap: 0,
         size: 0,
@@ -167,8 +171,8 @@ fn equals(value: Value) -> Move
 }
 
 /// The number of a value that is not external.
-fn internal_number(value: Value) -> Result<u16, ExprError>
-    ensures { result ≡ spec.internal_number (defined_value value) }
+fn non_external_number(value: Value) -> Result<u16, ExprError>
+    ensures { result ≡ spec.non_external_number (defined_value value) }
 {
     match value {
         Value::Absolute(number) | Value::Relocatable(number) => Ok(number),
@@ -177,8 +181,8 @@ fn internal_number(value: Value) -> Result<u16, ExprError>
 }
 
 /// A value that is not external.
-fn known_here(value: Value) -> Result<Value, ExprError>
-    ensures { seen defined_value result ≡ spec.known_here (defined_value value) }
+fn non_external(value: Value) -> Result<Value, ExprError>
+    ensures { seen defined_value result ≡ spec.non_external (defined_value value) }
 {
     match value {
         Value::Absolute(_) | Value::Relocatable(_) => Ok(value),

@@ -8,7 +8,7 @@ ghost use Rattle.instruction_defs.specs.SecondChecks.{second_checks};
 ghost use Rattle.asm_forms.specs.Placed.{defined_word, defined_words, words_in};
 ghost use Rattle.asm_forms.specs.Skeletons.{defined_skeleton, IsOfField};
 ghost use Rattle.asm_defs.specs.Locations as places;
-ghost use Rattle.asm_defs.specs.Statements as said;
+ghost use Rattle.asm_defs.specs.Statements as parsed;
 ghost use Rattle.asm_defs.specs.FirstChecks as first;
 ghost use Rattle.asm_defs.specs.SecondChecks as spec;
 ghost use Rattle.asm_defs.specs.Growing as growing;
@@ -175,9 +175,9 @@ impl Scope<'_> {
 
     /// Whether the names of DEF stand for something here.
     fn check_defs(&self, field: &[u8]) -> Result<(), Failure>
-        requires { IsTrue (said.all_names (operand_texts field.now)) }
+        requires { IsTrue (parsed.all_names (operand_texts field.now)) }
         ensures { Gives (λ _. spec.Nothing) result
-            (spec.defs_known (look_up self.now.symbols.now) self.now.at (said.upper_names (operand_texts field.now))) }
+            (spec.defs_known (look_up self.now.symbols.now) self.now.at (parsed.upper_names (operand_texts field.now))) }
     {
         let names = names_in(self.alloc, field)?;
         self.defs_known(names.as_slice())

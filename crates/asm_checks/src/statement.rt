@@ -15,7 +15,7 @@ use crate::failure::Failure;
 use crate::name_lists::names_of;
 use asm_defs::Directive;
 use asm_forms::{Skeleton, size_in, skeleton_of};
-use asm_text::{Fields, OperandError, at_most_one_of, one_of, part, quoted, some_of};
+use asm_text::{Fields, OperandError, one_operand, operand_list, optional_operand, part, quoted};
 use instruction_defs::FormError;
 
 /// An instruction with its operands, and what the first checks leave of it.
@@ -76,7 +76,7 @@ pub fn statement_in<'a>(line: &'a [u8], fields: &Fields) -> Result<Statement<'a>
     requires read { lines.fields line.now ≡ Ok (defined_fields fields.now) }
     requires inside { FieldsLieInside line.now fields.now }
     requires length { length line.now ≤ 256 }
-    ensures said { Gives defined_statement result (spec.statement_in line.now (defined_fields fields.now)) }
+    ensures parsed { Gives defined_statement result (spec.statement_in line.now (defined_fields fields.now)) }
     ensures little { IfOk result MovesLittle }
     ensures names { IfOk result NamesOnly }
     ensures skeleton { IfOk result KeepsSkeleton }
@@ -99,7 +99,7 @@ fn instruction_statement<'a>(
     field: &'a [u8],
 ) -> Result<Statement<'a>, FormError>
     requires { length field.now ≤ 256 }
-    ensures said { seen defined_statement result ≡ spec.instruction_statement operation.now field.now }
+    ensures parsed { seen defined_statement result ≡ spec.instruction_statement operation.now field.now }
     ensures skeleton { IfOk result KeepsSkeleton }
     ensures little { IfOk result MovesLittle }
     ensures names { IfOk result NamesOnly }
@@ -117,27 +117,27 @@ fn instruction_statement<'a>(
 /// A directive with its operands.
 fn directive_statement(found: Directive, field: &[u8]) -> Result<Statement<'_>, OperandError>
     requires { length field.now ≤ 256 }
-    ensures said { seen defined_statement result ≡ spec.directive_statement found (operand_texts field.now) }
+    ensures parsed { seen defined_statement result ≡ spec.directive_statement found (operand_texts field.now) }
     ensures little { IfOk result MovesLittle }
     ensures names { IfOk result NamesOnly }
     ensures skeleton { IfOk result KeepsSkeleton }
 {
     match found {
-        Directive::Aorg => Ok(Statement::Aorg(one_of(field)?)),
-        Directive::Rorg => Ok(Statement::Rorg(at_most_one_of(field)?)),
-        Directive::Dorg => Ok(Statement::Dorg(one_of(field)?)),
-        Directive::Bss => Ok(Statement::Bss(one_of(field)?)),
-        Directive::Bes => Ok(Statement::Bes(one_of(field)?)),
+        Directive::Aorg => Ok(Statement::Aorg(one_operand(field)?)),
+        Directive::Rorg => Ok(Statement::Rorg(optional_operand(field)?)),
+        Directive::Dorg => Ok(Statement::Dorg(one_operand(field)?)),
+        Directive::Bss => Ok(Statement::Bss(one_operand(field)?)),
+        Directive::Bes => Ok(Statement::Bes(one_operand(field)?)),
         Directive::Even => Ok(Statement::Even),
-        Directive::Equ => Ok(Statement::Equ(one_of(field)?)),
-        Directive::Data => Ok(Statement::Data(some_of(field)?)),
-        Directive::Byte => Ok(Statement::Byte(some_of(field)?)),
-        Directive::Text => Ok(Statement::Text(quoted(one_of(field)?)?)),
+        Directive::Equ => Ok(Statement::Equ(one_operand(field)?)),
+        Directive::Data => Ok(Statement::Data(operand_list(field)?)),
+        Directive::Byte => Ok(Statement::Byte(operand_list(field)?)),
+        Directive::Text => Ok(Statement::Text(quoted(one_operand(field)?)?)),
         Directive::Def => Ok(Statement::Def(names_of(field)?)),
         Directive::Ref => Ok(Statement::Ref(names_of(field)?)),
-        Directive::Idt => Ok(Statement::Idt(one_of(field)?)),
-        Directive::Titl => Ok(Statement::Titl(one_of(field)?)),
+        Directive::Idt => Ok(Statement::Idt(one_operand(field)?)),
+        Directive::Titl => Ok(Statement::Titl(one_operand(field)?)),
         Directive::Quiet => Ok(Statement::Nothing),
-        Directive::End => Ok(Statement::End(at_most_one_of(field)?)),
+        Directive::End => Ok(Statement::End(optional_operand(field)?)),
     }
 }

@@ -4,11 +4,11 @@ use Rattle.std.specs.Prelude.{Option, nat_le}
 use Rattle.std.proofs.lemmas.Bool.Decides.{nat_tests}
 use Rattle.source_defs.specs.Expression.{Value}
 use Rattle.asm_defs.specs.declared.location.Location.{Location}
-use Rattle.asm_defs.specs.Statements as said
+use Rattle.asm_defs.specs.Statements as parsed
 use Rattle.asm_defs.specs.SecondChecks.{Outcome, outcome}
 use Rattle.asm_defs.specs.declared.content.Content.{Content}
 use Rattle.asm_defs.specs.Memory.{bytes_in, contents_by}
-use Rattle.asm_defs.specs.Growing.{size_said}
+use Rattle.asm_defs.specs.Growing.{declared_size}
 use Rattle.asm_defs.proofs.OutcomeSizes.{IsSized, outcome_size}
 use Rattle.asm_checks.specs.Defined.{defined_statement, KeepsSkeleton}
 use Rattle.asm_checks.specs.declared.statement.Statement.{Statement}
@@ -59,7 +59,7 @@ sized (Titl text) is = tt
 sized (End text) is = tt
 
 pub comes_within : (look : List ℕ → Option Value) (at : Location) (statement : Statement) (found : Outcome) → KeepsSkeleton statement
-    → outcome look at (defined_statement statement) ≡ Ok found → bytes_in found ≡ size_said (defined_statement statement)
+    → outcome look at (defined_statement statement) ≡ Ok found → bytes_in found ≡ declared_size (defined_statement statement)
 comes_within look at statement found is e = outcome_size look at (defined_statement statement) found (sized statement is) e
 
 pub gives : (at : Location) (found : Outcome) (given : List Content) → at.number + bytes_in found ≤ 65536 → given ≡ contents_by at [] found
@@ -68,8 +68,8 @@ gives at found given within is =
     let size : length given ≡ bytes_in found = ap length is ∙ contents_length at [] found in
     record { bytes = λ placed. is; within = omega (arith, within, size) }
 
-pub fits_there : (at : Location) (text : List ℕ) (statement : said.Statement) → has_room at text ≡ true → said.said_of text ≡ Ok statement
-    → at.number + size_said statement ≤ 65536
+pub fits_there : (at : Location) (text : List ℕ) (statement : parsed.Statement) → has_room at text ≡ true → parsed.parse_line text ≡ Ok statement
+    → at.number + declared_size statement ≤ 65536
 fits_there at text statement room says =
-    let le : nat_le (at.number + size_said statement) 65536 ≡ true = sym (ap (has_room_by at) says) ∙ room in
+    let le : nat_le (at.number + declared_size statement) 65536 ≡ true = sym (ap (has_room_by at) says) ∙ room in
     grind (arith, nat_tests, le)

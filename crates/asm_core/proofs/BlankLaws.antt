@@ -12,7 +12,7 @@ use Rattle.asm_defs.specs.declared.location.Part.{Part}
 use Rattle.asm_defs.specs.declared.location.Part.TheVariants as part
 use Rattle.asm_defs.specs.Locations.{Line, location, reached, relocatable, behind, is_in_part}
 use Rattle.asm_defs.specs.Statements.{Nothing, statement_in}
-use Rattle.asm_defs.specs.FirstChecks.{Before, Checked, checked, said, moved, stays_at}
+use Rattle.asm_defs.specs.FirstChecks.{EarlierLines, Checked, checked, parsed, moved, stays_at}
 use Rattle.asm_defs.specs.SecondChecks as second
 use Rattle.asm_defs.specs.Memory.{Settled, covers, is_placed, has_word, words_in, word_count, part_words, content_at, same_part, overlaps}
 use Rattle.asm_defs.specs.Modules.{with_room}
@@ -32,9 +32,9 @@ here_again here =
     let same : here.number + 0 ≡ here.number = omega arith in
     ap (λ number. record { part = here.part; number = number }) same
 
-pub nothing_said : (before : Before) (text : List ℕ) → fields text ≡ Ok no_fields → is_in_part before.location ≡ true
+pub nothing_said : (before : EarlierLines) (text : List ℕ) → fields text ≡ Ok no_fields → is_in_part before.location ≡ true
     → checked before text ≡ Ok (nothing_at before.location)
-unfolding said moved statement_in
+unfolding parsed moved statement_in
 nothing_said before text none here =
     let inside : is_in_part (behind before.location 0) ≡ true = ap is_in_part (here_again before.location) ∙ here in
     rw (none, inside) refl

@@ -13,7 +13,7 @@ use Rattle.asm_defs.specs.Locations.{Line, place}
 use Rattle.asm_defs.specs.SecondChecks.{outcome}
 use Rattle.asm_defs.specs.Memory.{Settled, references_of}
 use Rattle.asm_defs.specs.Modules.{settle, with_room, entry}
-use Rattle.asm_defs.specs.Growing.{is_open}
+use Rattle.asm_defs.specs.Growing.{is_unresolved}
 use Rattle.asm_defs.proofs.GrowingLaws.{outcome_stays}
 use Rattle.asm_checks.specs.Answers.{Causes}
 use Rattle.module_image.specs.Standing.{StandsBehind, AllStand}
@@ -64,14 +64,14 @@ held_more known before (first ∷ order) (other ∷ founds) waiting line found p
     )
 
 module _ (known more : Names) (grows : Grows known more) where
-  pub comes_still : (before : List Line) (line : Line) → is_closed is_open (outcome (look_up known) (place before line) line.statement) ≡ true
+  pub comes_still : (before : List Line) (line : Line) → is_closed is_unresolved (outcome (look_up known) (place before line) line.statement) ≡ true
       → outcome (look_up more) (place before line) line.statement ≡ outcome (look_up known) (place before line) line.statement
   comes_still before line closed = outcome_stays (look_up known) (look_up more) grows (place before line) line.statement closed
 
   is_still : (before : List Line) (line : Line) (found : Settled) → IsKnown known before line found → IsKnown more before line found
   is_still before line found is = record {
     at = is.at;
-    comes = comes_still before line (ap (is_closed is_open) is.comes) ∙ is.comes;
+    comes = comes_still before line (ap (is_closed is_unresolved) is.comes) ∙ is.comes;
   }
 
   -- more names leave what is known as it is
@@ -90,7 +90,7 @@ module _ (known more : Names) (grows : Grows known more) where
   refuses_still before earlier line cause (Some pending) refuses = refuses
   refuses_still before earlier line cause None refuses =
       let same = comes_still before line refuses.0 in (
-        ap (is_closed is_open) same ∙ refuses.0,
+        ap (is_closed is_unresolved) same ∙ refuses.0,
         subst (Causes cause) (ap (λ answer. answer >>= λ found. with_room earlier (record { at = place before line; outcome = found })) (sym same)) refuses.1,
       )
 

@@ -17,7 +17,7 @@ use Rattle.asm_defs.specs.Statements.{Statement}
 use Rattle.asm_defs.specs.SecondChecks.{Outcome, outcome}
 use Rattle.asm_defs.specs.Memory.{Settled}
 use Rattle.asm_defs.specs.Modules.{settle, with_room}
-use Rattle.asm_defs.specs.Growing.{size_said, held_place}
+use Rattle.asm_defs.specs.Growing.{declared_size, held_place}
 use Rattle.asm_checks.specs.Answers.{Fails}
 use Rattle.asm_checks.specs.declared.failure.Failure.{Failure}
 use Rattle.asm_checks.specs.declared.failure.Failure.TheVariants.{Refused, Memory}
@@ -49,7 +49,7 @@ module _ (known : Names) where
   pub answer_is : (before : List Line) (line : Line) (pending : Pending) → IsOf before line pending
       → answer_to known pending ≡ outcome (look_up known) (place before line) line.statement
   answer_is before line pending is =
-      ap (λ said. said >>= outcome (look_up known) pending.at) is.said
+      ap (λ parsed. parsed >>= outcome (look_up known) pending.at) is.parsed
       ∙ ap (λ (at : Location). outcome (look_up known) at line.statement) is.at
 
   pub settle_by : (before : List Line) (line : Line) (done : List Settled) (answer : Result Outcome AsmCause)
@@ -78,18 +78,18 @@ module _ (known : Names) where
     are_statements a b = a ≡ b
 
     same_said : are_statements settled_by.statement line.statement
-    same_said = let both : Ok settled_by.statement ≡ Ok line.statement = sym settled_by.said ∙ is.said in cc both
+    same_said = let both : Ok settled_by.statement ≡ Ok line.statement = sym settled_by.parsed ∙ is.parsed in cc both
 
     pub fills_place : FillsPlace (held_place (place before line) line.statement) real
     fills_place = record {
       at = is.at;
-      size = settled_by.size ∙ (ap size_said same_said ∙ sym (length-replicate (size_said line.statement) 0));
+      size = settled_by.size ∙ (ap declared_size same_said ∙ sym (length-replicate (declared_size line.statement) 0));
     }
 
     pub comes_there : outcome (look_up known) (place before line) line.statement ≡ Ok settled_by.found
     comes_there =
         sym (answer_is before line pending is)
-        ∙ (ap (λ said. said >>= outcome (look_up known) pending.at) settled_by.said ∙ settled_by.comes)
+        ∙ (ap (λ parsed. parsed >>= outcome (look_up known) pending.at) settled_by.parsed ∙ settled_by.comes)
 
     pub settle_filled : (done : List Settled)
         → settle known before done line ≡ (with_room done (held_place (place before line) line.statement) >>= λ held. Ok real)

@@ -8,8 +8,8 @@ use Rattle.asm_defs.specs.declared.causes.AsmCause.{AsmCause}
 use Rattle.asm_defs.specs.Locations.{Line}
 use Rattle.asm_defs.specs.FirstChecks.{check}
 use Rattle.source_defs.specs.Layout.{has_ended}
-use Rattle.asm_core.specs.Building.{Takes, HasTaken}
-use Rattle.asm_core.specs.Finishing.{TakesText}
+use Rattle.asm_core.specs.Building.{Takes, HasAccepted}
+use Rattle.asm_core.specs.Finishing.{AcceptsText}
 use Rattle.asm_core.specs.declared.error.AsmError.{AsmError}
 use Rattle.asm_core.specs.declared.error.AsmError.TheVariants.{At, Memory}
 use Rattle.asm_checks.specs.declared.failure.Failure.TheVariants.{Refused}
@@ -68,14 +68,14 @@ module _ (text : List ℕ) where
       (λ found next. laid_more texts (found ∷ before) (number + 1) last lines (omega (arith, e)) next going)
 
 -- a line that was taken, by the texts of the lines
-module _ (texts : List (List ℕ)) (text : List ℕ) (builder new : AsmLines) (taken : HasTaken texts builder) (going : has_ended taken.lines ≡ false) where
+module _ (texts : List (List ℕ)) (text : List ℕ) (builder new : AsmLines) (taken : HasAccepted texts builder) (going : has_ended taken.lines ≡ false) where
   abbrev count : ℕ
   count = length taken.lines + 1
 
   whole_is : laid check (numbered 1 (texts ++ text ∷ [])) ≡ last_line text taken.lines count
   whole_is = laid_more text texts [] 1 count taken.lines (omega (arith, taken.all)) taken.laid going
 
-  pub takes_text : {A : Type 0} (result : Result A AsmError) → Takes taken.lines text result new → TakesText texts text result new
+  pub takes_text : {A : Type 0} (result : Result A AsmError) → Takes taken.lines text result new → AcceptsText texts text result new
   takes_text (Ok value) takes = record {
     lines = takes.0 ∷ taken.lines;
     laid = whole_is ∙ ap (λ answer. at_line count answer >>= λ line. Ok (line ∷ taken.lines)) takes.1;

@@ -131,12 +131,12 @@ going_is lines names image waiting (Some refused) none is = cc none
 pub worked : (old ready kept new : AsmLines) (text : List ℕ) (checked : Checked) (waiting : Option Pending) (emitted : Emitted) (at : Location)
     → is_some old.refused ≡ false
     → SameLines old ready → ((founds : List Settled) → ImageOf founds old.image → ImageOf founds ready.image) → at ≡ behind ready.location checked.moved.gap
-    → AssemblesBy ready.symbols (ready.taken + 1) at text (defined_statement checked.said.statement) waiting emitted → Keeps ready waiting checked kept
+    → AssemblesBy ready.symbols (ready.taken + 1) at text (defined_statement checked.parsed.statement) waiting emitted → Keeps ready waiting checked kept
     → SameWork ready kept
     → StandsStill ready kept → SameKnown kept new → Emits kept at emitted (is_some waiting) new → Adds old text checked new
 worked old ready kept new text checked waiting emitted at none same made is_at assembles keeps work still known emits = record {
-  defs = known.names.defs ∙ (keeps.defs ∙ ap (λ (names : List (List ℕ)). names ++ defs_in (defined_statement checked.said.statement)) same.known.names.defs);
-  refs = known.names.refs ∙ (keeps.refs ∙ ap (λ (names : List (List ℕ)). names ++ refs_in (defined_statement checked.said.statement)) same.known.names.refs);
+  defs = known.names.defs ∙ (keeps.defs ∙ ap (λ (names : List (List ℕ)). names ++ defs_in (defined_statement checked.parsed.statement)) same.known.names.defs);
+  refs = known.names.refs ∙ (keeps.refs ∙ ap (λ (names : List (List ℕ)). names ++ refs_in (defined_statement checked.parsed.statement)) same.known.names.refs);
   names = known.names.symbols ∙ (keeps.names ∙ ap (λ (names : Names). names_with names checked) same.known.names.symbols);
   worked = λ lines line next works.
       let going = going_is lines old.symbols old.image old.waiting.items old.refused none works in
@@ -145,8 +145,8 @@ worked old ready kept new text checked waiting emitted at none same made is_at a
       rw (same.known.names.symbols, ap (λ (waiting : Vec Pending Global). waiting.items) same.waiting) going_on in
       emits_worked ready.symbols new.symbols (subst (Grows ready.symbols) (sym known.names.symbols) keeps.grows) lines line ready.image ready.waiting.items
       begun
-      kept new at text (is_at ∙ (ap (λ (from : Location). behind from checked.moved.gap) same.known.still.location ∙ next.at)) next.said
+      kept new at text (is_at ∙ (ap (λ (from : Location). behind from checked.moved.gap) same.known.still.location ∙ next.at)) next.parsed
       (ap (λ taken. taken + 1) (still.taken ∙ same.known.still.taken) ∙ next.number) work.image (work.refused ∙ (same.refused ∙ none_is old.refused none))
-      (defined_statement checked.said.statement) next.statement (ready.taken + 1) (ap (λ taken. taken + 1) same.known.still.taken ∙ next.number)
+      (defined_statement checked.parsed.statement) next.statement (ready.taken + 1) (ap (λ taken. taken + 1) same.known.still.taken ∙ next.number)
       waiting emitted assembles keeps.waits emits;
 }

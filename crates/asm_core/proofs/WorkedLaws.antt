@@ -11,12 +11,12 @@ use Rattle.asm_defs.specs.declared.causes.AsmCause.TheVariants.{Overflow, Overla
 use Rattle.asm_defs.specs.declared.content.Content.{Content}
 use Rattle.asm_defs.specs.declared.location.Location.{Location}
 use Rattle.asm_defs.specs.Locations.{Line, place}
-use Rattle.asm_defs.specs.Statements as said
-use Rattle.asm_defs.specs.Statements.{Statement, said_of}
+use Rattle.asm_defs.specs.Statements as parsed
+use Rattle.asm_defs.specs.Statements.{Statement, parse_line}
 use Rattle.asm_defs.specs.SecondChecks.{outcome}
 use Rattle.asm_defs.specs.Memory.{Settled, contents_by, references_of}
 use Rattle.asm_defs.specs.Modules.{settle, with_room}
-use Rattle.asm_defs.specs.Growing.{is_open, held_place}
+use Rattle.asm_defs.specs.Growing.{is_unresolved, held_place}
 use Rattle.asm_checks.specs.Answers.{Causes}
 use Rattle.asm_checks.proofs.Failures.{caused, causes_on}
 use Rattle.module_image.specs.Standing.{StandsBehind}
@@ -83,7 +83,7 @@ module _ (known more : Names) (grows : Grows known more) (lines : List Line) (li
     }
 
     -- a line that says nothing
-    pub nothing_more : (image' : Option Image) → line.statement ≡ said.Nothing
+    pub nothing_more : (image' : Option Image) → line.statement ≡ parsed.Nothing
         → (ImageOf earlier image → ImageOf (nothing_placed (place lines line) ∷ earlier) image')
         → IsGoing (line ∷ lines) more image' waiting
     nothing_more image' says made =
@@ -111,7 +111,7 @@ module _ (known more : Names) (grows : Grows known more) (lines : List Line) (li
           (subst (λ before. Refuses known before earlier line cause held) going.all refuses);
     }
 
-    module _ (old new : AsmLines) (at : Location) (text : List ℕ) (is_at : at ≡ place lines line) (is_said : said_of text ≡ Ok line.statement)
+    module _ (old new : AsmLines) (at : Location) (text : List ℕ) (is_at : at ≡ place lines line) (is_said : parse_line text ≡ Ok line.statement)
         (is_number : old.taken + 1 ≡ line.number) (is_image : old.image ≡ image) (none : old.refused ≡ None) where
       abbrev Worked : Type 0
       Worked = IsWorked (line ∷ lines) more new.image new.waiting.items new.refused
@@ -140,7 +140,7 @@ module _ (known more : Names) (grows : Grows known more) (lines : List Line) (li
         is_known : IsKnown more (onto [] going.order) line found
         is_known =
             subst (λ before. IsKnown more before line found) going.all
-            (record { at = refl; comes = comes_still known more grows lines line (ap (is_closed is_open) outcome_is) ∙ outcome_is })
+            (record { at = refl; comes = comes_still known more grows lines line (ap (is_closed is_unresolved) outcome_is) ∙ outcome_is })
 
         comes_by : (answer : Result Settled AsmCause) → with_room earlier found ≡ answer → ByRoom old earlier found false new answer → Worked
         comes_by (Ok other) room by =
@@ -152,7 +152,7 @@ module _ (known more : Names) (grows : Grows known more) (lines : List Line) (li
             by.0
         comes_by (Err cause) room by =
             by_refusal cause None (
-              ap (is_closed is_open) outcome_is,
+              ap (is_closed is_unresolved) outcome_is,
               subst (Causes cause)
                   (sym (ap (λ answer. answer >>= λ outcome. with_room earlier (record { at = place lines line; outcome = outcome })) outcome_is))
                   (room_causes earlier found cause room),
@@ -185,7 +185,7 @@ module _ (known more : Names) (grows : Grows known more) (lines : List Line) (li
         is_of = record {
           number = held.is.number ∙ is_taken;
           at = held.is.at ∙ is_at;
-          said = ap said_of held.is.text ∙ is_said;
+          parsed = ap parse_line held.is.text ∙ is_said;
         }
 
         waits_by : (answer : Result Settled AsmCause) → with_room earlier place_held ≡ answer → ByRoom old earlier place_held true new answer → Worked
@@ -228,7 +228,7 @@ module _ (known more : Names) (grows : Grows known more) (lines : List Line) (li
         pub refused_worked : Stops old cause false new → Worked
         refused_worked stop =
             by_refusal cause None (
-              ap (is_closed is_open) refused_is ∙ ap not refused.closed,
+              ap (is_closed is_unresolved) refused_is ∙ ap not refused.closed,
               causes_on cause (outcome (look_up known) at statement) (settle known lines earlier line) refused.causes
                   (λ e. ap (λ answer. answer >>= λ outcome. with_room earlier (record { at = place lines line; outcome = outcome })) refused_is),
             )

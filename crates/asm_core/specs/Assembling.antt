@@ -7,7 +7,7 @@ use Rattle.asm_defs.specs.declared.location.Location.{Location}
 use Rattle.asm_defs.specs.Statements.{Statement}
 use Rattle.asm_defs.specs.SecondChecks.{Outcome, outcome}
 use Rattle.asm_defs.specs.Memory.{contents_by, is_placed_in}
-use Rattle.asm_defs.specs.Growing.{is_open, stands, size_said, held_place}
+use Rattle.asm_defs.specs.Growing.{is_unresolved, stands, declared_size, held_place}
 use Rattle.asm_checks.specs.Answers.{Causes}
 use Rattle.asm_core.specs.Held.{has_room}
 use Rattle.asm_core.specs.declared.pending.Pending.{Pending}
@@ -18,7 +18,7 @@ use Rattle.asm_core.specs.declared.first_pass.Assembled.{Assembled}
 -- a line has room at its place
 pub record HasRoom (at : Location) (text : List ℕ) (statement : Statement) : Type 0 where
   pub room : IsTrue (has_room at text)
-  pub fits : at.number + size_said statement ≤ 65536
+  pub fits : at.number + declared_size statement ≤ 65536
 
 -- the bytes of what a line comes to at a place; those in the part of dummy lines do not count
 pub record GivesBytes (at : Location) (outcome : Outcome) (given : List Content) : Type 0 where
@@ -47,7 +47,7 @@ pub record IsHeld (number : ℕ) (at : Location) (text : List ℕ) (statement : 
 -- or it is refused, whatever names are still to come
 pub record IsRefused (known : Names) (at : Location) (statement : Statement) (cause : AsmCause) : Type 0 where
   pub causes : Causes cause (outcome (look_up known) at statement)
-  pub closed : IsFalse (is_open cause)
+  pub closed : IsFalse (is_unresolved cause)
 
 abbrev pub AssemblesBy : Names → ℕ → Location → List ℕ → Statement → Option Pending → Emitted → Type 0
 AssemblesBy known number at text statement None (Bytes given) = ComesTo known at statement given.items

@@ -8,13 +8,13 @@ use Rattle.source_defs.specs.Growing.{is_closed}
 use Rattle.source_defs.specs.Layout.{laid, numbered, has_ended}
 use Rattle.object_defs.specs.Modules.{Reference}
 use Rattle.asm_defs.specs.declared.causes.AsmCause.{AsmCause}
-use Rattle.asm_defs.specs.Statements.{said_of}
+use Rattle.asm_defs.specs.Statements.{parse_line}
 use Rattle.asm_defs.specs.Locations.{Line, location, place, reached}
 use Rattle.asm_defs.specs.FirstChecks.{names, defs, refs, check}
 use Rattle.asm_defs.specs.SecondChecks.{outcome}
 use Rattle.asm_defs.specs.Memory.{Settled}
 use Rattle.asm_defs.specs.Modules.{title, settle, with_room}
-use Rattle.asm_defs.specs.Growing.{is_open, held_place}
+use Rattle.asm_defs.specs.Growing.{is_unresolved, held_place}
 use Rattle.asm_checks.specs.Answers.{Causes}
 use Rattle.asm_checks.specs.declared.failure.Failure.{Failure}
 use Rattle.asm_checks.specs.declared.failure.Failure.TheVariants as failure
@@ -31,7 +31,7 @@ use Rattle.asm_core.specs.declared.pending.Refused.{Refused}
 pub record IsOf (before : List Line) (line : Line) (pending : Pending) : Type 0 where
   pub number : pending.number ≡ line.number
   pub at : pending.at ≡ place before line
-  pub said : said_of pending.text.items ≡ Ok line.statement
+  pub parsed : parse_line pending.text.items ≡ Ok line.statement
 
 -- a line comes to something by the names that are known
 pub record IsKnown (known : Names) (before : List Line) (line : Line) (found : Settled) : Type 0 where
@@ -72,7 +72,7 @@ pub record IsGoing (lines : List Line) (names : Names) (placed : Option Image) (
 -- the second checks refuse a line behind others, whatever names are still to come
 abbrev pub Refuses : Names → List Line → List Settled → Line → AsmCause → Option Pending → Type 0
 Refuses known before earlier line cause None =
-    IsTrue (is_closed is_open (outcome (look_up known) (place before line) line.statement))
+    IsTrue (is_closed is_unresolved (outcome (look_up known) (place before line) line.statement))
     × Causes cause (settle known before earlier line)
 Refuses known before earlier line cause (Some pending) =
     IsOf before line pending × Causes cause (with_room earlier (held_place (place before line) line.statement))
@@ -123,7 +123,7 @@ Takes lines text (Err (error.At number cause)) builder =
 Takes lines text (Err error.Memory) builder = IsBehind lines builder
 
 -- The meaning of a builder: the texts of the lines that it has taken.
-pub record HasTaken (texts : List (List ℕ)) (builder : AsmLines) : Type 0 where
+pub record HasAccepted (texts : List (List ℕ)) (builder : AsmLines) : Type 0 where
   pub lines : List Line
   pub laid : laid check (numbered 1 texts) ≡ Ok lines
   pub all : length lines ≡ length texts

@@ -17,7 +17,7 @@ use Rattle.asm_defs.specs.Memory.{Settled}
 use Rattle.asm_defs.specs.Modules.{settle, title}
 use Rattle.asm_defs.specs.FirstChecks.{check, names, defs}
 use Rattle.module_image.specs.Standing.{SamePlaces}
-use Rattle.asm_core.specs.Building.{HasTaken}
+use Rattle.asm_core.specs.Building.{HasAccepted}
 use Rattle.asm_core.specs.declared.lines.AsmLines.{AsmLines}
 use Rattle.asm_core.specs.declared.error.AsmError.{AsmError}
 use Rattle.asm_core.specs.declared.error.AsmError.TheVariants.{At, Memory}
@@ -73,7 +73,7 @@ GivesModule (Ok found) defined = defined ≡ Ok (defined_module found)
 GivesModule (Err error) defined = RefusesAt error defined
 
 -- a line was taken behind others, or the first checks refuse it there
-abbrev pub TakesText : {A : Type 0} → List (List ℕ) → List ℕ → Result A AsmError → AsmLines → Type 0
-TakesText texts text (Ok _) builder = HasTaken (texts ++ text ∷ []) builder
-TakesText texts text (Err error) builder =
-    RefusesAt error (laid check (numbered 1 (texts ++ text ∷ []))) × HasTaken texts builder
+abbrev pub AcceptsText : {A : Type 0} → List (List ℕ) → List ℕ → Result A AsmError → AsmLines → Type 0
+AcceptsText texts text (Ok _) builder = HasAccepted (texts ++ text ∷ []) builder
+AcceptsText texts text (Err error) builder =
+    RefusesAt error (laid check (numbered 1 (texts ++ text ∷ []))) × HasAccepted texts builder

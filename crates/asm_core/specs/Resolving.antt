@@ -7,11 +7,11 @@ use Rattle.object_defs.specs.Modules.{Reference}
 use Rattle.object_tags.specs.Seen.{defined_ref}
 use Rattle.asm_defs.specs.declared.causes.AsmCause.{AsmCause}
 use Rattle.asm_defs.specs.declared.location.Location.{Location}
-use Rattle.asm_defs.specs.Statements.{Statement, said_of}
+use Rattle.asm_defs.specs.Statements.{Statement, parse_line}
 use Rattle.asm_defs.specs.SecondChecks.{Outcome, outcome}
 use Rattle.asm_defs.specs.Memory.{Settled, bytes_in, references_of}
 use Rattle.asm_defs.specs.Modules.{entry}
-use Rattle.asm_defs.specs.Growing.{size_said}
+use Rattle.asm_defs.specs.Growing.{declared_size}
 use Rattle.asm_checks.specs.Answers.{Fails}
 use Rattle.asm_checks.specs.declared.failure.Failure.{Failure}
 use Rattle.module_image.specs.Images.{IsImage}
@@ -47,15 +47,15 @@ Fills unused at found old new =
 pub record IsResolved (unused : List Reference) (known : Names) (pending : Pending) (old new : Output) : Type 0 where
   pub statement : Statement
   pub found : Outcome
-  pub said : said_of pending.text.items ≡ Ok statement
+  pub parsed : parse_line pending.text.items ≡ Ok statement
   pub comes : outcome (look_up known) pending.at statement ≡ Ok found
-  pub size : bytes_in found ≡ size_said statement
+  pub size : bytes_in found ≡ declared_size statement
   pub fills : Fills unused pending.at found old new
 
 -- or why it is refused
 abbrev pub answer_to : Names → Pending → Result Outcome AsmCause
 answer_to known pending = do
-  statement ← said_of pending.text.items
+  statement ← parse_line pending.text.items
   outcome (look_up known) pending.at statement
 
 abbrev pub Resolves : {A : Type 0} → List Reference → Names → Pending → Result A Failure → Output → Output → Type 0

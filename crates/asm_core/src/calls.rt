@@ -6,8 +6,8 @@ ghost use Rattle.source_defs.specs.Layout.{has_ended};
 ghost use Rattle.asm_defs.specs.Locations.{location};
 ghost use Rattle.asm_defs.specs.FirstChecks.{names};
 ghost use Rattle.asm_defs.specs.Modules.{module_of_lines, module_of_source, title};
-ghost use Rattle.asm_core.specs.Building.{HasTaken, IsOpen, CanCount};
-ghost use Rattle.asm_core.specs.Finishing.{TakesText, GivesModule};
+ghost use Rattle.asm_core.specs.Building.{HasAccepted, IsOpen, CanCount};
+ghost use Rattle.asm_core.specs.Finishing.{AcceptsText, GivesModule};
 ghost use Rattle.source_defs.specs.EndedLines.{IsOneLine, text_of};
 
 use crate::error::AsmError;
@@ -21,7 +21,7 @@ use std::alloc::Global;
 impl AsmLines {
     /// A builder that has taken no line. It takes no memory.
     pub fn new(alloc: Global) -> AsmLines
-        ensures none { HasTaken [] result }
+        ensures none { HasAccepted [] result }
         ensures open { IsOpen result }
         ensures count { CanCount result }
     {
@@ -53,7 +53,7 @@ impl AsmLines {
     pub fn line(&mut self, line: &[u8]) -> Result<(), AsmError>
         requires open { IsOpen self.old }
         requires count { CanCount self.old }
-        ensures { (texts : List (List ℕ)) → HasTaken texts self.old → TakesText texts line.now result self.new }
+        ensures { (texts : List (List ℕ)) → HasAccepted texts self.old → AcceptsText texts line.now result self.new }
     {
         self.take(line)
     }
@@ -61,14 +61,14 @@ impl AsmLines {
     /// Whether a line that ends the source was taken.
     pub fn is_ended(&self) -> bool
         ensures open { IsFalse result ↔ IsOpen self.now }
-        ensures ended { (texts : List (List ℕ)) → (taken : HasTaken texts self.now) → result ≡ has_ended taken.lines }
+        ensures ended { (texts : List (List ℕ)) → (taken : HasAccepted texts self.now) → result ≡ has_ended taken.lines }
     {
         self.ended
     }
 
     /// How many lines were taken. One more can be taken while they are fewer than 2^32 - 1.
     pub fn taken(&self) -> u32
-        ensures taken { (texts : List (List ℕ)) → HasTaken texts self.now → result ≡ length texts }
+        ensures taken { (texts : List (List ℕ)) → HasAccepted texts self.now → result ≡ length texts }
         ensures count { (result < 2 ^ 32 - 1) ↔ CanCount self.now }
     {
         self.taken
@@ -76,7 +76,7 @@ impl AsmLines {
 
     /// The location at which the next line is placed.
     pub fn location(&self) -> Location
-        ensures place { (texts : List (List ℕ)) → (taken : HasTaken texts self.now) → result ≡ location taken.lines }
+        ensures place { (texts : List (List ℕ)) → (taken : HasAccepted texts self.now) → result ≡ location taken.lines }
         ensures within { result.number ≤ 65536 }
     {
         self.location
@@ -84,9 +84,9 @@ impl AsmLines {
 
     /// The module of the lines that were taken, as [`AsmLines::finish`] gives it, and what their names stand for.
     pub fn finish_with_names(mut self) -> Finished
-        ensures module { (texts : List (List ℕ)) → HasTaken texts self →
+        ensures module { (texts : List (List ℕ)) → HasAccepted texts self →
             GivesModule result.module (module_of_lines texts) }
-        ensures names { (texts : List (List ℕ)) → (taken : HasTaken texts self) →
+        ensures names { (texts : List (List ℕ)) → (taken : HasAccepted texts self) →
             result.names ≡ names taken.lines }
     {
         let module = self.module();
@@ -104,8 +104,8 @@ impl AsmLines {
     /// want of memory. After an error the lines are given up.
     #[tactic(auto, using(crate::proofs::EndedLines::lines_make_texts))]
     pub fn finish(mut self) -> Result<Module, AsmError>
-        ensures lines { (texts : List (List ℕ)) → HasTaken texts self → GivesModule result (module_of_lines texts) }
-        ensures text { (texts : List (List ℕ)) → HasTaken texts self → AllByRecursion IsOneLine texts →
+        ensures lines { (texts : List (List ℕ)) → HasAccepted texts self → GivesModule result (module_of_lines texts) }
+        ensures text { (texts : List (List ℕ)) → HasAccepted texts self → AllByRecursion IsOneLine texts →
             GivesModule result (module_of_source (text_of texts)) }
     {
         self.module()

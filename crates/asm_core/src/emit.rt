@@ -5,7 +5,7 @@ ghost use Rattle.asm_defs.specs.Locations as places;
 ghost use Rattle.asm_defs.specs.Memory.{Settled};
 ghost use Rattle.asm_checks.specs.Defined.{defined_statement};
 ghost use Rattle.asm_checks.specs.Moves.{MovesWithin};
-ghost use Rattle.asm_checks.specs.Checks.{IsSaid};
+ghost use Rattle.asm_checks.specs.Checks.{IsParsed};
 ghost use Rattle.asm_core.specs.Assembling.{Assembles, HasRoom, EmittedFits};
 ghost use Rattle.asm_core.specs.Building.{ImageOf};
 ghost use Rattle.asm_core.specs.Emitting.{SameKnown, SameLines, AreContents, Places, Stops, Emits};
@@ -39,13 +39,13 @@ impl AsmLines {
         checked: &Checked<'_>,
     ) -> Result<Assembled, AllocError>
         requires taken { self.now.taken < 2 ^ 32 - 1 }
-        requires line { IsSaid checked.now.said }
+        requires line { IsParsed checked.now.parsed }
         requires within { MovesWithin checked.now.moved }
         requires room { HasRoom (places.behind self.now.location checked.now.moved.gap) text.now
-            (defined_statement checked.now.said.statement) }
+            (defined_statement checked.now.parsed.statement) }
         ensures { IfOk result (Assembles self.now.symbols (self.now.taken + 1)
             (places.behind self.now.location checked.now.moved.gap)
-            text.now (defined_statement checked.now.said.statement)) }
+            text.now (defined_statement checked.now.parsed.statement)) }
     {
         let first_pass = FirstPass {
             alloc: self.alloc,
@@ -53,7 +53,7 @@ impl AsmLines {
             number: self.taken + 1,
             at: behind(self.location, checked.moved.gap),
         };
-        first_pass.assemble_line(text, &checked.said)
+        first_pass.assemble_line(text, &checked.parsed)
     }
 
     /// Emits the next line: places its bytes, or notes why it is refused.

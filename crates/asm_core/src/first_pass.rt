@@ -2,17 +2,17 @@
 
 ghost use Rattle.std.specs.Prelude.{◌≡◌, ◌≤◌, ◌+◌, IfOk, not, IsTrue};
 ghost use Rattle.asm_defs.specs.Memory as memory;
-ghost use Rattle.asm_defs.specs.Growing.{size_said, held_place};
+ghost use Rattle.asm_defs.specs.Growing.{declared_size, held_place};
 ghost use Rattle.asm_checks.specs.Defined.{defined_statement};
 ghost use Rattle.asm_checks.specs.Moves.{MovesLittle};
 ghost use Rattle.asm_checks.specs.Outcomes.{defined_outcome};
-ghost use Rattle.asm_checks.specs.Checks.{IsSaid};
+ghost use Rattle.asm_checks.specs.Checks.{IsParsed};
 ghost use Rattle.asm_core.specs.Held.{has_room};
 ghost use Rattle.asm_core.specs.Assembling.{Assembles, HasRoom, GivesBytes, IsPending};
 
 use crate::contents::contents;
 use crate::pending::Pending;
-use asm_checks::{Failure, Outcome, Said, Scope, is_open, size_said};
+use asm_checks::{Failure, Outcome, ParsedLine, Scope, declared_size, is_unresolved};
 use asm_defs::{AsmCause, Content, Location, Part};
 use asm_text::Symbols;
 use std::alloc::{AllocError, Global};
@@ -49,20 +49,20 @@ impl FirstPass<'_> {
     pub(crate) fn assemble_line(
         &self,
         text: &[u8],
-        said: &Said<'_>,
+        parsed: &ParsedLine<'_>,
     ) -> Result<Assembled, AllocError>
-        requires line { IsSaid said.now }
-        requires room { HasRoom self.now.at text.now (defined_statement said.now.statement) }
+        requires line { IsParsed parsed.now }
+        requires room { HasRoom self.now.at text.now (defined_statement parsed.now.statement) }
         ensures { IfOk result
             (Assembles self.now.symbols.now self.now.number self.now.at text.now
-            (defined_statement said.now.statement)) }
+            (defined_statement parsed.now.statement)) }
     {
         let scope = Scope {
             alloc: self.alloc,
             symbols: self.symbols,
             at: self.at,
         };
-        match scope.outcome(&said.statement) {
+        match scope.outcome(&parsed.statement) {
             Ok(outcome) => {
                 if outcome.stands() {
                     let bytes = self.bytes_of(&outcome)?;
@@ -73,7 +73,7 @@ impl FirstPass<'_> {
                 }
             }
             Err(Failure::Refused(cause)) => {
-                if !is_open(cause) {
+                if !is_unresolved(cause) {
                     return Ok(Assembled {
                         waiting: None,
                         emitted: Emitted::Refused(cause),
@@ -82,7 +82,7 @@ impl FirstPass<'_> {
             }
             Err(Failure::Memory) => return Err(AllocError),
         }
-        let zeros = self.zeros(said)?;
+        let zeros = self.zeros(parsed)?;
         let waiting = self.pending(text)?;
         Ok(Assembled {
             waiting: Some(waiting),
@@ -103,13 +103,13 @@ impl FirstPass<'_> {
     }
 
     /// Zeros that hold the places of a line.
-    fn zeros(&self, said: &Said<'_>) -> Result<Vec<Content>, AllocError>
-        requires little { MovesLittle said.now.statement }
-        requires fits { self.now.at.number + size_said (defined_statement said.now.statement) ≤ 65536 }
+    fn zeros(&self, parsed: &ParsedLine<'_>) -> Result<Vec<Content>, AllocError>
+        requires little { MovesLittle parsed.now.statement }
+        requires fits { self.now.at.number + declared_size (defined_statement parsed.now.statement) ≤ 65536 }
         ensures { IfOk result (λ zeros. GivesBytes self.now.at
-            (held_place self.now.at (defined_statement said.now.statement)).outcome zeros.items) }
+            (held_place self.now.at (defined_statement parsed.now.statement)).outcome zeros.items) }
     {
-        vec![in self.alloc; Content::Byte(0); size_said(&said.statement) as usize]
+        vec![in self.alloc; Content::Byte(0); declared_size(&parsed.statement) as usize]
     }
 
     /// The bytes of what a line comes to. There are none in the part of dummy lines.

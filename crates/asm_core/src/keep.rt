@@ -4,7 +4,7 @@ ghost use Rattle.std.specs.Prelude.{◌≡◌, ◌++◌, OnOk, OnErr, IfErr, opt
 ghost use Rattle.source_defs.specs.Growing.{Grows};
 ghost use Rattle.asm_defs.specs.FirstChecks.{any_known, label_in, defs_in, refs_in};
 ghost use Rattle.asm_checks.specs.Defined.{defined_statement};
-ghost use Rattle.asm_checks.specs.Checks.{defined_before, KnowsPlaces, ListsNames};
+ghost use Rattle.asm_checks.specs.Checks.{defined_earlier_lines, KnowsPlaces, ListsNames};
 ghost use Rattle.asm_core.specs.Keeping.{known_in, names_with, KnowsLabel, Keeps, IsUnchanged, StartsAs, SameLists};
 ghost use Rattle.asm_core.specs.Keeping.{SameNames};
 ghost use Rattle.asm_core.specs.Keeping.{SameWork, StandsStill};
@@ -12,16 +12,16 @@ ghost use Rattle.asm_core.specs.Keeping.{SameWork, StandsStill};
 use crate::define::define_line;
 use crate::lines::AsmLines;
 use crate::pending::Pending;
-use asm_checks::{Before, Checked, Failure, Statement};
+use asm_checks::{Checked, EarlierLines, Failure, Statement};
 use std::alloc::AllocError;
 
 impl AsmLines {
     /// What is known of the lines that were taken.
-    pub(crate) fn known(&self) -> Before<'_>
-        ensures known { defined_before result ≡ known_in self.now }
+    pub(crate) fn known(&self) -> EarlierLines<'_>
+        ensures known { defined_earlier_lines result ≡ known_in self.now }
         ensures places { KnowsPlaces result }
     {
-        Before {
+        EarlierLines {
             alloc: self.alloc,
             symbols: &self.symbols,
             location: self.location,
@@ -39,10 +39,10 @@ impl AsmLines {
         waiting: Option<Pending>,
         checked: &Checked<'_>,
     ) -> Result<(), Failure>
-        requires { ListsNames checked.now.said }
+        requires { ListsNames checked.now.parsed }
         ensures kept { OnOk result (Keeps self.old waiting checked.now self.new) }
-        ensures fresh { OnOk result (IsFalse (any_known self.old.symbols (label_in checked.now.said.label))) }
-        ensures known { IfErr result (KnowsLabel self.old.symbols checked.now.said.label) }
+        ensures fresh { OnOk result (IsFalse (any_known self.old.symbols (label_in checked.now.parsed.label))) }
+        ensures known { IfErr result (KnowsLabel self.old.symbols checked.now.parsed.label) }
         ensures unchanged { OnErr result (IsUnchanged self.old self.new) }
         ensures work { SameWork self.old self.new }
         ensures still { StandsStill self.old self.new }
@@ -61,10 +61,10 @@ impl AsmLines {
 
     /// Adds a line with its names, of which its label has to be new. After a failure no name of it is defined.
     fn add(&mut self, waiting: Option<Pending>, checked: &Checked<'_>) -> Result<(), Failure>
-        requires { ListsNames checked.now.said }
+        requires { ListsNames checked.now.parsed }
         ensures kept { OnOk result (Keeps self.old waiting checked.now self.new) }
-        ensures fresh { OnOk result (IsFalse (any_known self.old.symbols (label_in checked.now.said.label))) }
-        ensures known { IfErr result (KnowsLabel self.old.symbols checked.now.said.label) }
+        ensures fresh { OnOk result (IsFalse (any_known self.old.symbols (label_in checked.now.parsed.label))) }
+        ensures known { IfErr result (KnowsLabel self.old.symbols checked.now.parsed.label) }
         ensures names { OnErr result (self.new.symbols ≡ self.old.symbols) }
         ensures starts { OnErr result (StartsAs self.old self.new) }
         ensures work { SameWork self.old self.new }
@@ -94,23 +94,23 @@ impl AsmLines {
 
     /// Defines the label, which has to be new, and the names of REF.
     fn define_names(&mut self, checked: &Checked<'_>) -> Result<(), Failure>
-        requires { ListsNames checked.now.said }
+        requires { ListsNames checked.now.parsed }
         ensures defined { OnOk result (self.new.symbols ≡ names_with self.old.symbols checked.now) }
-        ensures fresh { OnOk result (IsFalse (any_known self.old.symbols (label_in checked.now.said.label))) }
-        ensures known { IfErr result (KnowsLabel self.old.symbols checked.now.said.label) }
+        ensures fresh { OnOk result (IsFalse (any_known self.old.symbols (label_in checked.now.parsed.label))) }
+        ensures known { IfErr result (KnowsLabel self.old.symbols checked.now.parsed.label) }
         ensures grows { OnOk result (Grows self.old.symbols self.new.symbols) }
         ensures unchanged { OnErr result (self.new.symbols ≡ self.old.symbols) }
         ensures lists { SameLists self.old self.new }
         ensures work { SameWork self.old self.new }
         ensures still { StandsStill self.old self.new }
     {
-        let refs = match checked.said.statement {
-            Statement::Ref(_) => checked.said.listed.as_slice(),
+        let refs = match checked.parsed.statement {
+            Statement::Ref(_) => checked.parsed.listed.as_slice(),
             _ => &[],
         };
         define_line(
             &mut self.symbols,
-            checked.said.label,
+            checked.parsed.label,
             checked.moved.label,
             refs,
         )
@@ -118,11 +118,11 @@ impl AsmLines {
 
     /// Lists the names of DEF and REF.
     fn list_names(&mut self, checked: &Checked<'_>) -> Result<(), AllocError>
-        requires { ListsNames checked.now.said }
+        requires { ListsNames checked.now.parsed }
         ensures defs { OnOk result
-            (self.new.defs.items ≡ self.old.defs.items ++ defs_in (defined_statement checked.now.said.statement)) }
+            (self.new.defs.items ≡ self.old.defs.items ++ defs_in (defined_statement checked.now.parsed.statement)) }
         ensures refs { OnOk result
-            (self.new.refs.items ≡ self.old.refs.items ++ refs_in (defined_statement checked.now.said.statement)) }
+            (self.new.refs.items ≡ self.old.refs.items ++ refs_in (defined_statement checked.now.parsed.statement)) }
         ensures unchanged { OnErr result
             ((self.new.defs.items ≡ self.old.defs.items) × (self.new.refs.items ≡ self.old.refs.items)) }
         ensures waiting { self.new.waiting ≡ self.old.waiting }
@@ -130,9 +130,13 @@ impl AsmLines {
         ensures work { SameWork self.old self.new }
         ensures still { StandsStill self.old self.new }
     {
-        match checked.said.statement {
-            Statement::Def(_) => self.defs.extend_from_slice(checked.said.listed.as_slice()),
-            Statement::Ref(_) => self.refs.extend_from_slice(checked.said.listed.as_slice()),
+        match checked.parsed.statement {
+            Statement::Def(_) => self
+                .defs
+                .extend_from_slice(checked.parsed.listed.as_slice()),
+            Statement::Ref(_) => self
+                .refs
+                .extend_from_slice(checked.parsed.listed.as_slice()),
             _ => Ok(()),
         }
     }

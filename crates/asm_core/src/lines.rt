@@ -13,7 +13,7 @@ use std::alloc::Global;
 /// An assembler source, line by line. What a line places is placed when it is taken; a line is kept only where a value
 /// of it is still open, and zeros hold its places.
 ///
-/// Contracts see it by the lines that it has taken (`HasTaken`).
+/// Contracts see it by the lines that it has taken (`HasAccepted`).
 #[derive(Drop)]
 pub struct AsmLines {
     pub(crate) alloc: Global,

@@ -72,7 +72,7 @@ impl Output {
             return Ok(());
         }
         let contents = contents(self.alloc, &mut self.references, at, outcome)?;
-        self.image.lay(at, contents.as_slice());
+        self.image.fill_reserved(at, contents.as_slice());
         Ok(())
     }
 

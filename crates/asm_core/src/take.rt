@@ -8,7 +8,7 @@ ghost use Rattle.asm_defs.specs.FirstChecks as spec;
 ghost use Rattle.asm_defs.proofs.CheckLaws.{IsTitled};
 ghost use Rattle.asm_checks.specs.Defined.{defined_statement};
 ghost use Rattle.asm_checks.specs.Moves.{defined_move, MovesWithin};
-ghost use Rattle.asm_checks.specs.Checks.{IsSaid, ListsNames};
+ghost use Rattle.asm_checks.specs.Checks.{IsParsed, ListsNames};
 ghost use Rattle.asm_core.specs.Assembling.{HasRoom};
 ghost use Rattle.asm_core.specs.Keeping.{KnowsLabel, IsUnchanged, SameWork, StandsStill};
 ghost use Rattle.asm_core.specs.Adding.{Adds, Counts, IsAsBefore};
@@ -61,14 +61,14 @@ impl AsmLines {
     /// the names count.
     fn work(&mut self, text: &[u8], checked: &Checked<'_>) -> Result<(), Failure>
         requires taken { self.old.taken < 2 ^ 32 - 1 }
-        requires line { IsSaid checked.now.said }
-        requires listed { ListsNames checked.now.said }
+        requires line { IsParsed checked.now.parsed }
+        requires listed { ListsNames checked.now.parsed }
         requires within { MovesWithin checked.now.moved }
         requires room { HasRoom (places.behind self.old.location checked.now.moved.gap) text.now
-            (defined_statement checked.now.said.statement) }
+            (defined_statement checked.now.parsed.statement) }
         ensures added { OnOk result (Adds self.old text.now checked.now self.new) }
-        ensures fresh { OnOk result (IsFalse (spec.any_known self.old.symbols (spec.label_in checked.now.said.label))) }
-        ensures known { IfErr result (KnowsLabel self.old.symbols checked.now.said.label) }
+        ensures fresh { OnOk result (IsFalse (spec.any_known self.old.symbols (spec.label_in checked.now.parsed.label))) }
+        ensures known { IfErr result (KnowsLabel self.old.symbols checked.now.parsed.label) }
         ensures unchanged { OnErr result (IsAsBefore self.old self.new) }
         ensures still { StandsStill self.old self.new }
     {
@@ -104,21 +104,21 @@ impl AsmLines {
         requires within { MovesWithin checked.now.moved }
         requires place { IsTrue
             (places.is_in_part (spec.location_behind self.old.location (defined_move checked.now.moved))) }
-        requires titled { IsTitled (defined_statement checked.now.said.statement) }
+        requires titled { IsTitled (defined_statement checked.now.parsed.statement) }
         ensures location { self.new.location ≡ spec.location_behind self.old.location (defined_move checked.now.moved) }
         ensures reached { self.new.reached ≡ max self.old.reached (places.relocatable self.new.location) }
-        ensures title { self.new.title ≡ title_by self.old.title (defined_statement checked.now.said.statement) }
+        ensures title { self.new.title ≡ title_by self.old.title (defined_statement checked.now.parsed.statement) }
         ensures taken { self.new.taken ≡ self.old.taken + 1 }
         ensures ended { self.new.ended
-            ≡ (spec.is_end (defined_statement checked.now.said.statement) || self.old.ended) }
+            ≡ (spec.is_end (defined_statement checked.now.parsed.statement) || self.old.ended) }
         ensures kept { IsUnchanged self.old self.new }
         ensures worked { SameWork self.old self.new }
     {
         self.location = location_behind(self.location, &checked.moved);
         self.reached = self.reached.max(relocatable(self.location));
-        self.title = title_behind(self.title, &checked.said.statement);
+        self.title = title_behind(self.title, &checked.parsed.statement);
         self.taken += 1;
-        self.ended = is_end(&checked.said.statement) || self.ended;
+        self.ended = is_end(&checked.parsed.statement) || self.ended;
     }
 }
 

@@ -15,11 +15,11 @@ use Rattle.asm_defs.specs.declared.location.Part.{Part}
 use Rattle.asm_defs.specs.declared.location.Part.TheVariants as part
 use Rattle.asm_defs.specs.declared.location.Location.{Location}
 use Rattle.asm_defs.specs.Statements.{Statement, Nothing, Instruction, Aorg, Rorg, Dorg, Bss, Bes, Even, Equ, Data, Byte, Text, Def, Ref, Idt, Titl, End}
-use Rattle.asm_defs.specs.Statements.{said_of, statement_in, as_text}
+use Rattle.asm_defs.specs.Statements.{parse_line, statement_in, as_text}
 use Rattle.asm_defs.specs.Locations.{behind, is_in_part, limit}
-use Rattle.asm_defs.specs.FirstChecks.{Before, Said, Checked, Move, any_known, label_in, is_taken, refs_in, said, moved, checked, move, as_expr}
-use Rattle.asm_defs.specs.FirstChecks.{is_too_far, lists_too_many, is_bad, is_title, location_behind, absolute_in, value, internal_number, known_here}
-use Rattle.asm_defs.specs.Growing.{size_said}
+use Rattle.asm_defs.specs.FirstChecks.{EarlierLines, ParsedLine, Checked, LocationChange, any_known, label_in, is_taken, refs_in, parsed, moved, checked, move, as_expr}
+use Rattle.asm_defs.specs.FirstChecks.{is_too_far, lists_too_many, is_bad, is_title, location_behind, absolute_in, value, non_external_number, non_external}
+use Rattle.asm_defs.specs.Growing.{declared_size}
 
 -- a value that an answer is made of
 pub bound : {A B E : Type 0} (answer : Result A E) (make : A → Result B E) (made : B) → (answer >>= make) ≡ Ok made
@@ -36,33 +36,33 @@ abbrev answers : {A : Type 0} → Result A ExprError → Result A ExprError → 
 answers a b = a ≡ b
 
 -- a line that places bytes goes on from the location, and a line that sets it places none
-abbrev Fits : Statement → Move → Type 0
-Fits statement move = ((move.origin ≡ None) × (size_said statement ≤ move.size)) ⊎ ((size_said statement ≡ 0) × (move.gap ≡ 0))
+abbrev Fits : Statement → LocationChange → Type 0
+Fits statement move = ((move.origin ≡ None) × (declared_size statement ≤ move.size)) ⊎ ((declared_size statement ≡ 0) × (move.gap ≡ 0))
 
-fits_by : {A E : Type 0} (statement : Statement) (answer : Result A E) (make : A → Result Move E) (found : Move) → (answer >>= make) ≡ Ok found
+fits_by : {A E : Type 0} (statement : Statement) (answer : Result A E) (make : A → Result LocationChange E) (found : LocationChange) → (answer >>= make) ≡ Ok found
     → ((value : A) → make value ≡ Ok found → Fits statement found) → Fits statement found
 fits_by statement (Ok value) make found e each = each value e
 fits_by statement (Err error) make found e each = cc e
 
-ok_fits : (statement : Statement) (made found : Move) → answers (Ok made) (Ok found) → Fits statement made → Fits statement found
+ok_fits : (statement : Statement) (made found : LocationChange) → answers (Ok made) (Ok found) → Fits statement made → Fits statement found
 ok_fits statement made found e fits =
     let same : made ≡ found = cc e in
     subst (Fits statement) same fits
 
 module _ (known : Names) (here : Location) (reached : ℕ) where
-  move_fits : (statement : Statement) (found : Move) → move known here reached statement ≡ Ok found → Fits statement found
+  move_fits : (statement : Statement) (found : LocationChange) → move known here reached statement ≡ Ok found → Fits statement found
   move_fits Nothing found e = ok_fits Nothing _ found e (inl (refl, omega arith))
   move_fits (Instruction size operation field) found e = ok_fits (Instruction size operation field) _ found e (inl (refl, omega arith))
   move_fits (Aorg text) found e = fits_by (Aorg text) (absolute_in known here text) _ found e (λ value f. ok_fits (Aorg text) _ found f (inr (refl, refl)))
   move_fits (Rorg None) found e = ok_fits (Rorg None) _ found e (inr (refl, refl))
   move_fits (Rorg (Some text)) found e =
-      fits_by (Rorg (Some text)) (value known here text >>= internal_number) _ found e (λ value f. ok_fits (Rorg (Some text)) _ found f (inr (refl, refl)))
+      fits_by (Rorg (Some text)) (value known here text >>= non_external_number) _ found e (λ value f. ok_fits (Rorg (Some text)) _ found f (inr (refl, refl)))
   move_fits (Dorg text) found e = fits_by (Dorg text) (absolute_in known here text) _ found e (λ value f. ok_fits (Dorg text) _ found f (inr (refl, refl)))
   move_fits (Bss text) found e = fits_by (Bss text) (absolute_in known here text) _ found e (λ value f. ok_fits (Bss text) _ found f (inl (refl, omega arith)))
   move_fits (Bes text) found e = fits_by (Bes text) (absolute_in known here text) _ found e (λ value f. ok_fits (Bes text) _ found f (inl (refl, omega arith)))
   move_fits Even found e = ok_fits Even _ found e (inl (refl, omega arith))
   move_fits (Equ text) found e =
-      fits_by (Equ text) (value known here text >>= known_here) _ found e (λ value f. ok_fits (Equ text) _ found f (inl (refl, omega arith)))
+      fits_by (Equ text) (value known here text >>= non_external) _ found e (λ value f. ok_fits (Equ text) _ found f (inl (refl, omega arith)))
   move_fits (Data texts) found e = ok_fits (Data texts) _ found e (inl (refl, omega arith))
   move_fits (Byte texts) found e = ok_fits (Byte texts) _ found e (inl (refl, omega arith))
   move_fits (Text quoted) found e = ok_fits (Text quoted) _ found e (inl (refl, omega arith))
@@ -91,7 +91,7 @@ both true true e = refl
 both true false e = cc e
 both false b e = cc e
 
-module _ (before : Before) where
+module _ (before : EarlierLines) where
   titled_by : (label : Option (List ℕ)) (statement : Statement) → is_bad before label statement ≡ false → IsTitled statement
   titled_by None (Idt text) fine = both (is_quoted text) (is_title text) fine
   titled_by (Some name) (Idt text) fine = both (is_quoted text) (is_title text) fine
@@ -113,22 +113,22 @@ module _ (before : Before) where
   titled_by label (End text) fine = tt
 
   -- what the first checks let through is what the line says
-  said_is : (text : List ℕ) (found : Said) → said before text ≡ Ok found → said_of text ≡ Ok found.statement
-  unfolding said
+  said_is : (text : List ℕ) (found : ParsedLine) → parsed before text ≡ Ok found → parse_line text ≡ Ok found.statement
+  unfolding parsed
   said_is text found e =
       let a = bound (as_text (fields text)) _ found e in
       let b = bound (unless (any_known before.names (label_in a.0.label)) DuplicateLabel a.0.label) _ found a.2 in
       let c = bound (statement_in text a.0) _ found b.2 in
       let d = let_through (is_taken before.names b.0 (refs_in c.0)) DuplicateLabel (record { label = b.0; statement = c.0 }) found c.2 in
-      let same : c.0 ≡ found.statement = ap (λ (line : Said). line.statement) d.1 in
+      let same : c.0 ≡ found.statement = ap (λ (line : ParsedLine). line.statement) d.1 in
       ap (λ answer. answer >>= statement_in text) a.1 ∙ (c.1 ∙ ap Ok same)
 
   -- a module's name is one
-  named_is : (line : Said) → is_bad before line.label line.statement ≡ false → IsTitled line.statement
+  named_is : (line : ParsedLine) → is_bad before line.label line.statement ≡ false → IsTitled line.statement
   named_is line fine = titled_by line.label line.statement fine
 
   -- and where it leads lies in its part
-  record Leads (line : Said) (found : Checked) : Type 0 where
+  record Leads (line : ParsedLine) (found : Checked) : Type 0 where
     statement : line.statement ≡ found.statement
     fits : Fits found.statement found.move
     titled : IsTitled found.statement
@@ -143,7 +143,7 @@ module _ (before : Before) where
   second_false true b e = e
   second_false false b e = cc e
 
-  moved_is : (line : Said) (found : Checked) → moved before line ≡ Ok found → Leads line found
+  moved_is : (line : ParsedLine) (found : Checked) → moved before line ≡ Ok found → Leads line found
   unfolding moved
   moved_is line found e =
       let a = bound (as_expr (move before.names before.location before.reached line.statement)) _ found e in
@@ -163,13 +163,13 @@ module _ (before : Before) where
         within = subst (λ move. is_in_part (location_behind before.location move) ≡ true) move_same stays;
       }
 
-  pub checked_said : (text : List ℕ) (found : Checked) → checked before text ≡ Ok found → said_of text ≡ Ok found.statement
+  pub checked_said : (text : List ℕ) (found : Checked) → checked before text ≡ Ok found → parse_line text ≡ Ok found.statement
   checked_said text found e =
-      let a = bound (said before text) _ found e in
+      let a = bound (parsed before text) _ found e in
       said_is text a.0 a.1 ∙ ap Ok (moved_is a.0 found a.2).statement
 
-  room_by : (location : Location) (statement : Statement) (move : Move) → is_in_part location ≡ true → Fits statement move
-      → is_in_part (location_behind location move) ≡ true → location.number + move.gap + size_said statement ≤ 65536
+  room_by : (location : Location) (statement : Statement) (move : LocationChange) → is_in_part location ≡ true → Fits statement move
+      → is_in_part (location_behind location move) ≡ true → location.number + move.gap + declared_size statement ≤ 65536
   room_by location statement move here (inl (none, le)) there =
       let behind_it : nat_le (location.number + (move.gap + move.size)) (limit location.part) ≡ true =
       subst (λ origin. is_in_part (behind (set_or origin location) (move.gap + move.size)) ≡ true) none there in
@@ -178,8 +178,8 @@ module _ (before : Before) where
       grind (arith, nat_tests, here, limit_le location.part, nothing, gap)
 
   -- a line has room at its place where what it says is let through
-  pub moved_room : (line : Said) (found : Checked) → is_in_part before.location ≡ true → moved before line ≡ Ok found
-      → before.location.number + found.move.gap + size_said found.statement ≤ 65536
+  pub moved_room : (line : ParsedLine) (found : Checked) → is_in_part before.location ≡ true → moved before line ≡ Ok found
+      → before.location.number + found.move.gap + declared_size found.statement ≤ 65536
   moved_room line found here e =
       let leads = moved_is line found e in
       room_by before.location found.statement found.move here leads.fits leads.within
@@ -187,15 +187,15 @@ module _ (before : Before) where
   pub checked_within : (text : List ℕ) (found : Checked) → checked before text ≡ Ok found
       → is_in_part (location_behind before.location found.move) ≡ true
   checked_within text found e =
-      let a = bound (said before text) _ found e in
+      let a = bound (parsed before text) _ found e in
       (moved_is a.0 found a.2).within
 
   pub checked_titled : (text : List ℕ) (found : Checked) → checked before text ≡ Ok found → IsTitled found.statement
   checked_titled text found e =
-      let a = bound (said before text) _ found e in
+      let a = bound (parsed before text) _ found e in
       (moved_is a.0 found a.2).titled
 
   pub checked_few : (text : List ℕ) (found : Checked) → checked before text ≡ Ok found → lists_too_many before found.statement ≡ false
   checked_few text found e =
-      let a = bound (said before text) _ found e in
+      let a = bound (parsed before text) _ found e in
       (moved_is a.0 found a.2).few

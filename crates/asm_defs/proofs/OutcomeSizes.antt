@@ -8,14 +8,14 @@ use Rattle.instruction_defs.specs.declared.causes.FormError.{FormError}
 use Rattle.instruction_defs.specs.FirstChecks.{Skeleton, first_checks, line_size, size_of}
 use Rattle.instruction_defs.specs.SecondChecks.{second_checks}
 use Rattle.asm_defs.specs.declared.location.Location.{Location}
-use Rattle.asm_defs.specs.Statements as said
+use Rattle.asm_defs.specs.Statements as parsed
 use Rattle.asm_defs.specs.Statements.{Statement, Instruction, Aorg, Rorg, Dorg, Bss, Bes, Even, Equ, Data, Byte, Text, Def, Ref, Idt, Titl, End, as_form}
 use Rattle.asm_defs.specs.Locations.{behind, value_of}
 use Rattle.asm_defs.specs.FirstChecks.{as_expr}
 use Rattle.asm_defs.specs.SecondChecks.{Outcome, Nothing, Words, Bytes, Entry, byte_of, bytes_of, word_in, data_values, absolute_in, byte_values, defs_known}
 use Rattle.asm_defs.specs.SecondChecks.{defined_here, entry_in, outcome}
 use Rattle.asm_defs.specs.Memory.{bytes_in}
-use Rattle.asm_defs.specs.Growing.{size_said}
+use Rattle.asm_defs.specs.Growing.{declared_size}
 use Rattle.asm_defs.proofs.Sizes.{given, is_ok, words_fill}
 
 -- an instruction has the size that the first checks find
@@ -70,7 +70,7 @@ module _ (look : List ℕ → Option Value) (at : Location) where
       given bytes_in 0 (as_expr (known_value (look name))) _ found e
       (λ value is f. given bytes_in 0 (defined_here value) _ found f (λ kept was g. defs_size names found g))
 
-  pub outcome_size : (statement : Statement) (found : Outcome) → IsSized statement → outcome look at statement ≡ Ok found → bytes_in found ≡ size_said statement
+  pub outcome_size : (statement : Statement) (found : Outcome) → IsSized statement → outcome look at statement ≡ Ok found → bytes_in found ≡ declared_size statement
   unfolding outcome
   outcome_size (Instruction size operation field) found sized e =
       given bytes_in size (as_form (first_checks operation field >>= λ skeleton. second_checks look (value_of at) skeleton)) _ found e
@@ -90,7 +90,7 @@ module _ (look : List ℕ → Option Value) (at : Location) where
   outcome_size (End (Some text)) found sized e =
       given bytes_in 0 (as_expr (entry_in look at text)) _ found e (λ entry is f. is_ok bytes_in 0 (Entry entry) found f refl)
   outcome_size (End None) found sized e = is_ok bytes_in 0 Nothing found e refl
-  outcome_size said.Nothing found sized e = is_ok bytes_in 0 Nothing found e refl
+  outcome_size parsed.Nothing found sized e = is_ok bytes_in 0 Nothing found e refl
   outcome_size (Aorg text) found sized e = is_ok bytes_in 0 Nothing found e refl
   outcome_size (Rorg text) found sized e = is_ok bytes_in 0 Nothing found e refl
   outcome_size (Dorg text) found sized e = is_ok bytes_in 0 Nothing found e refl

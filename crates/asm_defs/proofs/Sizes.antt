@@ -5,13 +5,13 @@ use Rattle.source_defs.specs.Refusals.{◌>>=◌}
 use Rattle.source_defs.specs.Expression.{Value}
 use Rattle.std.specs.Int.{w16, cast_signed}
 use Rattle.instruction_defs.specs.declared.causes.FormError.TheVariants.{BadOperand}
-use Rattle.instruction_defs.specs.declared.slot.Slot.{Slot}
-use Rattle.instruction_defs.specs.declared.slot.Slot.TheVariants.{General, Register, Count, Immediate, Target, Displacement}
+use Rattle.instruction_defs.specs.declared.operand_kind.OperandKind.{OperandKind}
+use Rattle.instruction_defs.specs.declared.operand_kind.OperandKind.TheVariants.{General, Register, Count, Immediate, Target, Displacement}
 use Rattle.instruction_defs.specs.Forms.{Form, Plain, Indirect, Increment, Symbolic, Indexed}
-use Rattle.instruction_defs.specs.Operands.{slots_of}
+use Rattle.instruction_defs.specs.Operands.{kinds_of}
 use Rattle.instruction_defs.specs.FirstChecks as first
 use Rattle.instruction_defs.specs.FirstChecks.{Skeleton, Word, Instruction, following, form_words}
-use Rattle.instruction_defs.specs.SecondChecks.{Operand, InRegister, ByRegister, AutoIncrement, AtAddress, AtIndexed, Number, Bit, To, Following, Ready, Located, Displaced}
+use Rattle.instruction_defs.specs.SecondChecks.{Operand, InRegister, ByRegister, AutoIncrement, AtAddress, AtIndexed, Number, Bit, To, Following, EncodedOperand, Located, Displaced}
 use Rattle.instruction_defs.specs.SecondChecks.{value_of, number_of, text_in, as_form_error, target_in, placed, valued, all_valued, ranged, all_ranged, below_sixteen}
 use Rattle.instruction_defs.specs.SecondChecks.{displaced, displacement_to, place_number, is_index, is_displacement, following_in, all_following, second_checks}
 
@@ -31,7 +31,7 @@ abbrev all_operand_words : List Operand → ℕ
 all_operand_words [] = 0
 all_operand_words (operand ∷ operands) = operand_words operand + all_operand_words operands
 
-abbrev ready_words : Ready → ℕ
+abbrev ready_words : EncodedOperand → ℕ
 ready_words ready = length (following_in ready)
 
 abbrev pub value_or : {B E : Type 0} → B → Result B E → B
@@ -60,7 +60,7 @@ module _ (look : List ℕ → Option Value) (here : Value) where
       given operand_words 1 (value_of look here text) _ made e
       (λ value is f. given operand_words 1 (number_of look here index) _ made f (λ register was g. is_ok operand_words 1 _ made g refl))
 
-  valued_words : (slot : Slot) (form : Form) (made : Operand) → valued look here slot form ≡ Ok made → operand_words made ≡ following slot form
+  valued_words : (kind : OperandKind) (form : Form) (made : Operand) → valued look here kind form ≡ Ok made → operand_words made ≡ following kind form
   valued_words General form made e = placed_words form made e
   valued_words Register form made e = given operand_words 0 (number_of look here (text_in form)) _ made e (λ value is f. is_ok operand_words 0 _ made f refl)
   valued_words Count form made e = given operand_words 0 (number_of look here (text_in form)) _ made e (λ value is f. is_ok operand_words 0 _ made f refl)
@@ -70,33 +70,33 @@ module _ (look : List ℕ → Option Value) (here : Value) where
       given operand_words 0 (value_of look here (text_in form)) _ made e
       (λ value is f. given operand_words 0 (as_form_error (target_in here value)) _ made f (λ target was g. is_ok operand_words 0 _ made g refl))
 
-  all_valued_words : (slots : List Slot) (forms : List Form) (made : List Operand) → all_valued look here slots forms ≡ Ok made
-      → all_operand_words made ≡ first.all_following slots forms
+  all_valued_words : (kinds : List OperandKind) (forms : List Form) (made : List Operand) → all_valued look here kinds forms ≡ Ok made
+      → all_operand_words made ≡ first.all_following kinds forms
   all_valued_words [] forms made e = is_ok all_operand_words 0 _ made e refl
-  all_valued_words (slot ∷ slots) [] made e = is_ok all_operand_words 0 _ made e refl
-  all_valued_words (slot ∷ slots) (form ∷ forms) made e =
-      given all_operand_words (following slot form + first.all_following slots forms) (valued look here slot form) _ made e
+  all_valued_words (kind ∷ kinds) [] made e = is_ok all_operand_words 0 _ made e refl
+  all_valued_words (kind ∷ kinds) (form ∷ forms) made e =
+      given all_operand_words (following kind form + first.all_following kinds forms) (valued look here kind form) _ made e
       (λ operand is f.
-      given all_operand_words (following slot form + first.all_following slots forms) (all_valued look here slots forms) _ made f
+      given all_operand_words (following kind form + first.all_following kinds forms) (all_valued look here kinds forms) _ made f
       (λ operands are g.
-      is_ok all_operand_words (following slot form + first.all_following slots forms) (operand ∷ operands) made g
-      (omega (arith, valued_words slot form operand is, all_valued_words slots forms operands are))))
+      is_ok all_operand_words (following kind form + first.all_following kinds forms) (operand ∷ operands) made g
+      (omega (arith, valued_words kind form operand is, all_valued_words kinds forms operands are))))
 
-  displaced_words : (disp : Option _) (made : Ready) → displaced disp ≡ Ok made → ready_words made ≡ 0
+  displaced_words : (disp : Option _) (made : EncodedOperand) → displaced disp ≡ Ok made → ready_words made ≡ 0
   displaced_words (Some disp) made e = is_ok ready_words 0 _ made e refl
   displaced_words None made e = cc e
 
-  indexed_words : (b : Bool) (value : Value) (number : ℕ) (made : Ready)
+  indexed_words : (b : Bool) (value : Value) (number : ℕ) (made : EncodedOperand)
       → (if b then Ok (Located (record { mode = 2; reg = number }) (Some value)) else Err BadOperand) ≡ Ok made → ready_words made ≡ 1
   indexed_words true value number made e = is_ok ready_words 1 _ made e refl
   indexed_words false value number made e = cc e
 
-  bit_words : (b : Bool) (number : ℕ) (made : Ready)
+  bit_words : (b : Bool) (number : ℕ) (made : EncodedOperand)
       → (if b then Ok (Displaced (cast_signed w16 number)) else Err BadOperand) ≡ Ok made → ready_words made ≡ 0
   bit_words true number made e = is_ok ready_words 0 _ made e refl
   bit_words false number made e = cc e
 
-  ranged_words : (operand : Operand) (made : Ready) → ranged here operand ≡ Ok made → ready_words made ≡ operand_words operand
+  ranged_words : (operand : Operand) (made : EncodedOperand) → ranged here operand ≡ Ok made → ready_words made ≡ operand_words operand
   ranged_words (InRegister number) made e = given ready_words 0 (below_sixteen number) _ made e (λ value is f. is_ok ready_words 0 _ made f refl)
   ranged_words (ByRegister number) made e = given ready_words 0 (below_sixteen number) _ made e (λ value is f. is_ok ready_words 0 _ made f refl)
   ranged_words (AutoIncrement number) made e = given ready_words 0 (below_sixteen number) _ made e (λ value is f. is_ok ready_words 0 _ made f refl)
@@ -107,10 +107,10 @@ module _ (look : List ℕ → Option Value) (here : Value) where
   ranged_words (To target) made e = displaced_words (displacement_to (place_number here + 2) target) made e
   ranged_words (Following value) made e = is_ok ready_words 1 _ made e refl
 
-  abbrev all_ready_words : List Ready → ℕ
+  abbrev all_ready_words : List EncodedOperand → ℕ
   all_ready_words readies = length (all_following readies)
 
-  all_ranged_words : (operands : List Operand) (made : List Ready) → all_ranged here operands ≡ Ok made → all_ready_words made ≡ all_operand_words operands
+  all_ranged_words : (operands : List Operand) (made : List EncodedOperand) → all_ranged here operands ≡ Ok made → all_ready_words made ≡ all_operand_words operands
   all_ranged_words [] made e = is_ok all_ready_words 0 _ made e refl
   all_ranged_words (operand ∷ operands) made e =
       given all_ready_words (operand_words operand + all_operand_words operands) (ranged here operand) _ made e
@@ -128,9 +128,9 @@ module _ (look : List ℕ → Option Value) (here : Value) where
   unfolding second_checks
   words_fill (Word word) words e = is_ok bytes_of 2 _ words e refl
   words_fill (Instruction operation forms) words e =
-      given bytes_of (first.size_of (Instruction operation forms)) (all_valued look here (slots_of operation) forms) _ words e
+      given bytes_of (first.size_of (Instruction operation forms)) (all_valued look here (kinds_of operation) forms) _ words e
       (λ operands are f.
       given bytes_of (first.size_of (Instruction operation forms)) (all_ranged here operands) _ words f
       (λ readies stand g.
       is_ok bytes_of (first.size_of (Instruction operation forms)) _ words g
-      (omega (arith, all_valued_words (slots_of operation) forms operands are, all_ranged_words operands readies stand))))
+      (omega (arith, all_valued_words (kinds_of operation) forms operands are, all_ranged_words operands readies stand))))

@@ -79,42 +79,42 @@ is_taken known label names = any_known known names || repeats (label_in label) n
 
 -- what a line does to the location: the location that it sets, the bytes that it leaves free, its size, and what its
 -- label stands for
-pub record Move : Type 0 where
+pub record LocationChange : Type 0 where
   pub origin : Option Location
   pub gap : ℕ
   pub size : ℕ
   pub label : Value
 
-abbrev pub stays_at : Location → ℕ → Move
+abbrev pub stays_at : Location → ℕ → LocationChange
 stays_at here size = record { origin = None; gap = 0; size = size; label = value_of here }
 
 -- Editor/Assembler manual, "Word Boundary": an instruction and DATA stand at an even place, and so does their label.
-abbrev pub stays_even : Location → ℕ → Move
+abbrev pub stays_even : Location → ℕ → LocationChange
 stays_even here size =
     record { origin = None; gap = to_even here; size = size; label = value_of (behind here (to_even here)) }
 
 -- Editor/Assembler manual, "Absolute Origin", "Relocatable Origin", "Dummy Origin": the label is the new location.
-abbrev pub set_to : Location → Move
+abbrev pub set_to : Location → LocationChange
 set_to location = record { origin = Some location; gap = 0; size = 0; label = value_of location }
 
 -- Editor/Assembler manual, "Block Ending with Symbol": the label is the location behind the block.
-abbrev pub ends_block : Location → ℕ → Move
+abbrev pub ends_block : Location → ℕ → LocationChange
 ends_block here size = record { origin = None; gap = 0; size = size; label = value_of (behind here size) }
 
-abbrev pub equals : Value → Move
+abbrev pub equals : Value → LocationChange
 equals value = record { origin = None; gap = 0; size = 0; label = value }
 
 -- Profile: RORG takes the number of an absolute or a relocatable value.
-abbrev pub internal_number : Value → Result ℕ ExprError
-internal_number (Absolute number) = Ok number
-internal_number (Relocatable number) = Ok number
-internal_number (External name) = Err BadRelocation
+abbrev pub non_external_number : Value → Result ℕ ExprError
+non_external_number (Absolute number) = Ok number
+non_external_number (Relocatable number) = Ok number
+non_external_number (External name) = Err BadRelocation
 
 -- Profile: EQU takes no external value.
-abbrev pub known_here : Value → Result Value ExprError
-known_here (Absolute number) = Ok (Absolute number)
-known_here (Relocatable number) = Ok (Relocatable number)
-known_here (External name) = Err BadRelocation
+abbrev pub non_external : Value → Result Value ExprError
+non_external (Absolute number) = Ok (Absolute number)
+non_external (Relocatable number) = Ok (Relocatable number)
+non_external (External name) = Err BadRelocation
 
 -- by the names of the lines before and the line's location
 module _ (known : Names) (here : Location) where
@@ -126,19 +126,19 @@ module _ (known : Names) (here : Location) where
 
   -- What a line does to the location, by the highest relocatable location reached so far. Editor/Assembler manual,
   -- "Assembler Directives".
-  abbrev pub move : ℕ → Statement → Result Move ExprError
+  abbrev pub move : ℕ → Statement → Result LocationChange ExprError
   move reached Nothing = Ok (stays_at here 0)
   move reached (Instruction size operation field) = Ok (stays_even here size)
   move reached (Aorg text) =
       absolute_in text >>= λ number. Ok (set_to (record { part = part.Absolute; number = number }))
   move reached (Rorg None) = Ok (set_to (record { part = part.Relocatable; number = reached }))
   move reached (Rorg (Some text)) =
-      value text >>= internal_number >>= λ number. Ok (set_to (record { part = part.Relocatable; number = number }))
+      value text >>= non_external_number >>= λ number. Ok (set_to (record { part = part.Relocatable; number = number }))
   move reached (Dorg text) = absolute_in text >>= λ number. Ok (set_to (record { part = part.Dummy; number = number }))
   move reached (Bss text) = absolute_in text >>= λ size. Ok (stays_at here size)
   move reached (Bes text) = absolute_in text >>= λ size. Ok (ends_block here size)
   move reached Even = Ok (stays_even here 0)
-  move reached (Equ text) = value text >>= known_here >>= λ value. Ok (equals value)
+  move reached (Equ text) = value text >>= non_external >>= λ value. Ok (equals value)
   move reached (Data texts) = Ok (stays_even here (2 * length texts))
   move reached (Byte texts) = Ok (stays_at here (length texts))
   move reached (Text quoted) = Ok (stays_at here (length (characters quoted)))
@@ -162,14 +162,14 @@ abbrev pub external_entries : List (List ℕ) → List (List ℕ × Value)
 external_entries names = map (λ name. (name, External name)) names
 
 -- what is known of the lines before a line
-pub record Before : Type 0 where
+pub record EarlierLines : Type 0 where
   pub names : Names
   pub location : Location
   pub reached : ℕ
   pub defs : List (List ℕ)
   pub refs : List (List ℕ)
 
-abbrev pub known_of : List Line → Before
+abbrev pub known_of : List Line → EarlierLines
 known_of before =
     record {
       names = names before;
@@ -180,20 +180,20 @@ known_of before =
     }
 
 -- the location behind a line
-abbrev pub location_behind : Location → Move → Location
+abbrev pub location_behind : Location → LocationChange → Location
 location_behind here move = behind (set_or move.origin here) (move.gap + move.size)
 
 abbrev pub has_too_many : List (List ℕ) → List (List ℕ) → Bool
 has_too_many before names = not (nat_le (length before + length names) most_names)
 
 -- Profile: the 257th name of DEF, or the 257th name of REF, is too much.
-abbrev pub lists_too_many : Before → Statement → Bool
+abbrev pub lists_too_many : EarlierLines → Statement → Bool
 lists_too_many before (Def names) = has_too_many before.defs names
 lists_too_many before (Ref names) = has_too_many before.refs names
 lists_too_many before _ = false
 
 -- Profile: a location past the end of its part is refused.
-abbrev pub is_too_far : Before → Statement → Move → Bool
+abbrev pub is_too_far : EarlierLines → Statement → LocationChange → Bool
 is_too_far before statement move =
     not (is_in_part (location_behind before.location move)) || lists_too_many before statement
 
@@ -207,7 +207,7 @@ is_title text = is_module_name (title_in text)
 
 -- Profile: a directive that cannot stand as it is: EQU without a label, IDT or TITL without a quoted text, a name of a
 -- module that is none, and a name that DEF has already.
-abbrev pub is_bad : Before → Option (List ℕ) → Statement → Bool
+abbrev pub is_bad : EarlierLines → Option (List ℕ) → Statement → Bool
 is_bad before None (Equ text) = true
 is_bad before label (Idt text) = not (is_quoted text && is_title text)
 is_bad before label (Titl text) = not (is_quoted text)
@@ -215,7 +215,7 @@ is_bad before label (Def names) = repeats before.defs names
 is_bad before label _ = false
 
 -- a label with what its line says
-pub record Said : Type 0 where
+pub record ParsedLine : Type 0 where
   pub label : Option (List ℕ)
   pub statement : Statement
 
@@ -223,13 +223,13 @@ pub record Said : Type 0 where
 pub record Checked : Type 0 where
   pub label : Option (List ℕ)
   pub statement : Statement
-  pub move : Move
+  pub move : LocationChange
 
 -- by what is known of the lines before
-module _ (before : Before) where
+module _ (before : EarlierLines) where
   -- what a line says, whose names are new
-  unfoldable pub said : List ℕ → Result Said AsmCause
-  said text = do
+  unfoldable pub parsed : List ℕ → Result ParsedLine AsmCause
+  parsed text = do
     found ← as_text (fields text)
     label ← unless (any_known before.names (label_in found.label)) DuplicateLabel found.label
     statement ← statement_in text found
@@ -237,7 +237,7 @@ module _ (before : Before) where
         (record { label = label; statement = statement })
 
   -- where it leads
-  unfoldable pub moved : Said → Result Checked AsmCause
+  unfoldable pub moved : ParsedLine → Result Checked AsmCause
   moved line = do
     move ← as_expr (move before.names before.location before.reached line.statement)
     move ← unless (is_too_far before line.statement move) Overflow move
@@ -246,7 +246,7 @@ module _ (before : Before) where
 
   -- a line by the first checks
   abbrev pub checked : List ℕ → Result Checked AsmCause
-  checked text = said text >>= moved
+  checked text = parsed text >>= moved
 
 abbrev pub line_of : ℕ → Checked → Line
 line_of number checked =

@@ -8,20 +8,20 @@ use Rattle.asm_defs.specs.declared.causes.AsmCause.{AsmCause}
 use Rattle.asm_defs.specs.declared.causes.AsmCause.TheVariants.{Text, Expr, Form, DuplicateLabel, BadDirective}
 use Rattle.asm_defs.specs.declared.causes.AsmCause.TheVariants.{Overflow, Overlap}
 use Rattle.asm_defs.specs.declared.location.Location.{Location}
-use Rattle.asm_defs.specs.Statements as said
+use Rattle.asm_defs.specs.Statements as parsed
 use Rattle.asm_defs.specs.Statements.{Statement}
 use Rattle.asm_defs.specs.SecondChecks.{Outcome, Nothing, Words, Bytes, Entry}
 use Rattle.asm_defs.specs.Memory.{Settled}
 
 -- a refusal that more names may lift
-abbrev pub is_open : AsmCause → Bool
-is_open (Expr cause) = expressions.is_open cause
-is_open (Form cause) = instructions.is_open cause
-is_open (Text cause) = false
-is_open DuplicateLabel = false
-is_open BadDirective = false
-is_open Overflow = false
-is_open Overlap = false
+abbrev pub is_unresolved : AsmCause → Bool
+is_unresolved (Expr cause) = expressions.is_unresolved cause
+is_unresolved (Form cause) = instructions.is_unresolved cause
+is_unresolved (Text cause) = false
+is_unresolved DuplicateLabel = false
+is_unresolved BadDirective = false
+is_unresolved Overflow = false
+is_unresolved Overlap = false
 
 -- a word that is no use of a name that others define
 abbrev pub is_own : Value → Bool
@@ -37,13 +37,13 @@ stands (Bytes bytes) = true
 stands (Entry entry) = false
 
 -- how many bytes a line says that it places
-abbrev pub size_said : Statement → ℕ
-size_said (said.Instruction size operation field) = size
-size_said (said.Data texts) = 2 * length texts
-size_said (said.Byte texts) = length texts
-size_said (said.Text quoted) = length (characters quoted)
-size_said _ = 0
+abbrev pub declared_size : Statement → ℕ
+declared_size (parsed.Instruction size operation field) = size
+declared_size (parsed.Data texts) = 2 * length texts
+declared_size (parsed.Byte texts) = length texts
+declared_size (parsed.Text quoted) = length (characters quoted)
+declared_size _ = 0
 
 -- zeros in the places of a line that waits for names
 abbrev pub held_place : Location → Statement → Settled
-held_place at statement = record { at = at; outcome = Bytes (replicate (size_said statement) 0) }
+held_place at statement = record { at = at; outcome = Bytes (replicate (declared_size statement) 0) }

@@ -11,7 +11,7 @@ use Rattle.source_defs.specs.Lines.{part}
 use Rattle.source_defs.specs.Names.{is_name}
 use Rattle.source_defs.specs.Fields.{Fields, fields}
 use Rattle.source_defs.specs.Operands.{operand_texts}
-use Rattle.source_defs.specs.OperandLists.{one_of, at_most_one_of, some_of}
+use Rattle.source_defs.specs.OperandLists.{one_operand, optional_operand, operand_list}
 use Rattle.source_defs.specs.QuotedTexts.{quoted}
 use Rattle.instruction_defs.specs.declared.causes.FormError.{FormError}
 use Rattle.instruction_defs.specs.declared.causes.FormError.TheVariants.{OperandCount, BadOperand}
@@ -68,22 +68,22 @@ as_operands (Err Form) = Err BadOperand
 
 -- A directive with its operands. Profile: EVEN, PAGE, LIST and UNL ignore what stands behind them in the line.
 abbrev pub directive_statement : Directive → List (List ℕ) → Result Statement OperandError
-directive_statement named.Aorg texts = one_of texts >>= λ text. Ok (Aorg text)
-directive_statement named.Rorg texts = at_most_one_of texts >>= λ text. Ok (Rorg text)
-directive_statement named.Dorg texts = one_of texts >>= λ text. Ok (Dorg text)
-directive_statement named.Bss texts = one_of texts >>= λ text. Ok (Bss text)
-directive_statement named.Bes texts = one_of texts >>= λ text. Ok (Bes text)
+directive_statement named.Aorg texts = one_operand texts >>= λ text. Ok (Aorg text)
+directive_statement named.Rorg texts = optional_operand texts >>= λ text. Ok (Rorg text)
+directive_statement named.Dorg texts = one_operand texts >>= λ text. Ok (Dorg text)
+directive_statement named.Bss texts = one_operand texts >>= λ text. Ok (Bss text)
+directive_statement named.Bes texts = one_operand texts >>= λ text. Ok (Bes text)
 directive_statement named.Even texts = Ok Even
-directive_statement named.Equ texts = one_of texts >>= λ text. Ok (Equ text)
-directive_statement named.Data texts = some_of texts >>= λ texts. Ok (Data texts)
-directive_statement named.Byte texts = some_of texts >>= λ texts. Ok (Byte texts)
-directive_statement named.Text texts = one_of texts >>= λ text. quoted text >>= λ text. Ok (Text text)
+directive_statement named.Equ texts = one_operand texts >>= λ text. Ok (Equ text)
+directive_statement named.Data texts = operand_list texts >>= λ texts. Ok (Data texts)
+directive_statement named.Byte texts = operand_list texts >>= λ texts. Ok (Byte texts)
+directive_statement named.Text texts = one_operand texts >>= λ text. quoted text >>= λ text. Ok (Text text)
 directive_statement named.Def texts = names_in texts >>= λ names. Ok (Def names)
 directive_statement named.Ref texts = names_in texts >>= λ names. Ok (Ref names)
-directive_statement named.Idt texts = one_of texts >>= λ text. Ok (Idt text)
-directive_statement named.Titl texts = one_of texts >>= λ text. Ok (Titl text)
+directive_statement named.Idt texts = one_operand texts >>= λ text. Ok (Idt text)
+directive_statement named.Titl texts = one_operand texts >>= λ text. Ok (Titl text)
 directive_statement named.Quiet texts = Ok Nothing
-directive_statement named.End texts = at_most_one_of texts >>= λ text. Ok (End text)
+directive_statement named.End texts = optional_operand texts >>= λ text. Ok (End text)
 
 abbrev pub instruction_statement : List ℕ → List ℕ → Result Statement FormError
 instruction_statement operation field = do
@@ -113,7 +113,7 @@ as_text (Ok value) = Ok value
 as_text (Err error) = Err (cause.Text error)
 
 -- what a line says
-abbrev pub said_of : List ℕ → Result Statement AsmCause
-said_of line = do
+abbrev pub parse_line : List ℕ → Result Statement AsmCause
+parse_line line = do
   found ← as_text (fields line)
   statement_in line found

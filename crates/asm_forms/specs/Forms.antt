@@ -4,7 +4,7 @@ use Rattle.instruction_defs.specs.declared.causes.FormError.{FormError}
 use Rattle.instruction_defs.specs.declared.causes.FormError.TheVariants.{OperandCount}
 use Rattle.source_defs.specs.Refusals.{◌>>=◌}
 use Rattle.source_defs.specs.Parentheses.{last_place}
-use Rattle.instruction_defs.specs.declared.slot.Slot.{Slot}
+use Rattle.instruction_defs.specs.declared.operand_kind.OperandKind.{OperandKind}
 use Rattle.instruction_defs.specs.Forms as spec
 use Rattle.instruction_defs.specs.FirstChecks.{form_in}
 use Rattle.asm_forms.specs.declared.forms.Form.{Form}
@@ -66,8 +66,8 @@ just_two (first ∷ second ∷ []) = Ok (first, second)
 just_two (first ∷ second ∷ third ∷ texts) = Err OperandCount
 
 -- the forms of two operands, from the left
-abbrev pub both_forms : Slot → Slot → List ℕ → List ℕ → Result (List spec.Form) FormError
-both_forms slot other first second = do
-  form ← form_in slot first
+abbrev pub both_forms : OperandKind → OperandKind → List ℕ → List ℕ → Result (List spec.Form) FormError
+both_forms kind other first second = do
+  form ← form_in kind first
   next ← form_in other second
   Ok (form ∷ next ∷ [])

@@ -5,7 +5,7 @@ use Rattle.instruction_defs.specs.declared.causes.FormError.{FormError}
 use Rattle.source_defs.specs.Expression as expression
 use Rattle.tms_defs.specs.Instructions.{word_of}
 use Rattle.tms_defs.specs.declared.instruction.Operation.{Operation}
-use Rattle.instruction_defs.specs.SecondChecks.{Operand, Ready, all_ranged, instruction_of, all_following}
+use Rattle.instruction_defs.specs.SecondChecks.{Operand, EncodedOperand, all_ranged, instruction_of, all_following}
 use Rattle.asm_forms.specs.declared.placed.Word.{Word}
 use Rattle.asm_forms.specs.declared.placed.Word.TheVariants.{Plain, Relocatable, External}
 use Rattle.asm_forms.specs.declared.placed.Placed.{Placed}
@@ -21,7 +21,7 @@ defined_words words = map defined_word words
 abbrev pub words_in : Placed → List expression.Value
 words_in placed = defined_words placed.words.items
 
-abbrev pub words_of : Operation → List Ready → List expression.Value
+abbrev pub words_of : Operation → List EncodedOperand → List expression.Value
 words_of operation readies = expression.Absolute (word_of (instruction_of operation readies)) ∷ all_following readies
 
 -- the words of an operation with operands, where these are in their ranges

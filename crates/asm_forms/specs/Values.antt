@@ -14,8 +14,8 @@ use Rattle.asm_forms.specs.declared.values.Operand.{Operand}
 use Rattle.asm_forms.specs.declared.values.Operand.TheVariants.{InRegister, ByRegister, AutoIncrement, AtAddress}
 use Rattle.asm_forms.specs.declared.values.Operand.TheVariants.{AtIndexed}
 use Rattle.asm_forms.specs.declared.values.Operand.TheVariants.{Number, Bit, To, Following}
-use Rattle.asm_forms.specs.declared.ranges.Ready.{Ready}
-use Rattle.asm_forms.specs.declared.ranges.Ready.TheVariants.{Located, Addressed, Counted, Displaced, Followed}
+use Rattle.asm_forms.specs.declared.ranges.EncodedOperand.{EncodedOperand}
+use Rattle.asm_forms.specs.declared.ranges.EncodedOperand.TheVariants.{Located, Addressed, Counted, Displaced, Followed}
 
 abbrev pub defined_operand : Operand → spec.Operand
 defined_operand (InRegister number) = spec.InRegister number
@@ -35,30 +35,30 @@ no_word = option.None
 abbrev pub with_word : Value → Option expression.Value
 with_word value = option.Some (defined_value value)
 
-abbrev pub defined_ready : Ready → spec.Ready
+abbrev pub defined_ready : EncodedOperand → spec.EncodedOperand
 defined_ready (Located place) = spec.Located place no_word
 defined_ready (Addressed place value) = spec.Located place (with_word value)
 defined_ready (Counted number) = spec.Counted number
 defined_ready (Displaced disp) = spec.Displaced disp
 defined_ready (Followed value) = spec.Followed (defined_value value)
 
-abbrev pub ready_answer : Result Ready FormError → Result spec.Ready FormError
+abbrev pub ready_answer : Result EncodedOperand FormError → Result spec.EncodedOperand FormError
 ready_answer (Ok ready) = Ok (defined_ready ready)
 ready_answer (Err cause) = Err cause
 
-abbrev pub readies_answer : Result (UpToTwo Ready) FormError → Result (List spec.Ready) FormError
+abbrev pub readies_answer : Result (UpToTwo EncodedOperand) FormError → Result (List spec.EncodedOperand) FormError
 readies_answer (Ok readies) = Ok (items_of defined_ready readies)
 readies_answer (Err cause) = Err cause
 
 -- the parts of an instruction have room in its word
-abbrev pub IsReady : Ready → Type 0
+abbrev pub IsReady : EncodedOperand → Type 0
 IsReady (Located place) = IsPlace place
 IsReady (Addressed place value) = IsPlace place
 IsReady (Counted number) = number < 16
 IsReady (Displaced disp) = ⊤
 IsReady (Followed value) = ⊤
 
-abbrev pub AllReady : UpToTwo Ready → Type 0
+abbrev pub AllReady : UpToTwo EncodedOperand → Type 0
 AllReady None = ⊤
 AllReady (One ready) = IsReady ready
 AllReady (Two first second) = IsReady first × IsReady second

@@ -7,15 +7,15 @@ ghost use Rattle.instruction_defs.specs.FirstChecks as spec;
 ghost use Rattle.asm_forms.specs.Forms.{form_by, form_answer, mode_answer, HasRoom, LiesIn};
 ghost use Rattle.asm_forms.specs.Forms.{just_one, just_two, both_forms};
 ghost use Rattle.asm_forms.specs.Forms.{defined_form};
-ghost use Rattle.asm_forms.specs.UpToTwo.{items_of, slots_in};
+ghost use Rattle.asm_forms.specs.UpToTwo.{items_of, kinds_in};
 ghost use Rattle.asm_forms.specs.Skeletons.{defined_skeleton, forms_answer, skeleton_answer, AllLieIn, IsOfField};
 
 use crate::forms::{Form, Mode, mode_of};
 use crate::mnemonics::mnemonic;
-use crate::slots::slots_of;
+use crate::operand_kinds::kinds_of;
 use crate::up_to_two::UpToTwo;
 use asm_text::{operands, part};
-use instruction_defs::{FormError, Mnemonic, Slot};
+use instruction_defs::{FormError, Mnemonic, OperandKind};
 use source_defs::Span;
 use tms_defs::Operation;
 
@@ -41,7 +41,7 @@ pub fn skeleton_of(operation: &[u8], field: &[u8]) -> Result<Skeleton, FormError
 {
     match mnemonic(operation) {
         Some(Mnemonic::Fixed(word)) => Ok(Skeleton::Word(word)),
-        Some(Mnemonic::Of(operation)) => match forms_of(slots_of(operation), field) {
+        Some(Mnemonic::Of(operation)) => match forms_of(kinds_of(operation), field) {
             Ok(forms) => Ok(Skeleton::Instruction(operation, forms)),
             Err(cause) => Err(cause),
         },
@@ -49,22 +49,22 @@ pub fn skeleton_of(operation: &[u8], field: &[u8]) -> Result<Skeleton, FormError
     }
 }
 
-/// The forms of as many operands as there are slots. A field is not read where there are none.
+/// The forms of the operands of these kinds, one form a kind. A field is not read if there are none.
 #[tactic(auto, using(crate::proofs::Counted::one_is_counted, crate::proofs::Counted::two_are_counted))]
-fn forms_of(slots: UpToTwo<Slot>, field: &[u8]) -> Result<UpToTwo<Form>, FormError>
+fn forms_of(kinds: UpToTwo<OperandKind>, field: &[u8]) -> Result<UpToTwo<Form>, FormError>
     requires { length field.now ≤ 65535 }
-    ensures forms { forms_answer field.now result ≡ spec.forms_of (slots_in slots) field.now }
+    ensures forms { forms_answer field.now result ≡ spec.forms_of (kinds_in kinds) field.now }
     ensures inside { IfOk result (AllLieIn field.now) }
 {
-    match slots {
-        UpToTwo::One(slot) => {
+    match kinds {
+        UpToTwo::One(kind) => {
             let span = one_operand(field)?;
-            let form = form_in(slot, field, span)?;
+            let form = form_in(kind, field, span)?;
             Ok(UpToTwo::One(form))
         }
-        UpToTwo::Two(slot, other) => {
+        UpToTwo::Two(kind, other) => {
             let (first, second) = two_operands(field)?;
-            both_forms(slot, other, field, first, second)
+            both_forms(kind, other, field, first, second)
         }
         UpToTwo::None => Ok(UpToTwo::None),
     }
@@ -98,10 +98,10 @@ fn two_operands(field: &[u8]) -> Result<(Span, Span), FormError>
     Ok((first, second))
 }
 
-/// The forms of two operands in their slots.
+/// The forms of two operands of these kinds.
 fn both_forms(
-    slot: Slot,
-    other: Slot,
+    kind: OperandKind,
+    other: OperandKind,
     field: &[u8],
     first: Span,
     second: Span,
@@ -110,23 +110,23 @@ fn both_forms(
     requires first { IsInside field.now first }
     requires second { IsInside field.now second }
     ensures forms { forms_answer field.now result
-        ≡ both_forms slot other (part field.now first) (part field.now second) }
+        ≡ both_forms kind other (part field.now first) (part field.now second) }
     ensures inside { IfOk result (AllLieIn field.now) }
 {
-    let form = form_in(slot, field, first)?;
+    let form = form_in(kind, field, first)?;
     let next = form_in(other, field, second)?;
     Ok(UpToTwo::Two(form, next))
 }
 
-/// The form of an operand in its slot.
+/// The form of an operand of a kind.
 #[inline(always)]
-fn form_in(slot: Slot, field: &[u8], span: Span) -> Result<Form, FormError>
+fn form_in(kind: OperandKind, field: &[u8], span: Span) -> Result<Form, FormError>
     requires short { length field.now ≤ 65535 }
     requires inside { IsInside field.now span }
-    ensures form { form_answer field.now result ≡ spec.form_in slot (part field.now span) }
+    ensures form { form_answer field.now result ≡ spec.form_in kind (part field.now span) }
     ensures inside { IfOk result (LiesIn field.now) }
 {
-    let mode = mode_in(slot, part(field, span))?;
+    let mode = mode_in(kind, part(field, span))?;
     Ok(Form {
         start: span.start as u16,
         end: span.end as u16,
@@ -134,18 +134,18 @@ fn form_in(slot: Slot, field: &[u8], span: Span) -> Result<Form, FormError>
     })
 }
 
-/// How an operand is written in its slot.
+/// How an operand of a kind is written.
 #[inline(always)]
-fn mode_in(slot: Slot, text: &[u8]) -> Result<Mode, FormError>
+fn mode_in(kind: OperandKind, text: &[u8]) -> Result<Mode, FormError>
     requires { length text.now ≤ 65535 }
-    ensures form { mode_answer text.now result ≡ spec.form_in slot text.now }
+    ensures form { mode_answer text.now result ≡ spec.form_in kind text.now }
     ensures room { IfOk result (λ mode. HasRoom mode (length text.now)) }
 {
     if text.is_empty() {
         return Err(FormError::BadOperand);
     }
-    match slot {
-        Slot::General => Ok(mode_of(text)),
+    match kind {
+        OperandKind::General => Ok(mode_of(text)),
         _ if is_mode_sign(text[0]) => Err(FormError::BadOperand),
         _ => Ok(Mode::Plain),
     }
@@ -165,34 +165,35 @@ pub fn size_in(skeleton: &Skeleton) -> u16
     match skeleton {
         Skeleton::Word(_) => 2,
         Skeleton::Instruction(operation, forms) => {
-            2 * (1 + all_following(slots_of(*operation), forms))
+            2 * (1 + all_following(kinds_of(*operation), forms))
         }
     }
 }
 
 /// How many words follow for the operands of a line.
-fn all_following(slots: UpToTwo<Slot>, forms: &UpToTwo<Form>) -> u16
+fn all_following(kinds: UpToTwo<OperandKind>, forms: &UpToTwo<Form>) -> u16
     ensures words { (field : List ℕ) →
-        result ≡ spec.all_following (slots_in slots) (items_of (defined_form field) forms.now) }
+        result ≡ spec.all_following (kinds_in kinds) (items_of (defined_form field) forms.now) }
     ensures most { result ≤ 2 }
 {
-    match (slots, forms) {
-        (UpToTwo::One(slot), UpToTwo::One(form) | UpToTwo::Two(form, _))
-        | (UpToTwo::Two(slot, _), UpToTwo::One(form)) => following(slot, form.mode),
-        (UpToTwo::Two(slot, other), UpToTwo::Two(form, next)) => {
-            following(slot, form.mode) + following(other, next.mode)
+    match (kinds, forms) {
+        (UpToTwo::One(kind), UpToTwo::One(form) | UpToTwo::Two(form, _))
+        | (UpToTwo::Two(kind, _), UpToTwo::One(form)) => following(kind, form.mode),
+        (UpToTwo::Two(kind, other), UpToTwo::Two(form, next)) => {
+            following(kind, form.mode) + following(other, next.mode)
         }
         (UpToTwo::None, _) | (_, UpToTwo::None) => 0,
     }
 }
 
 /// How many words follow for an operand.
-fn following(slot: Slot, mode: Mode) -> u16
-    ensures words { (text : List ℕ) → result ≡ spec.following slot (form_by mode text) }
+fn following(kind: OperandKind, mode: Mode) -> u16
+    ensures words { (text : List ℕ) → result ≡ spec.following kind (form_by mode text) }
     ensures most { result ≤ 1 }
 {
-    match (slot, mode) {
-        (Slot::Immediate, _) | (Slot::General, Mode::Symbolic | Mode::Indexed(_)) => 1,
+    match (kind, mode) {
+        (OperandKind::Immediate, _) | (OperandKind::General, Mode::Symbolic | Mode::Indexed(_)) =>
+            1,
         _ => 0,
     }
 }

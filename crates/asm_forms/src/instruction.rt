@@ -6,12 +6,12 @@ ghost use Rattle.instruction_defs.specs.SecondChecks as spec;
 ghost use Rattle.asm_forms.specs.UpToTwo.{items_of};
 ghost use Rattle.asm_forms.specs.Values.{defined_ready, IsReady, AllReady};
 
-use crate::ranges::Ready;
+use crate::ranges::EncodedOperand;
 use crate::up_to_two::UpToTwo;
 use tms_defs::{Instr, Operation, Place};
 
 /// The instruction of an operation with its operands, a source before its destination and a register before a count.
-pub(crate) fn instruction_of(operation: Operation, readies: &UpToTwo<Ready>) -> Instr
+pub(crate) fn instruction_of(operation: Operation, readies: &UpToTwo<EncodedOperand>) -> Instr
     requires { AllReady readies.now }
     ensures instr { result ≡ spec.instruction_of operation (items_of defined_ready readies.now) }
     ensures room { HasRoom result }
@@ -50,7 +50,7 @@ pub(crate) fn instruction_of(operation: Operation, readies: &UpToTwo<Ready>) -> 
 }
 
 /// The place of the first operand.
-fn first_place(readies: &UpToTwo<Ready>) -> Place
+fn first_place(readies: &UpToTwo<EncodedOperand>) -> Place
     requires { AllReady readies.now }
     ensures place { result ≡ spec.place_in (spec.first_of (items_of defined_ready readies.now)) }
     ensures room { IsPlace result }
@@ -62,7 +62,7 @@ fn first_place(readies: &UpToTwo<Ready>) -> Place
 }
 
 /// The place of the second operand.
-fn second_place(readies: &UpToTwo<Ready>) -> Place
+fn second_place(readies: &UpToTwo<EncodedOperand>) -> Place
     requires { AllReady readies.now }
     ensures place { result ≡ spec.place_in (spec.second_of (items_of defined_ready readies.now)) }
     ensures room { IsPlace result }
@@ -74,7 +74,7 @@ fn second_place(readies: &UpToTwo<Ready>) -> Place
 }
 
 /// The register or count of the first operand.
-fn first_count(readies: &UpToTwo<Ready>) -> u8
+fn first_count(readies: &UpToTwo<EncodedOperand>) -> u8
     requires { AllReady readies.now }
     ensures count { result ≡ spec.count_in (spec.first_of (items_of defined_ready readies.now)) }
     ensures room { result < 16 }
@@ -86,7 +86,7 @@ fn first_count(readies: &UpToTwo<Ready>) -> u8
 }
 
 /// The register or count of the second operand.
-fn second_count(readies: &UpToTwo<Ready>) -> u8
+fn second_count(readies: &UpToTwo<EncodedOperand>) -> u8
     requires { AllReady readies.now }
     ensures count { result ≡ spec.count_in (spec.second_of (items_of defined_ready readies.now)) }
     ensures room { result < 16 }
@@ -98,33 +98,38 @@ fn second_count(readies: &UpToTwo<Ready>) -> u8
 }
 
 /// The displacement of the first operand.
-fn first_displacement(readies: &UpToTwo<Ready>) -> i8
+fn first_displacement(readies: &UpToTwo<EncodedOperand>) -> i8
     ensures { result ≡ spec.displacement_in (spec.first_of (items_of defined_ready readies.now)) }
 {
     match readies {
-        UpToTwo::One(Ready::Displaced(disp)) | UpToTwo::Two(Ready::Displaced(disp), _) => *disp,
+        UpToTwo::One(EncodedOperand::Displaced(disp))
+        | UpToTwo::Two(EncodedOperand::Displaced(disp), _) => *disp,
         _ => 0,
     }
 }
 
-fn place_in(ready: &Ready) -> Place
+fn place_in(ready: &EncodedOperand) -> Place
     requires { IsReady ready.now }
     ensures place { result ≡ spec.place_in (defined_ready ready.now) }
     ensures room { IsPlace result }
 {
     match ready {
-        Ready::Located(place) | Ready::Addressed(place, _) => *place,
-        Ready::Counted(_) | Ready::Displaced(_) | Ready::Followed(_) => Place { mode: 0, reg: 0 },
+        EncodedOperand::Located(place) | EncodedOperand::Addressed(place, _) => *place,
+        EncodedOperand::Counted(_) | EncodedOperand::Displaced(_) | EncodedOperand::Followed(_) =>
+            Place { mode: 0, reg: 0 },
     }
 }
 
-fn count_in(ready: &Ready) -> u8
+fn count_in(ready: &EncodedOperand) -> u8
     requires { IsReady ready.now }
     ensures count { result ≡ spec.count_in (defined_ready ready.now) }
     ensures room { result < 16 }
 {
     match ready {
-        Ready::Counted(number) => *number,
-        Ready::Located(_) | Ready::Addressed(..) | Ready::Displaced(_) | Ready::Followed(_) => 0,
+        EncodedOperand::Counted(number) => *number,
+        EncodedOperand::Located(_)
+        | EncodedOperand::Addressed(..)
+        | EncodedOperand::Displaced(_)
+        | EncodedOperand::Followed(_) => 0,
     }
 }

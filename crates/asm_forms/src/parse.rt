@@ -13,8 +13,8 @@ ghost use Rattle.asm_forms.specs.Placed.{words_in};
 ghost use Rattle.asm_forms.specs.Skeletons.{defined_skeleton, skeleton_answer, IsOfField};
 
 use crate::first_checks::{Skeleton, size_in, skeleton_of};
+use crate::operand_kinds::kinds_of;
 use crate::placed::{Placed, in_range_words, one_word};
-use crate::slots::slots_of;
 use crate::values::Scope;
 use asm_text::{Fields, Symbols, Value, part};
 use instruction_defs::FormError;
@@ -32,7 +32,7 @@ fn second_checks(scope: &Scope<'_>, skeleton: &Skeleton) -> Result<Placed, FormE
     match skeleton {
         Skeleton::Word(word) => Ok(one_word(*word)),
         Skeleton::Instruction(operation, forms) => {
-            let operands = scope.all_valued(slots_of(*operation), forms)?;
+            let operands = scope.all_valued(kinds_of(*operation), forms)?;
             in_range_words(&scope.here, *operation, operands)
         }
     }

@@ -11,7 +11,7 @@ ghost use Rattle.asm_forms.specs.UpToTwo.{items_of};
 ghost use Rattle.asm_forms.specs.Values.{defined_operand, defined_ready, AllReady};
 
 use crate::instruction::instruction_of;
-use crate::ranges::{Ready, all_ranged};
+use crate::ranges::{EncodedOperand, all_ranged};
 use crate::up_to_two::UpToTwo;
 use crate::values::Operand;
 use arrayvec::ArrayVec;
@@ -70,7 +70,7 @@ pub(crate) fn in_range_words(
 
 /// The words of an operation with its operands.
 #[tactic(auto, using(std::proofs::Common::append_assoc))]
-fn instruction_words(operation: Operation, readies: &UpToTwo<Ready>) -> Placed
+fn instruction_words(operation: Operation, readies: &UpToTwo<EncodedOperand>) -> Placed
     requires { AllReady readies.now }
     ensures { words_in result ≡ words_of operation (items_of defined_ready readies.now) }
 {
@@ -89,15 +89,17 @@ fn instruction_words(operation: Operation, readies: &UpToTwo<Ready>) -> Placed
 }
 
 /// Appends the word that follows for an operand, where one does.
-fn push_following(words: &mut ArrayVec<Word, 3>, ready: &Ready)
+fn push_following(words: &mut ArrayVec<Word, 3>, ready: &EncodedOperand)
     requires { array_vec_len words.old + 1 ≤ 3 }
     ensures words { defined_words words.new.items
         ≡ defined_words words.old.items ++ spec.following_in (defined_ready ready.now) }
     ensures size { array_vec_len words.new ≤ array_vec_len words.old + 1 }
 {
     match ready {
-        Ready::Addressed(_, value) | Ready::Followed(value) => words.push(word_of(value)),
-        Ready::Located(_) | Ready::Counted(_) | Ready::Displaced(_) => {}
+        EncodedOperand::Addressed(_, value) | EncodedOperand::Followed(value) => words.push(word_of(
+            value,
+        )),
+        EncodedOperand::Located(_) | EncodedOperand::Counted(_) | EncodedOperand::Displaced(_) => {}
     }
 }
 

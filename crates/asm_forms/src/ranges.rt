@@ -14,7 +14,7 @@ use tms_defs::Place;
 
 /// An operand whose values are in their ranges.
 #[derive(Clone, Copy)]
-pub(crate) enum Ready {
+pub(crate) enum EncodedOperand {
     /// A place without a word that follows.
     Located(Place),
     /// A place with the word that follows, its address.
@@ -31,7 +31,7 @@ pub(crate) enum Ready {
 pub(crate) fn all_ranged(
     here: &Value,
     operands: UpToTwo<Operand>,
-) -> Result<UpToTwo<Ready>, FormError>
+) -> Result<UpToTwo<EncodedOperand>, FormError>
     ensures value { readies_answer result
         ≡ spec.all_ranged (defined_value here.now) (items_of defined_operand operands) }
     ensures ready { IfOk result AllReady }
@@ -52,7 +52,7 @@ pub(crate) fn all_ranged(
 
 /// An operand of a line at a place, held against its range.
 #[inline(always)]
-fn ranged(here: &Value, operand: Operand) -> Result<Ready, FormError>
+fn ranged(here: &Value, operand: Operand) -> Result<EncodedOperand, FormError>
     ensures value { ready_answer result ≡ spec.ranged (defined_value here.now) (defined_operand operand) }
     ensures ready { IfOk result IsReady }
 {
@@ -60,25 +60,28 @@ fn ranged(here: &Value, operand: Operand) -> Result<Ready, FormError>
         Operand::InRegister(number) => by_register(0, number),
         Operand::ByRegister(number) => by_register(1, number),
         Operand::AutoIncrement(number) => by_register(3, number),
-        Operand::AtAddress(value) => Ok(Ready::Addressed(Place { mode: 2, reg: 0 }, value)),
+        Operand::AtAddress(value) => Ok(EncodedOperand::Addressed(
+            Place { mode: 2, reg: 0 },
+            value,
+        )),
         Operand::AtIndexed(value, number) => indexed(value, number),
         Operand::Number(number) => {
             let count = below_sixteen(number)?;
-            Ok(Ready::Counted(count))
+            Ok(EncodedOperand::Counted(count))
         }
         Operand::Bit(number) => bit(number),
         Operand::To(target) => jump(place_number(here), target),
-        Operand::Following(value) => Ok(Ready::Followed(value)),
+        Operand::Following(value) => Ok(EncodedOperand::Followed(value)),
     }
 }
 
-fn by_register(mode: u8, number: u16) -> Result<Ready, FormError>
+fn by_register(mode: u8, number: u16) -> Result<EncodedOperand, FormError>
     requires { mode < 4 }
     ensures value { ready_answer result ≡ spec.by_register mode number }
     ensures ready { IfOk result IsReady }
 {
     let reg = below_sixteen(number)?;
-    Ok(Ready::Located(Place { mode, reg }))
+    Ok(EncodedOperand::Located(Place { mode, reg }))
 }
 
 fn below_sixteen(number: u16) -> Result<u8, FormError>
@@ -93,38 +96,38 @@ fn below_sixteen(number: u16) -> Result<u8, FormError>
 }
 
 /// An address with an index register, which is not register 0.
-fn indexed(value: Value, number: u16) -> Result<Ready, FormError>
+fn indexed(value: Value, number: u16) -> Result<EncodedOperand, FormError>
     ensures value { ready_answer result ≡ spec.indexed (defined_value value) number }
     ensures ready { IfOk result IsReady }
 {
     if 0 < number && number < 16 {
         let reg = number as u8;
-        Ok(Ready::Addressed(Place { mode: 2, reg }, value))
+        Ok(EncodedOperand::Addressed(Place { mode: 2, reg }, value))
     } else {
         Err(FormError::BadOperand)
     }
 }
 
 /// The displacement of a bit, a signed byte.
-fn bit(number: u16) -> Result<Ready, FormError>
+fn bit(number: u16) -> Result<EncodedOperand, FormError>
     ensures value { ready_answer result ≡ spec.bit number }
     ensures ready { IfOk result IsReady }
 {
     let disp = number.cast_signed();
     if -128 <= disp && disp < 128 {
-        Ok(Ready::Displaced(disp as i8))
+        Ok(EncodedOperand::Displaced(disp as i8))
     } else {
         Err(FormError::BadOperand)
     }
 }
 
 /// The displacement of a jump from a line at a place.
-fn jump(here: u16, target: u16) -> Result<Ready, FormError>
+fn jump(here: u16, target: u16) -> Result<EncodedOperand, FormError>
     ensures value { ready_answer result ≡ spec.displaced (spec.displacement_to (here + 2) target) }
     ensures ready { IfOk result IsReady }
 {
     match displacement_to(u32::from(here) + 2, u32::from(target)) {
-        Some(disp) => Ok(Ready::Displaced(disp)),
+        Some(disp) => Ok(EncodedOperand::Displaced(disp)),
         None => Err(FormError::JumpTooFar),
     }
 }

@@ -3,7 +3,7 @@
 ghost use Rattle.std.specs.Prelude.{◌≡◌, ◌<◌, ◌≤◌, ◌+◌, ◌++◌};
 ghost use Rattle.std.specs.Fmt.{decimal};
 ghost use Rattle.arrayvec.specs.ArrayString.{array_string_len};
-ghost use Rattle.source_defs.specs.Digits.{marked_word};
+ghost use Rattle.source_defs.specs.Digits.{hex_word};
 ghost use Rattle.instruction_defs.specs.Printed as spec;
 
 use arrayvec::ArrayString;
@@ -17,7 +17,7 @@ pub(crate) type Text = ArrayString<64>;
 #[tactic(auto, using(std::proofs::Common::append_assoc), unfolding(source_defs::specs::Digits::word_digits))]
 pub(crate) fn push_word(text: &mut Text, word: u16)
     requires { array_string_len text.old + 5 ≤ 64 }
-    ensures text { text.new.bytes ≡ text.old.bytes ++ marked_word word }
+    ensures text { text.new.bytes ≡ text.old.bytes ++ hex_word word }
     ensures size { array_string_len text.new ≡ array_string_len text.old + 5 }
 {
     let [first, second, third, fourth] = word_digits(word);

@@ -9,13 +9,13 @@ ghost use Rattle.asm_forms.specs.Answers.{Gives};
 ghost use Rattle.asm_forms.specs.Answers.{refused as refused_as};
 ghost use Rattle.asm_forms.specs.Forms.{defined_form, form_by, HasRoom, LiesIn};
 ghost use Rattle.asm_forms.specs.Skeletons.{AllLieIn};
-ghost use Rattle.asm_forms.specs.UpToTwo.{items_of, slots_in};
+ghost use Rattle.asm_forms.specs.UpToTwo.{items_of, kinds_in};
 ghost use Rattle.asm_forms.specs.Values.{defined_operand};
 
 use crate::forms::{Form, Mode, first_text, index_text, operand_text};
 use crate::up_to_two::UpToTwo;
 use asm_text::{ExprError, Symbols, Value, expression_value};
-use instruction_defs::{FormError, Slot};
+use instruction_defs::{FormError, OperandKind};
 use std::alloc::Global;
 
 /// An operand with its values, not yet held against their ranges.
@@ -51,26 +51,26 @@ pub(crate) struct Scope<'a> {
 }
 
 impl Scope<'_> {
-    /// The values of as many operands as there are slots.
+    /// The values of operands of these kinds, one value a kind.
     pub(crate) fn all_valued(
         &self,
-        slots: UpToTwo<Slot>,
+        kinds: UpToTwo<OperandKind>,
         forms: &UpToTwo<Form>,
     ) -> Result<UpToTwo<Operand>, FormError>
         requires here { IsNotExternal self.now.here }
         requires inside { AllLieIn self.now.field.now forms.now }
         ensures { Gives (items_of defined_operand) result
-            (spec.all_valued (look_up self.now.symbols.now) (defined_value self.now.here) (slots_in slots)
+            (spec.all_valued (look_up self.now.symbols.now) (defined_value self.now.here) (kinds_in kinds)
             (items_of (defined_form self.now.field.now) forms.now)) }
     {
-        match (slots, forms) {
-            (UpToTwo::One(slot), UpToTwo::One(form) | UpToTwo::Two(form, _))
-            | (UpToTwo::Two(slot, _), UpToTwo::One(form)) => {
-                let operand = self.valued(slot, form)?;
+        match (kinds, forms) {
+            (UpToTwo::One(kind), UpToTwo::One(form) | UpToTwo::Two(form, _))
+            | (UpToTwo::Two(kind, _), UpToTwo::One(form)) => {
+                let operand = self.valued(kind, form)?;
                 Ok(UpToTwo::One(operand))
             }
-            (UpToTwo::Two(slot, other), UpToTwo::Two(form, next)) => {
-                let operand = self.valued(slot, form)?;
+            (UpToTwo::Two(kind, other), UpToTwo::Two(form, next)) => {
+                let operand = self.valued(kind, form)?;
                 let second = self.valued(other, next)?;
                 Ok(UpToTwo::Two(operand, second))
             }
@@ -78,31 +78,31 @@ impl Scope<'_> {
         }
     }
 
-    /// The values of an operand in its slot.
-    fn valued(&self, slot: Slot, form: &Form) -> Result<Operand, FormError>
+    /// The value of an operand of a kind.
+    fn valued(&self, kind: OperandKind, form: &Form) -> Result<Operand, FormError>
         requires here { IsNotExternal self.now.here }
         requires inside { LiesIn self.now.field.now form.now }
         ensures { Gives defined_operand result
-            (spec.valued (look_up self.now.symbols.now) (defined_value self.now.here) slot
+            (spec.valued (look_up self.now.symbols.now) (defined_value self.now.here) kind
             (defined_form self.now.field.now form.now)) }
     {
         let mode = form.mode;
         let text = operand_text(self.field, form);
-        match slot {
-            Slot::General => self.placed(mode, text),
-            Slot::Register | Slot::Count => {
+        match kind {
+            OperandKind::General => self.placed(mode, text),
+            OperandKind::Register | OperandKind::Count => {
                 let number = self.number_of(first_text(mode, text))?;
                 Ok(Operand::Number(number))
             }
-            Slot::Displacement => {
+            OperandKind::Displacement => {
                 let number = self.number_of(first_text(mode, text))?;
                 Ok(Operand::Bit(number))
             }
-            Slot::Immediate => {
+            OperandKind::Immediate => {
                 let value = self.value_of(first_text(mode, text))?;
                 Ok(Operand::Following(value))
             }
-            Slot::Target => {
+            OperandKind::Target => {
                 let value = self.value_of(first_text(mode, text))?;
                 let target = target_in(self.here, value)?;
                 Ok(Operand::To(target))

@@ -11,7 +11,7 @@ use Rattle.bench_shelf.specs.States.{ShelfState}
 use Rattle.bench_shelf.specs.declared.copy_error.CopyError.{CopyError}
 use Rattle.bench_shelf.specs.declared.copy_error.CopyError.TheVariants.{At, TooLarge, Fault, Memory}
 use Rattle.bench_shelf.specs.CopyAnswers.{CopyRefuses}
-use Rattle.bench_shelf.specs.Causes.{ShelfCauses, TookMore, TookNoMore}
+use Rattle.bench_shelf.specs.Causes.{ShelfCauses, ReadOverLimit, ReadWithinLimit}
 use Rattle.bench_shelf.specs.Dialogue.{CopyDialogue}
 use Rattle.bench_shelf.specs.Listed.{IsTold}
 use Rattle.asm_list.specs.declared.listing.AsmListing.{AsmListing}
@@ -61,11 +61,11 @@ pub record ListingAnswered (before after : ShelfState) (source : List ℕ) (resu
 
 -- what a refusal says of the shelf, and what it says that there is none
 abbrev pub RefusedCauses : Option CopyError → ShelfState → ShelfState → Type 0
-RefusedCauses None before after = TookNoMore most_bytes before after
+RefusedCauses None before after = ReadWithinLimit most_bytes before after
 RefusedCauses (Some error) before after = ShelfCauses error before after
 
 -- What the listing says of the shelf. Memory may run out too once a file was found too large.
 abbrev pub ListingCauses : Result AsmListing CopyError → ShelfState → ShelfState → Type 0
 ListingCauses (Ok listing) before after = RefusedCauses listing.refused before after
-ListingCauses (Err Memory) before after = TookNoMore most_bytes before after ⊎ TookMore most_bytes before after
+ListingCauses (Err Memory) before after = ReadWithinLimit most_bytes before after ⊎ ReadOverLimit most_bytes before after
 ListingCauses (Err error) before after = ShelfCauses error before after

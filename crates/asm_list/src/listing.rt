@@ -2,14 +2,14 @@
 
 ghost use Rattle.std.specs.Prelude.{◌≡◌, ◌≤◌, ◌-◌, List, IfOk, IfErr, length, take};
 ghost use Rattle.bench_io.specs.Written.{Written};
-ghost use Rattle.bench_shelf.specs.Causes.{Later};
+ghost use Rattle.bench_shelf.specs.Causes.{CountsGrew};
 ghost use Rattle.bench_shelf.specs.Listed.{IsUntold};
 ghost use Rattle.asm_list.specs.Adding.{texts_in, all_rows, refused_in};
 ghost use Rattle.asm_list.specs.Listings.{rows_of, ListingAnswered, ListingCauses};
 
 use crate::names::put_names;
 use crate::shown::Lister;
-use bench_io::{Failed, Sink, put_piece};
+use bench_io::{Failed, Sink, put_chunk};
 use bench_shelf::{CopyError, KeptLine, ListedEnding, Shelf, copy_listed};
 use std::alloc::{AllocError, Global};
 
@@ -37,7 +37,7 @@ pub fn list_source<F: Shelf>(
     ensures answered { ListingAnswered (F.shelf shelf.old) (F.shelf shelf.new) source.now result }
     ensures untold { IfErr result IsUntold }
     ensures causes { ListingCauses result (F.shelf shelf.old) (F.shelf shelf.new) }
-    ensures later { Later (F.shelf shelf.old) (F.shelf shelf.new) }
+    ensures later { CountsGrew (F.shelf shelf.old) (F.shelf shelf.new) }
 {
     let listed = match copy_listed(alloc, shelf, source) {
         Ok(listed) => listed,
@@ -132,7 +132,7 @@ fn put_rows<O: Sink>(rows: &[Vec<u8>], out: &mut O) -> Result<(), Failed>
     ensures { Written result (O.state out.old) (O.state out.new) (texts_in rows.now) }
 {
     for row in rows {
-        put_piece(out, row.as_slice())?;
+        put_chunk(out, row.as_slice())?;
     }
     Ok(())
 }

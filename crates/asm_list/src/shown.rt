@@ -2,7 +2,7 @@
 
 ghost use Rattle.std.specs.Prelude.{◌≡◌, ◌≤◌, IfOk, not};
 ghost use Rattle.asm_defs.specs.Memory as memory;
-ghost use Rattle.asm_defs.specs.Statements as said;
+ghost use Rattle.asm_defs.specs.Statements as parsed;
 ghost use Rattle.asm_checks.specs.Answers.{Gives};
 ghost use Rattle.asm_checks.specs.Defined.{defined_statement, KeepsSkeleton, NamesOnly};
 ghost use Rattle.asm_checks.specs.Moves.{MovesLittle};
@@ -41,7 +41,7 @@ impl Lister<'_> {
         ensures { IfOk result (λ shown.
             Shows shown (spec.shown_line (known_to self.now) (line.now.here, line.now.text.items))) }
     {
-        match said_of(line.text.as_slice()) {
+        match parse_line(line.text.as_slice()) {
             Ok(statement) => self.shown_statement(line.here, &statement),
             Err(Failure::Refused(_)) => Ok(Shown {
                 at: line.here,
@@ -85,8 +85,8 @@ impl Lister<'_> {
 }
 
 /// What a line says.
-fn said_of(text: &[u8]) -> Result<Statement<'_>, Failure>
-    ensures said { Gives defined_statement result (said.said_of text.now) }
+fn parse_line(text: &[u8]) -> Result<Statement<'_>, Failure>
+    ensures parsed { Gives defined_statement result (parsed.parse_line text.now) }
     ensures little { IfOk result MovesLittle }
     ensures names { IfOk result NamesOnly }
     ensures skeleton { IfOk result KeepsSkeleton }

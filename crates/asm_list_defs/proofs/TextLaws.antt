@@ -12,8 +12,8 @@ use Rattle.asm_defs.specs.declared.causes.AsmCause.{AsmCause}
 use Rattle.asm_defs.specs.declared.location.Location.{Location}
 use Rattle.asm_defs.specs.Statements.{Statement, Nothing, Instruction, Aorg, Rorg, Dorg, Bss, Bes, Even, Equ, Data, Byte, Text, Def, Ref, Idt, Titl, End, statement_in, as_text}
 use Rattle.asm_defs.specs.Locations.{Line, location, place, behind}
-use Rattle.asm_defs.specs.FirstChecks.{Before, Said, Checked, Move, said, moved, checked, move, as_expr, check, known_of, line_of, absolute_in, value}
-use Rattle.asm_defs.specs.FirstChecks.{internal_number, known_here, is_too_far, is_bad, is_taken, any_known, label_in, refs_in, label_entry, external_entries}
+use Rattle.asm_defs.specs.FirstChecks.{EarlierLines, ParsedLine, Checked, LocationChange, parsed, moved, checked, move, as_expr, check, known_of, line_of, absolute_in, value}
+use Rattle.asm_defs.specs.FirstChecks.{non_external_number, non_external, is_too_far, is_bad, is_taken, any_known, label_in, refs_in, label_entry, external_entries}
 use Rattle.asm_defs.proofs.CheckLaws.{bound, checked_said}
 use Rattle.asm_list_defs.specs.Listed.{Shown, shown_at, shown, heres, defined, paired}
 use Rattle.asm_list_defs.specs.ByText.{gap_said, shown_said, shown_text, shown_line, refs_by, names_by, names_text}
@@ -29,26 +29,26 @@ laid_answers a b = a ≡ b
 abbrev answers : {A : Type 0} → Result A ExprError → Result A ExprError → Type 0
 answers a b = a ≡ b
 
-ok_gap : (gap : ℕ) (made found : Move) → answers (Ok made) (Ok found) → made.gap ≡ gap → found.gap ≡ gap
-ok_gap gap made found e is = let same : made ≡ found = cc e in subst (λ (move : Move). move.gap ≡ gap) same is
+ok_gap : (gap : ℕ) (made found : LocationChange) → answers (Ok made) (Ok found) → made.gap ≡ gap → found.gap ≡ gap
+ok_gap gap made found e is = let same : made ≡ found = cc e in subst (λ (move : LocationChange). move.gap ≡ gap) same is
 
-gap_by : {A : Type 0} (gap : ℕ) (answer : Result A ExprError) (make : A → Result Move ExprError) (found : Move) → (answer >>= make) ≡ Ok found
+gap_by : {A : Type 0} (gap : ℕ) (answer : Result A ExprError) (make : A → Result LocationChange ExprError) (found : LocationChange) → (answer >>= make) ≡ Ok found
     → ((value : A) → make value ≡ Ok found → found.gap ≡ gap) → found.gap ≡ gap
 gap_by gap (Ok value) make found e each = each value e
 gap_by gap (Err error) make found e each = cc e
 
 module _ (known : Names) (here : Location) (reached : ℕ) where
-  move_gap : (statement : Statement) (found : Move) → move known here reached statement ≡ Ok found → found.gap ≡ gap_said here statement
+  move_gap : (statement : Statement) (found : LocationChange) → move known here reached statement ≡ Ok found → found.gap ≡ gap_said here statement
   move_gap Nothing found e = ok_gap _ _ found e refl
   move_gap (Instruction size operation field) found e = ok_gap _ _ found e refl
   move_gap (Aorg text) found e = gap_by 0 (absolute_in known here text) _ found e (λ value f. ok_gap 0 _ found f refl)
   move_gap (Rorg None) found e = ok_gap _ _ found e refl
-  move_gap (Rorg (Some text)) found e = gap_by 0 (value known here text >>= internal_number) _ found e (λ value f. ok_gap 0 _ found f refl)
+  move_gap (Rorg (Some text)) found e = gap_by 0 (value known here text >>= non_external_number) _ found e (λ value f. ok_gap 0 _ found f refl)
   move_gap (Dorg text) found e = gap_by 0 (absolute_in known here text) _ found e (λ value f. ok_gap 0 _ found f refl)
   move_gap (Bss text) found e = gap_by 0 (absolute_in known here text) _ found e (λ value f. ok_gap 0 _ found f refl)
   move_gap (Bes text) found e = gap_by 0 (absolute_in known here text) _ found e (λ value f. ok_gap 0 _ found f refl)
   move_gap Even found e = ok_gap _ _ found e refl
-  move_gap (Equ text) found e = gap_by 0 (value known here text >>= known_here) _ found e (λ value f. ok_gap 0 _ found f refl)
+  move_gap (Equ text) found e = gap_by 0 (value known here text >>= non_external) _ found e (λ value f. ok_gap 0 _ found f refl)
   move_gap (Data texts) found e = ok_gap _ _ found e refl
   move_gap (Byte texts) found e = ok_gap _ _ found e refl
   move_gap (Text quoted) found e = ok_gap _ _ found e refl
@@ -66,8 +66,8 @@ at_line_ok : {A : Type 0} (number : ℕ) (answer : Result A AsmCause) (found : A
 at_line_ok number (Ok value) found e = cc e
 at_line_ok number (Err refused) found e = cc e
 
-module _ (before : Before) where
-  moved_gap : (line : Said) (found : Checked) → moved before line ≡ Ok found → found.move.gap ≡ gap_said before.location found.statement
+module _ (before : EarlierLines) where
+  moved_gap : (line : ParsedLine) (found : Checked) → moved before line ≡ Ok found → found.move.gap ≡ gap_said before.location found.statement
   unfolding moved
   moved_gap line found e =
       let a = bound (as_expr (move before.names before.location before.reached line.statement)) _ found e in
@@ -76,12 +76,12 @@ module _ (before : Before) where
       let far = let_through (is_too_far before line.statement a.0) _ a.0 b.0 b.1 in
       let c = let_through (is_bad before line.label line.statement) _ (record { label = line.label; statement = line.statement; move = b.0 }) found b.2 in
       let gap : b.0.gap ≡ gap_said before.location line.statement =
-      subst (λ (m : Move). m.gap ≡ gap_said before.location line.statement) far.1
+      subst (λ (m : LocationChange). m.gap ≡ gap_said before.location line.statement) far.1
       (move_gap before.names before.location before.reached line.statement a.0 is) in
       subst (λ (found : Checked). found.move.gap ≡ gap_said before.location found.statement) c.1 gap
 
   checked_gap : (text : List ℕ) (found : Checked) → checked before text ≡ Ok found → found.move.gap ≡ gap_said before.location found.statement
-  checked_gap text found e = let a = bound (said before text) _ found e in moved_gap a.0 found a.2
+  checked_gap text found e = let a = bound (parsed before text) _ found e in moved_gap a.0 found a.2
 
 shown_by : (known : Option Names) (here : Location) (statement : Statement) (gap number : ℕ) (found : Checked) → found.statement ≡ statement → found.move.gap ≡ gap
     → shown_at known (behind here found.move.gap) (line_of number found) ≡ shown_at known (behind here gap) (line_of number found)
@@ -117,9 +117,9 @@ text_ok : {A : Type 0} (answer : Result A TextError) (found : A) → as_text ans
 text_ok (Ok value) found e = cc e
 text_ok (Err error) found e = cc e
 
-module _ (before : Before) (text : List ℕ) where
-  said_names : (line : Said) → said before text ≡ Ok line → names_text text ≡ label_in line.label ++ refs_in line.statement
-  unfolding said
+module _ (before : EarlierLines) (text : List ℕ) where
+  said_names : (line : ParsedLine) → parsed before text ≡ Ok line → names_text text ≡ label_in line.label ++ refs_in line.statement
+  unfolding parsed
   said_names line e =
       let a = bound (as_text (fields text)) _ line e in
       let fields_are = text_ok (fields text) a.0 a.1 in
@@ -130,9 +130,9 @@ module _ (before : Before) (text : List ℕ) where
       ap (names_by text) fields_are
       ∙ (ap (λ answer. label_in a.0.label ++ refs_by answer) c.1
       ∙ (ap (λ (label : Option (List ℕ)). label_in label ++ refs_in c.0) label.1
-      ∙ ap (λ (line : Said). label_in line.label ++ refs_in line.statement) made.1))
+      ∙ ap (λ (line : ParsedLine). label_in line.label ++ refs_in line.statement) made.1))
 
-  moved_said : (line : Said) (found : Checked) → moved before line ≡ Ok found → label_in line.label ++ refs_in line.statement ≡ label_in found.label ++ refs_in found.statement
+  moved_said : (line : ParsedLine) (found : Checked) → moved before line ≡ Ok found → label_in line.label ++ refs_in line.statement ≡ label_in found.label ++ refs_in found.statement
   unfolding moved
   moved_said line found e =
       let a = bound (as_expr (move before.names before.location before.reached line.statement)) _ found e in
@@ -143,7 +143,7 @@ module _ (before : Before) (text : List ℕ) where
 
   checked_names : (found : Checked) → checked before text ≡ Ok found → names_text text ≡ label_in found.label ++ refs_in found.statement
   checked_names found e =
-      let a = bound (said before text) _ found e in
+      let a = bound (parsed before text) _ found e in
       said_names a.0 a.1 ∙ moved_said a.0 found a.2
 
 names_are : (before : List Line) (number : ℕ) (text : List ℕ) (found : Line) → check before number text ≡ Ok found

@@ -5,7 +5,7 @@ use Rattle.source_defs.specs.Fields.{Fields, fields}
 use Rattle.source_defs.specs.Symbols.{Names, look_up}
 use Rattle.asm_defs.specs.declared.causes.AsmCause.{AsmCause}
 use Rattle.asm_defs.specs.declared.location.Location.{Location}
-use Rattle.asm_defs.specs.Statements.{Statement, Instruction, Even, Data, statement_in, said_of}
+use Rattle.asm_defs.specs.Statements.{Statement, Instruction, Even, Data, statement_in, parse_line}
 use Rattle.asm_defs.specs.Locations.{behind, to_even}
 use Rattle.asm_defs.specs.FirstChecks.{label_in, refs_in}
 use Rattle.asm_defs.specs.SecondChecks.{Nothing, outcome}
@@ -35,7 +35,7 @@ shown_text known here (Ok statement) = shown_said known here statement
 shown_text known here (Err cause) = record { at = here; outcome = Nothing }
 
 abbrev pub shown_line : Option Names → Location × List ℕ → Shown
-shown_line known line = shown_text known line.0 (said_of line.1)
+shown_line known line = shown_text known line.0 (parse_line line.1)
 
 -- the names that a line defines: its label, and those of REF
 abbrev pub refs_by : Result Statement AsmCause → List (List ℕ)

@@ -8,7 +8,7 @@ use Rattle.std.specs.Prelude.{ℕ, zero, suc, ◌+◌, ◌-◌, if◌then◌else
 use Rattle.std.specs.Prelude.{length, take, drop, map, replicate, codes, Option, Some, None}
 use Rattle.std.specs.List.{flat_map, concat}
 use Rattle.std.specs.Fmt.{decimal}
-use Rattle.source_defs.specs.Digits.{byte_digits, word_digits, marked_word}
+use Rattle.source_defs.specs.Digits.{byte_digits, word_digits, hex_word}
 use Rattle.source_defs.specs.Names.{same_text}
 use Rattle.source_defs.specs.Expression.{Value, Absolute, Relocatable, External, to_word}
 use Rattle.object_defs.specs.Digits.{padded}
@@ -31,7 +31,7 @@ part_mark part.Dummy = 0x2D
 
 -- a place, with a blank behind it
 unfoldable pub place_text : Location → List ℕ
-place_text at = marked_word (to_word at.number) ++ part_mark at.part ∷ 0x20 ∷ []
+place_text at = hex_word (to_word at.number) ++ part_mark at.part ∷ 0x20 ∷ []
 
 -- Profile: a word stands in six columns by its four digits. The mark `'` follows where the loader adds the module's
 -- address to it, and `*` where the loader puts the value of a name that another module defines: its digits are 0.
@@ -106,8 +106,8 @@ lines_rows before (line ∷ lines) =
 -- Profile: a name is shown by its value with its kind, the number of the line that defines it, and itself; and by the
 -- file, where the line stands in one that is copied.
 abbrev pub value_text : Option Value → List ℕ
-value_text (Some (Absolute number)) = marked_word number ++ codes "  absolute   "
-value_text (Some (Relocatable number)) = marked_word number ++ codes "' relocatable"
+value_text (Some (Absolute number)) = hex_word number ++ codes "  absolute   "
+value_text (Some (Relocatable number)) = hex_word number ++ codes "' relocatable"
 value_text (Some (External name)) = codes ">0000* external   "
 value_text None = codes ">0000  absolute   "
 

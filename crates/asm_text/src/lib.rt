@@ -37,7 +37,7 @@ pub use crate::name::Name;
 pub use crate::numbers::{decimal_up_to, hexadecimal_number};
 pub use crate::operand_field::operands;
 pub use crate::operand_iter::Operands;
-pub use crate::operand_lists::{at_most_one_of, one_of, operand_count, some_of};
+pub use crate::operand_lists::{one_operand, operand_count, operand_list, optional_operand};
 pub use crate::parentheses::parentheses_at;
 pub use crate::quoted_texts::{
     between_quotes, character_count, is_quoted, quoted, quoted_characters,

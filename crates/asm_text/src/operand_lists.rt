@@ -13,8 +13,8 @@ use source_defs::OperandError;
 ///
 /// # Errors
 /// `Count` comes where the field has none or several, and `Form` where its operand is empty.
-pub fn one_of(field: &[u8]) -> Result<&[u8], OperandError>
-    ensures text { seen (λ text. text.now) result ≡ spec.one_of (operand_texts field.now) }
+pub fn one_operand(field: &[u8]) -> Result<&[u8], OperandError>
+    ensures text { seen (λ text. text.now) result ≡ spec.one_operand (operand_texts field.now) }
     ensures part { IfOk result (λ text. length text.now ≤ length field.now) }
 {
     let mut parts = operands(field);
@@ -28,9 +28,9 @@ pub fn one_of(field: &[u8]) -> Result<&[u8], OperandError>
 ///
 /// # Errors
 /// `Count` comes where the field has several, and `Form` where its operand is empty.
-pub fn at_most_one_of(field: &[u8]) -> Result<Option<&[u8]>, OperandError>
+pub fn optional_operand(field: &[u8]) -> Result<Option<&[u8]>, OperandError>
     ensures { seen (λ text. option_map (λ found. found.now) text) result
-        ≡ spec.at_most_one_of (operand_texts field.now) }
+        ≡ spec.optional_operand (operand_texts field.now) }
 {
     let mut parts = operands(field);
     let Some(only) = parts.next() else {
@@ -57,22 +57,22 @@ fn written(text: &[u8]) -> Result<&[u8], OperandError>
 ///
 /// # Errors
 /// `Count` comes where the field has no operand, and `Form` where one is empty.
-pub fn some_of(field: &[u8]) -> Result<&[u8], OperandError>
-    ensures texts { seen (λ found. operand_texts found.now) result ≡ spec.some_of (operand_texts field.now) }
+pub fn operand_list(field: &[u8]) -> Result<&[u8], OperandError>
+    ensures texts { seen (λ found. operand_texts found.now) result ≡ spec.operand_list (operand_texts field.now) }
     ensures same { IfOk result (λ found. found.now ≡ field.now) }
 {
     if field.is_empty() {
         return Err(OperandError::Count);
     }
-    if all_written(field) {
+    if none_empty(field) {
         Ok(field)
     } else {
         Err(OperandError::Form)
     }
 }
 
-fn all_written(field: &[u8]) -> bool
-    ensures { result ≡ spec.all_written (operand_texts field.now) }
+fn none_empty(field: &[u8]) -> bool
+    ensures { result ≡ spec.none_empty (operand_texts field.now) }
 {
     for span in operands(field) {
         if span.start == span.end {

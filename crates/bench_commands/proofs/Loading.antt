@@ -6,7 +6,7 @@ use Rattle.gpl_source_defs.specs.declared.causes.GplCause.{GplCause}
 use Rattle.gpl_source_defs.specs.Programs.{Program}
 use Rattle.report_defs.specs.Report.{Report, EnteredReport, ProgramReport}
 use Rattle.bench_commands.specs.declared.commands.program.LoadedProgram.{LoadedProgram}
-use Rattle.reports.specs.declared.unreported.Unreported.{Unreported}
+use Rattle.reports.specs.declared.command_error.CommandError.{CommandError}
 use Rattle.reports.specs.Answers.{WantsMemory, error_answer}
 use Rattle.reports.proofs.Answers.{reported_as}
 use Rattle.bench_commands.specs.Loaded.{RunsNone, LoadsEntered, LoadsProgram, LoadsImage, LoadsSource}
@@ -31,9 +31,9 @@ module _ (Reports : Image → ℕ → Report → Type 0) where
       subst (λ (o : Result Program (Refusal GplCause)). ProgramReport Reports o report) (sym l.is) (of_entered l.program.image l.program.entry report x l.entered e)
 
 -- what comes of an image is what comes of its source
-pub source_loaded : (source : Result Program (Refusal GplCause)) (program : Program) (r : Result LoadedProgram Unreported) → source ≡ Ok program →
+pub source_loaded : (source : Result Program (Refusal GplCause)) (program : Program) (r : Result LoadedProgram CommandError) → source ≡ Ok program →
     LoadsImage program.image program.entry r → LoadsSource source r
 source_loaded source program (Ok x) is h = record { program = program; is = is; entered = h }
-source_loaded source program (Err unreported) is h =
-    reported_as (EnteredReport RunsNone program.image program.entry) (ProgramReport RunsNone source) WantsMemory (error_answer unreported)
+source_loaded source program (Err command_error) is h =
+    reported_as (EnteredReport RunsNone program.image program.entry) (ProgramReport RunsNone source) WantsMemory (error_answer command_error)
     (λ report e. subst (λ (s : Result Program (Refusal GplCause)). ProgramReport RunsNone s report) (sym is) e) h

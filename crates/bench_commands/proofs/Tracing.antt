@@ -100,7 +100,7 @@ module _ (shows : ShowsChanges) (input : List ℕ) (trace : Trace) (t : TracesSo
       (whole : (report : spec.Report) → spec.ProgramReport (spec.ReportsProgram (spec.shown_lines shows) trace.limit) (program_of_source input) report
       → p.Accepted command input report)
       (front : (report : spec.Report) → (length input ≤ spec.largest_input) × spec.ProgramReport (spec.ShowsSteps shows trace.limit) (program_of_source input) report
-      → p.FrontOn command input report) where
+      → p.PrefixOn command input report) where
     pub by_trace : (st : Status) → EndsTrace shows o trace st
         → EndsBy (input_program p) (run_of p no_usage command before after o) st
     by_trace st (inl w) =
@@ -109,7 +109,7 @@ module _ (shows : ShowsChanges) (input : List ℕ) (trace : Trace) (t : TracesSo
     by_trace st (inr b) =
         let shown = front_from (seen trace.session) in
         let le = within p no_usage command before after o input takes in
-        let on : p.FrontOn command input shown = front shown (le, front_reported) in
+        let on : p.PrefixOn command input shown = front shown (le, front_reported) in
         subst (EndsBy (input_program p) (run_of p no_usage command before after o)) (sym b.is)
         (by_front p no_usage command before after o shown (input, reading p no_usage command before after o input takes, on) (b.missed, b.silent))
 
@@ -122,7 +122,7 @@ module _ (command : Command) (before after : SourceState) (o : Outputs) (bytes :
   by_prepared (prepared.Trace trace) st (is, t) ends =
       by_trace changes_text bytes trace t bench_input no_usage command before after o takes
       (λ report on. subst (λ (k : Command). spec.AcceptedReport k bytes report) (sym is) on)
-      (λ report on. subst (λ (k : Command). spec.FrontOn k bytes report) (sym is) on) st ends
+      (λ report on. subst (λ (k : Command). spec.PrefixOn k bytes report) (sym is) on) st ends
 
 -- ---- a trace is written
 

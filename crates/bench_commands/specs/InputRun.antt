@@ -44,7 +44,7 @@ pub record InputCommands (C : Type 0) : Type 1 where
   -- the report of a command on bytes that are not too many
   pub Accepted : C → List ℕ → Report → Type 0
   -- what a command writes of it before its end is known
-  pub FrontOn : C → List ℕ → Report → Type 0
+  pub PrefixOn : C → List ℕ → Report → Type 0
 
 -- the report of a command on what it took
 abbrev pub Reports : {C : Type 0} → InputCommands C → C → SourceState → SourceState → Report → Type 0
@@ -54,7 +54,7 @@ Reports p command before after report =
 -- a front of it, which is written before its end is known
 abbrev pub Begins : {C : Type 0} → InputCommands C → C → SourceState → SourceState → Report → Type 0
 Begins p command before after front =
-    (bytes : List ℕ) × Reads (p.reads command) before after bytes × p.FrontOn command bytes front
+    (bytes : List ℕ) × Reads (p.reads command) before after bytes × p.PrefixOn command bytes front
 
 -- and nothing of it by a command that reads none
 abbrev pub Leaves : {C : Type 0} → InputCommands C → C → SourceState → SourceState → Type 0

@@ -3,7 +3,7 @@ use Rattle.word_listings.specs.Law.{EnteredListingsComeBack}
 use Rattle.word_listings.specs.Linking.{EnteredListingsLink}
 use Rattle.interp_build_defs.specs.Interpreter.{SourceGivesWords}
 use Rattle.interp_defs.specs.Machines.{MachinesMatchSteps}
-use Rattle.report_defs.specs.Laws.{FrontsBeginReports, ListedInputsComeBack, ListedBytesComeBack}
+use Rattle.report_defs.specs.Laws.{PrefixesBeginReports, ListedInputsComeBack, ListedBytesComeBack}
 use Rattle.report_defs.specs.Laws.{ListedWordsComeBack, EnteredWordsComeBack, EnteredWordsLink}
 use Rattle.reports.specs.RunLaws.{LawsOfProgram}
 use Rattle.bench_commands.specs.Bench.{bench_program}
@@ -16,7 +16,7 @@ use Rattle.bench_commands.specs.Bench.{bench_program}
 -- which have no limit of size.
 pub record LawsOfRuns : Type 0 where
   pub runs : LawsOfProgram bench_program
-  pub fronts : FrontsBeginReports
+  pub fronts : PrefixesBeginReports
   pub interpreter : SourceGivesWords
   pub machines : MachinesMatchSteps
   pub listed_bytes : ListedBytesComeBack

@@ -6,7 +6,7 @@ use Rattle.link_loader.specs.View.{defined_linked}
 use Rattle.link_loader.specs.declared.linked.Linked.{Linked}
 use Rattle.report_defs.specs.Exec.{IsStart}
 use Rattle.report_defs.specs.Report.{Report, Rejected}
-use Rattle.reports.specs.declared.unreported.Unreported.{Unreported}
+use Rattle.reports.specs.declared.command_error.CommandError.{CommandError}
 use Rattle.reports.specs.Answers.{WantsMemory, Reported, error_answer}
 
 -- the line of a refusal
@@ -14,11 +14,11 @@ abbrev pub RejectsAs : Result LinkedMemory (List ℕ) → Report → Type 0
 RejectsAs defined report = (line : List ℕ) × (defined ≡ Err line) × (report ≡ Rejected line)
 
 -- what is given is what is defined; want of memory says nothing
-abbrev pub LinksInput : Result Linked Unreported → Result LinkedMemory (List ℕ) → Type 0
+abbrev pub LinksInput : Result Linked CommandError → Result LinkedMemory (List ℕ) → Type 0
 LinksInput (Ok linked) defined = defined ≡ Ok (defined_linked linked)
-LinksInput (Err unreported) defined = Reported (RejectsAs defined) WantsMemory (error_answer unreported)
+LinksInput (Err command_error) defined = Reported (RejectsAs defined) WantsMemory (error_answer command_error)
 
 -- a machine at the entry of the linked memory, or why there is none
-abbrev pub StartsInput : Result MachineState Unreported → Result LinkedMemory (List ℕ) → Type 0
+abbrev pub StartsInput : Result MachineState CommandError → Result LinkedMemory (List ℕ) → Type 0
 StartsInput (Ok machine) defined = (linked : LinkedMemory) × (defined ≡ Ok linked) × IsStart linked machine
-StartsInput (Err unreported) defined = Reported (RejectsAs defined) WantsMemory (error_answer unreported)
+StartsInput (Err command_error) defined = Reported (RejectsAs defined) WantsMemory (error_answer command_error)

@@ -7,7 +7,7 @@ use Rattle.gpl_source_defs.specs.Programs.{Program}
 use Rattle.interp_defs.specs.Boot.{IsBoot}
 use Rattle.report_defs.specs.Report.{Report, EnteredReport, ProgramReport}
 use Rattle.bench_commands.specs.declared.commands.program.LoadedProgram.{LoadedProgram}
-use Rattle.reports.specs.declared.unreported.Unreported.{Unreported}
+use Rattle.reports.specs.declared.command_error.CommandError.{CommandError}
 use Rattle.reports.specs.Answers.{WantsMemory, Reported, error_answer}
 
 -- no program is run
@@ -23,10 +23,10 @@ pub record LoadsEntered (image : Image) (entry : Option ℕ) (loaded : LoadedPro
   pub boots : IsBoot bytes address loaded.machine
   pub size : loaded.image_size ≡ length (written_bytes image)
 
-abbrev pub LoadsImage : Image → Option ℕ → Result LoadedProgram Unreported → Type 0
+abbrev pub LoadsImage : Image → Option ℕ → Result LoadedProgram CommandError → Type 0
 LoadsImage image entry (Ok program) = LoadsEntered image entry program
-LoadsImage image entry (Err unreported) =
-    Reported (EnteredReport RunsNone image entry) WantsMemory (error_answer unreported)
+LoadsImage image entry (Err command_error) =
+    Reported (EnteredReport RunsNone image entry) WantsMemory (error_answer command_error)
 
 -- a source that is accepted
 pub record LoadsProgram (source : Result Program (Refusal GplCause)) (loaded : LoadedProgram) : Type 0 where
@@ -34,6 +34,6 @@ pub record LoadsProgram (source : Result Program (Refusal GplCause)) (loaded : L
   pub is : source ≡ Ok program
   pub entered : LoadsEntered program.image program.entry loaded
 
-abbrev pub LoadsSource : Result Program (Refusal GplCause) → Result LoadedProgram Unreported → Type 0
+abbrev pub LoadsSource : Result Program (Refusal GplCause) → Result LoadedProgram CommandError → Type 0
 LoadsSource source (Ok program) = LoadsProgram source program
-LoadsSource source (Err unreported) = Reported (ProgramReport RunsNone source) WantsMemory (error_answer unreported)
+LoadsSource source (Err command_error) = Reported (ProgramReport RunsNone source) WantsMemory (error_answer command_error)

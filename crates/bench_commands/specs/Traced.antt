@@ -22,7 +22,7 @@ use Rattle.bench_commands.specs.declared.commands.program.LoadedProgram.{LoadedP
 use Rattle.bench_commands.specs.declared.prepared.Prepared.{Prepared}
 use Rattle.bench_commands.specs.declared.prepared.Prepared.TheVariants as prepared
 use Rattle.bench_commands.specs.declared.trace.Trace.{Trace}
-use Rattle.reports.specs.declared.unreported.Unreported.{Unreported}
+use Rattle.reports.specs.declared.command_error.CommandError.{CommandError}
 use Rattle.reports.specs.Made.{defined_report}
 use Rattle.reports.specs.Answers.{WantsMemory, Reported, error_answer}
 use Rattle.bench_commands.specs.Loaded.{LoadsProgram, RunsNone}
@@ -51,16 +51,16 @@ pub record TracesSource (input : List ℕ) (trace : Trace) : Type 0 where
   pub can : CanTrace trace
 
 -- a trace of a source for up to so many steps, or why there is none
-abbrev pub StartsTrace : ℕ → List ℕ → Result Trace Unreported → Type 0
+abbrev pub StartsTrace : ℕ → List ℕ → Result Trace CommandError → Type 0
 StartsTrace limit input (Ok trace) = (trace.limit ≡ limit) × TracesSource input trace
-StartsTrace limit input (Err unreported) =
-    Reported (ProgramReport RunsNone (program_of_source input)) WantsMemory (error_answer unreported)
+StartsTrace limit input (Err command_error) =
+    Reported (ProgramReport RunsNone (program_of_source input)) WantsMemory (error_answer command_error)
 
 -- what is made of an input that is not too large, or why nothing is
-abbrev pub Prepares : Command → List ℕ → Result Prepared Unreported → Type 0
+abbrev pub Prepares : Command → List ℕ → Result Prepared CommandError → Type 0
 Prepares command input (Ok (prepared.Report report)) = AcceptedReport command input (defined_report report)
 Prepares command input (Ok (prepared.Trace trace)) = (command ≡ asked.Trace trace.limit) × TracesSource input trace
-Prepares command input (Err unreported) = Reported (AcceptedReport command input) WantsMemory (error_answer unreported)
+Prepares command input (Err command_error) = Reported (AcceptedReport command input) WantsMemory (error_answer command_error)
 
 -- The program was run, and its report was written, or a front of it.
 pub record TracesWhole (shows : ShowsChanges) (o : Outputs) (trace : Trace) (status : Status) : Type 0 where

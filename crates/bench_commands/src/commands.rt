@@ -29,7 +29,7 @@ use crate::commands::run::run;
 use crate::commands::trace::trace;
 use crate::prepared::Prepared;
 use report_defs::Command;
-use reports::Unreported;
+use reports::CommandError;
 use std::alloc::Global;
 
 /// What a command makes of an input that is not too large.
@@ -37,7 +37,7 @@ pub(crate) fn prepare(
     alloc: Global,
     command: Command,
     input: Vec<u8>,
-) -> Result<Prepared, Unreported>
+) -> Result<Prepared, CommandError>
     requires size { vec_len input ≤ largest_input }
     requires limit { KeepsLimit command }
     ensures { Prepares command input.items result }

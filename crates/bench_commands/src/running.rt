@@ -11,7 +11,7 @@ use crate::input::take_input;
 use bench_io::{Sink, Source};
 use command_words::{Words, read_command};
 use report_defs::{Command, Fault, Status};
-use reports::{Unreported, finish};
+use reports::{CommandError, finish};
 use std::alloc::Global;
 
 /// Runs the command that the words say. It reads all of `input` before it writes, writes the report to `out`, or a
@@ -47,7 +47,7 @@ pub fn bench<S: Source, O: Sink, E: Sink>(
 {
     match read_command(words) {
         Some(command) => run_command(alloc, command, input, out, err),
-        None => finish(&Err(Unreported::Fault(Fault::Usage)), out, err),
+        None => finish(&Err(CommandError::Fault(Fault::Usage)), out, err),
     }
 }
 
@@ -78,6 +78,6 @@ pub fn run_command<S: Source, O: Sink, E: Sink>(
     };
     match prepare(alloc, command, bytes) {
         Ok(prepared) => prepared.finish(out, err),
-        Err(unreported) => finish(&Err(unreported), out, err),
+        Err(command_error) => finish(&Err(command_error), out, err),
     }
 }

@@ -2,7 +2,7 @@
 use Rattle.std.proofs.Common.{◌≡◌, ℕ, ◌+◌, ◌≤◌, max, List, [], ◌++◌, length, take, Option, Some, None, sym}
 use Rattle.std.proofs.Common.{refl, ap, ◌∙◌, append_assoc, append-nil, length-append, length-take, arith}
 use Rattle.std.specs.Option.{option_map}
-use Rattle.count_defs.specs.Counts.{raised, Rose}
+use Rattle.count_defs.specs.Counts.{saturating_sum, Rose}
 use Rattle.bench_io.specs.Stream.{SourceState, Gave, GaveMore, GaveNoMore, empty_calls}
 use Rattle.bench_io.specs.ReadAll.{Took}
 
@@ -19,9 +19,9 @@ gave_more a b (Some rest) x y h k = h ∙ (ap (option_map (λ r. x ++ r)) k ∙ 
 pub took_once : (a b : SourceState) (count : ℕ) (buffer : List ℕ)
     → count ≤ length buffer
     → Gave a.left b.left (take count buffer)
-    → b.calls ≡ raised a.calls 1
-    → b.taken ≡ raised a.taken count
-    → b.empty ≡ raised a.empty (empty_calls count)
+    → b.calls ≡ saturating_sum a.calls 1
+    → b.taken ≡ saturating_sum a.taken count
+    → b.empty ≡ saturating_sum a.empty (empty_calls count)
     → a.faults ≤ b.faults
     → GaveMore count a b
     → Took a b (take count buffer) (empty_calls count)
@@ -41,9 +41,9 @@ took_once a b count buffer within gave calls taken empty faults more =
 -- one call that failed
 pub failed_once : (a b : SourceState)
     → b.left ≡ a.left
-    → b.calls ≡ raised a.calls 1
+    → b.calls ≡ saturating_sum a.calls 1
     → b.taken ≡ a.taken
-    → b.empty ≡ raised a.empty 1
+    → b.empty ≡ saturating_sum a.empty 1
     → a.faults ≤ b.faults
     → GaveNoMore a b
     → Took a b [] 1
@@ -94,7 +94,7 @@ took_more a b c x y n some before more =
 pub few_calls : (a b : SourceState) (x : List ℕ) (n limit : ℕ)
     → Took a b x n
     → length x + n ≤ limit + 1
-    → (count : ℕ) × (count ≤ limit + 1) × (b.calls ≡ raised a.calls count)
+    → (count : ℕ) × (count ≤ limit + 1) × (b.calls ≡ saturating_sum a.calls count)
 few_calls a b x n limit took few = (took.made.0, omega (arith, took.made.1), took.made.2)
 
 -- what rose in the last call rose since the first

@@ -5,7 +5,7 @@ use Rattle.std.specs.Prelude.{OnOk, OnErr}
 use Rattle.std.specs.Option.{option_map}
 use Rattle.std.specs.List.{concat}
 use Rattle.std.proofs.lemmas.List.Folds.{concat-append}
-use Rattle.count_defs.specs.Counts.{raised, Rose}
+use Rattle.count_defs.specs.Counts.{saturating_sum, Rose}
 use Rattle.bench_io.specs.Stream.{SinkState, Grew, GrewByPrefix}
 use Rattle.bench_io.specs.Written.{Wrote, Missed, Written}
 
@@ -58,10 +58,10 @@ missed_early a b xs ys p = record {
 }
 
 -- one piece
-pub wrote_one : (a b : SinkState) (x : List ℕ) → Grew a.held b.held x → b.puts ≡ raised a.puts 1 → a.faults ≤ b.faults → Wrote a b (x ∷ [])
+pub wrote_one : (a b : SinkState) (x : List ℕ) → Grew a.held b.held x → b.puts ≡ saturating_sum a.puts 1 → a.faults ≤ b.faults → Wrote a b (x ∷ [])
 wrote_one a b x held puts faults = record { held = rw append-nil held; puts = puts; faults = faults }
 
-pub missed_one : (a b : SinkState) (x : List ℕ) → GrewByPrefix a.held b.held x → b.puts ≡ raised a.puts 1 → Rose a.faults b.faults → Missed a b (x ∷ [])
+pub missed_one : (a b : SinkState) (x : List ℕ) → GrewByPrefix a.held b.held x → b.puts ≡ saturating_sum a.puts 1 → Rose a.faults b.faults → Missed a b (x ∷ [])
 missed_one a b x held puts rose = record { done = []; piece = x; left = []; are = refl; held = held; puts = puts; rose = rose }
 
 -- what comes of pieces that are written behind others
@@ -71,7 +71,7 @@ written_more (Err error) a b c xs ys p q = missed_more a b c xs ys p q
 
 -- what comes of one piece
 pub written_one : {T E : Type 0} (r : Result T E) (a b : SinkState) (x : List ℕ) → OnOk r (Grew a.held b.held x)
-    → OnErr r (GrewByPrefix a.held b.held x) → b.puts ≡ raised a.puts 1 → a.faults ≤ b.faults → OnErr r (Rose a.faults b.faults)
+    → OnErr r (GrewByPrefix a.held b.held x) → b.puts ≡ saturating_sum a.puts 1 → a.faults ≤ b.faults → OnErr r (Rose a.faults b.faults)
     → Written r a b (x ∷ [])
 written_one (Ok done) a b x grew failed puts faults rose = wrote_one a b x grew puts faults
 written_one (Err error) a b x grew failed puts faults rose = missed_one a b x failed puts rose

@@ -1,6 +1,6 @@
 -- What reading a source whole does to it.
 use Rattle.std.specs.Prelude.{◌≡◌, ℕ, ◌+◌, ◌≤◌, max, List, length}
-use Rattle.count_defs.specs.Counts.{raised, Rose}
+use Rattle.count_defs.specs.Counts.{saturating_sum, Rose}
 use Rattle.bench_io.specs.Stream.{SourceState, Gave, IsAtEnd}
 use Rattle.bench_io.specs.declared.whole.ReadError.{ReadError}
 use Rattle.bench_io.specs.declared.whole.ReadError.TheVariants.{Fault, TooLarge, Memory}
@@ -9,11 +9,11 @@ use Rattle.bench_io.specs.declared.whole.ReadError.TheVariants.{Fault, TooLarge,
 -- byte, and each other call a byte or more. All of it counts as given of what was opened last.
 pub record Took (before after : SourceState) (bytes : List ℕ) (empty : ℕ) : Type 0 where
   pub told : Gave before.left after.left bytes
-  pub number : after.taken ≡ raised before.taken (length bytes)
-  pub made : (calls : ℕ) × (calls ≤ length bytes + empty) × (after.calls ≡ raised before.calls calls)
-  pub none : after.empty ≡ raised before.empty empty
+  pub number : after.taken ≡ saturating_sum before.taken (length bytes)
+  pub made : (calls : ℕ) × (calls ≤ length bytes + empty) × (after.calls ≡ saturating_sum before.calls calls)
+  pub none : after.empty ≡ saturating_sum before.empty empty
   pub faults : before.faults ≤ after.faults
-  pub given : after.given ≡ raised before.given (length bytes)
+  pub given : after.given ≡ saturating_sum before.given (length bytes)
   pub later : before.largest ≤ after.largest
   pub largest : after.largest ≤ max before.largest after.given
 

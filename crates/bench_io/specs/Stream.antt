@@ -2,7 +2,7 @@
 use Rattle.std.specs.Prelude.{◌≡◌, ℕ, ◌-◌, max, List, [], ◌++◌, take, Option, IfSome}
 use Rattle.std.specs.Option.{option_map}
 use Rattle.std.specs.Io.KnownBytes.{Appends}
-use Rattle.count_defs.specs.Counts.{raised}
+use Rattle.count_defs.specs.Counts.{saturating_sum}
 
 -- A source: the bytes that are left, where it tells them; how many calls of `take` were made, how many bytes they gave,
 -- how many of them gave no byte (at the end, or by failing), and how many failed. A source may be opened anew: how many
@@ -31,7 +31,7 @@ opened_once left calls taken empty faults =
 
 -- so many bytes more were given of what was opened last
 pub record GaveMore (count : ℕ) (before after : SourceState) : Type 0 where
-  pub given : after.given ≡ raised before.given count
+  pub given : after.given ≡ saturating_sum before.given count
   pub largest : after.largest ≡ max before.largest after.given
 
 -- no byte more was given of it
@@ -72,5 +72,5 @@ abbrev pub GrewByPrefix : Option (List ℕ) → Option (List ℕ) → List ℕ �
 GrewByPrefix old new bytes = (count : ℕ) × Grew old new (take count bytes)
 
 -- what a writer holds now, where it tells that: what it held before, and then a front of these bytes
-abbrev pub AppendsFront : Option (List ℕ) → Option (List ℕ) → List ℕ → Type 0
-AppendsFront old new bytes = (count : ℕ) × Appends old new (take count bytes)
+abbrev pub AppendsPrefix : Option (List ℕ) → Option (List ℕ) → List ℕ → Type 0
+AppendsPrefix old new bytes = (count : ℕ) × Appends old new (take count bytes)

@@ -17,4 +17,4 @@ pub use source::Source;
 pub use std_io::{StdSink, StdSource};
 pub use steady::{SteadySink, SteadySource};
 pub use whole::{ReadError, read_all};
-pub use written::put_piece;
+pub use written::put_chunk;

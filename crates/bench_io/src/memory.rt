@@ -3,7 +3,7 @@
 ghost use Rattle.std.specs.Prelude.{◌≡◌, ◌⊎◌, ◌↔◌, ◌<◌, ◌≤◌, ◌+◌, ◌-◌, min, ℕ, List, [], ◌++◌, length, take, drop};
 ghost use Rattle.std.specs.Prelude.{vec_len, vec_capacity, Option};
 ghost use Rattle.std.specs.Prelude.{Some, IsErr, IfOk, OnOk, OnErr, Contains};
-ghost use Rattle.count_defs.specs.Counts.{raised, Rose};
+ghost use Rattle.count_defs.specs.Counts.{saturating_sum, Rose};
 ghost use Rattle.bench_io.specs.Stream.{opened_once, empty_calls};
 
 use crate::{Failed, Sink, Source};
@@ -72,18 +72,18 @@ impl Source for MemSource {
         requires { 0 < length buffer.old }
         ensures fails { IsErr result ↔ Contains self.old.fails self.old.calls }
         ensures failed { OnErr result (self.new ≡ record self.old {
-          calls = raised self.old.calls 1;
-          empty = raised self.old.empty 1;
-          faults = raised self.old.faults 1;
+          calls = saturating_sum self.old.calls 1;
+          empty = saturating_sum self.old.empty 1;
+          faults = saturating_sum self.old.faults 1;
         }) }
         ensures cause { OnErr result (Rose self.old.faults self.new.faults) }
         ensures count { IfOk result (λ count. count ≡ min (length buffer.old) (length self.old.left)) }
         ensures bytes { IfOk result (λ count. buffer.new ≡ take count self.old.left ++ drop count buffer.old) }
         ensures ok { IfOk result (λ count. self.new ≡ record self.old {
           left = drop count self.old.left;
-          calls = raised self.old.calls 1;
-          taken = raised self.old.taken count;
-          empty = raised self.old.empty (empty_calls count);
+          calls = saturating_sum self.old.calls 1;
+          taken = saturating_sum self.old.taken count;
+          empty = saturating_sum self.old.empty (empty_calls count);
         }) }
     {
         let call = self.calls;
@@ -180,10 +180,10 @@ impl Sink for MemSink {
         ensures fails { IsErr result
             ↔ (Contains self.old.fails self.old.calls ⊎ (self.old.room < length self.old.held + length bytes.now)) }
         ensures failed { OnErr result
-            (self.new ≡ record self.old { calls = raised self.old.calls 1; faults = raised self.old.faults 1 }) }
+            (self.new ≡ record self.old { calls = saturating_sum self.old.calls 1; faults = saturating_sum self.old.faults 1 }) }
         ensures cause { OnErr result (Rose self.old.faults self.new.faults) }
         ensures ok { OnOk result
-            (self.new ≡ record self.old { held = self.old.held ++ bytes.now; calls = raised self.old.calls 1 }) }
+            (self.new ≡ record self.old { held = self.old.held ++ bytes.now; calls = saturating_sum self.old.calls 1 }) }
     {
         let call = self.calls;
         self.calls = call.saturating_add(1);

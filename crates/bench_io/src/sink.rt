@@ -1,7 +1,7 @@
 //! Where the bytes of a report go.
 
 ghost use Rattle.std.specs.Prelude.{◌≡◌, ◌≤◌, OnOk, OnErr};
-ghost use Rattle.count_defs.specs.Counts.{raised, Rose};
+ghost use Rattle.count_defs.specs.Counts.{saturating_sum, Rose};
 ghost use Rattle.bench_io.specs.Stream.{SinkState, Grew, GrewByPrefix};
 
 use crate::Failed;
@@ -20,7 +20,7 @@ pub trait Sink {
         ensures put { OnOk result (Grew (state self.old).held (state self.new).held bytes.now) }
         ensures failed { OnErr result (GrewByPrefix (state self.old).held (state self.new).held bytes.now) }
 
-        ensures puts { (state self.new).puts ≡ raised (state self.old).puts 1 }
+        ensures puts { (state self.new).puts ≡ saturating_sum (state self.old).puts 1 }
         ensures faults { (state self.old).faults ≤ (state self.new).faults }
         ensures cause { OnErr result (Rose (state self.old).faults (state self.new).faults) };
 }

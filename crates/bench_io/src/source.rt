@@ -1,7 +1,7 @@
 //! Where bytes come from.
 
 ghost use Rattle.std.specs.Prelude.{◌≡◌, ◌<◌, ◌≤◌, length, take, IfOk, OnErr};
-ghost use Rattle.count_defs.specs.Counts.{raised, Rose};
+ghost use Rattle.count_defs.specs.Counts.{saturating_sum, Rose};
 ghost use Rattle.bench_io.specs.Stream.{SourceState, Gave, GaveMore, GaveNoMore, IsAtEnd, empty_calls};
 
 use crate::Failed;
@@ -33,16 +33,16 @@ pub trait Source {
         ensures end { IfOk result (λ count. count ≡ 0 → IsAtEnd (state self.new).left) }
         ensures failed { OnErr result ((state self.new).left ≡ (state self.old).left) }
 
-        ensures calls { (state self.new).calls ≡ raised (state self.old).calls 1 }
-        ensures taken { IfOk result (λ count. (state self.new).taken ≡ raised (state self.old).taken count) }
+        ensures calls { (state self.new).calls ≡ saturating_sum (state self.old).calls 1 }
+        ensures taken { IfOk result (λ count. (state self.new).taken ≡ saturating_sum (state self.old).taken count) }
         ensures taken_failed { OnErr result ((state self.new).taken ≡ (state self.old).taken) }
 
         ensures given { IfOk result (λ count. GaveMore count (state self.old) (state self.new)) }
         ensures given_failed { OnErr result (GaveNoMore (state self.old) (state self.new)) }
 
         ensures empty { IfOk result
-            (λ count. (state self.new).empty ≡ raised (state self.old).empty (empty_calls count)) }
-        ensures empty_failed { OnErr result ((state self.new).empty ≡ raised (state self.old).empty 1) }
+            (λ count. (state self.new).empty ≡ saturating_sum (state self.old).empty (empty_calls count)) }
+        ensures empty_failed { OnErr result ((state self.new).empty ≡ saturating_sum (state self.old).empty 1) }
 
         ensures faults { (state self.old).faults ≤ (state self.new).faults }
         ensures cause { OnErr result (Rose (state self.old).faults (state self.new).faults) }

@@ -1,8 +1,8 @@
 //! A source and a sink over the readers and writers of std.
 
 ghost use Rattle.std.specs.Prelude.{◌≡◌, ◌<◌, ◌≤◌, length, None, IfOk, OnOk, OnErr};
-ghost use Rattle.count_defs.specs.Counts.{raised, Rose};
-ghost use Rattle.bench_io.specs.Stream.{AppendsFront, opened_once, empty_calls};
+ghost use Rattle.count_defs.specs.Counts.{saturating_sum, Rose};
+ghost use Rattle.bench_io.specs.Stream.{AppendsPrefix, opened_once, empty_calls};
 ghost use Rattle.std.specs.Io.KnownBytes.{Appends, ReadConsumes};
 
 use crate::{Failed, Sink, Source};
@@ -56,17 +56,17 @@ impl<R: Read + Drop> Source for StdSource<R> {
         ensures bytes { ReadConsumes self.old.left self.new.left result buffer.new }
         ensures ok { IfOk result (λ count. self.new ≡ record self.old {
           left = self.new.left;
-          calls = raised self.old.calls 1;
-          taken = raised self.old.taken count;
-          given = raised self.old.given count;
-          largest = raised self.old.largest count;
-          empty = raised self.old.empty (empty_calls count);
+          calls = saturating_sum self.old.calls 1;
+          taken = saturating_sum self.old.taken count;
+          given = saturating_sum self.old.given count;
+          largest = saturating_sum self.old.largest count;
+          empty = saturating_sum self.old.empty (empty_calls count);
         }) }
         ensures error { OnErr result (self.new ≡ record self.old {
           left = self.new.left;
-          calls = raised self.old.calls 1;
-          empty = raised self.old.empty 1;
-          faults = raised self.old.faults 1;
+          calls = saturating_sum self.old.calls 1;
+          empty = saturating_sum self.old.empty 1;
+          faults = saturating_sum self.old.faults 1;
         }) }
     {
         self.calls = self.calls.saturating_add(1);
@@ -126,12 +126,12 @@ impl<W: Write + Drop> Sink for StdSink<W> {
     fn put(&mut self, bytes: &[u8]) -> Result<(), Failed>
         ensures cause { OnErr result (Rose self.old.faults self.new.faults) }
         ensures bytes { OnOk result (Appends self.old.held self.new.held bytes.now) }
-        ensures front { OnErr result (AppendsFront self.old.held self.new.held bytes.now) }
-        ensures ok { OnOk result (self.new ≡ record self.old { held = self.new.held; puts = raised self.old.puts 1 }) }
+        ensures front { OnErr result (AppendsPrefix self.old.held self.new.held bytes.now) }
+        ensures ok { OnOk result (self.new ≡ record self.old { held = self.new.held; puts = saturating_sum self.old.puts 1 }) }
         ensures error { OnErr result (self.new ≡ record self.old {
           held = self.new.held;
-          puts = raised self.old.puts 1;
-          faults = raised self.old.faults 1;
+          puts = saturating_sum self.old.puts 1;
+          faults = saturating_sum self.old.faults 1;
         }) }
     {
         self.puts = self.puts.saturating_add(1);
@@ -148,7 +148,7 @@ impl<W: Write + Drop> Sink for StdSink<W> {
 /// Writes all of some bytes to a writer. A write that was interrupted is made again.
 fn write_whole<W: Write>(writer: &mut W, bytes: &[u8]) -> Result<(), Failed>
     ensures bytes { OnOk result (Appends (W.contents writer.old) (W.contents writer.new) bytes.now) }
-    ensures front { OnErr result (AppendsFront (W.contents writer.old) (W.contents writer.new) bytes.now) }
+    ensures front { OnErr result (AppendsPrefix (W.contents writer.old) (W.contents writer.new) bytes.now) }
 {
     let mut rest = bytes;
     for _ in 0..u64::MAX {

@@ -2,7 +2,7 @@
 
 ghost use Rattle.std.specs.Prelude.{◌≡◌, ◌<◌, ◌≤◌, ◌+◌, min, ℕ, List, [], ◌++◌, length, take, drop, vec_len, Option};
 ghost use Rattle.std.specs.Prelude.{Some, None, IsOk, IsOkAnd, IfOk};
-ghost use Rattle.count_defs.specs.Counts.{raised};
+ghost use Rattle.count_defs.specs.Counts.{saturating_sum};
 ghost use Rattle.bench_io.specs.Stream.{opened_once, empty_calls};
 
 use crate::memory::copy_front;
@@ -62,9 +62,9 @@ impl Source for SteadySource {
         ensures bytes { IfOk result (λ count. buffer.new ≡ take count self.old.left ++ drop count buffer.old) }
         ensures ok { IfOk result (λ count. self.new ≡ record self.old {
           left = drop count self.old.left;
-          calls = raised self.old.calls 1;
-          taken = raised self.old.taken count;
-          empty = raised self.old.empty (empty_calls count);
+          calls = saturating_sum self.old.calls 1;
+          taken = saturating_sum self.old.taken count;
+          empty = saturating_sum self.old.empty (empty_calls count);
         }) }
     {
         self.calls = self.calls.saturating_add(1);
@@ -105,7 +105,7 @@ impl Sink for SteadySink {
 
     fn put(&mut self, _bytes: &[u8]) -> Result<(), Failed>
         ensures steady { IsOk result }
-        ensures puts { self.new ≡ record self.old { puts = raised self.old.puts 1 } }
+        ensures puts { self.new ≡ record self.old { puts = saturating_sum self.old.puts 1 } }
     {
         self.puts = self.puts.saturating_add(1);
         Ok(())

@@ -1,7 +1,7 @@
 //! A source that is read to its end.
 
 ghost use Rattle.std.specs.Prelude.{◌≡◌, ◌<◌, ◌≤◌, ◌+◌, ℕ, [], length, take, IfOk, IfErr, OnErr};
-ghost use Rattle.count_defs.specs.Counts.{raised, Rose};
+ghost use Rattle.count_defs.specs.Counts.{saturating_sum, Rose};
 ghost use Rattle.bench_io.specs.ReadAll.{ReadWhole, GaveUp, Took};
 ghost use Rattle.bench_io.specs.Stream.{GaveMore, IsAtEnd, empty_calls};
 ghost use Rattle.bench_io.specs.declared.whole.ReadError.TheVariants.{Fault, Memory};
@@ -60,7 +60,7 @@ pub fn read_all<S: Source>(
     // `TooLarge` comes exactly where more than `limit` bytes were taken, and then one more were.
     ensures err { IfErr result (λ error. GaveUp error limit (S.state source.old) (S.state source.new)) }
     ensures calls { (count : ℕ) × (count ≤ limit + 1)
-        × ((S.state source.new).calls ≡ raised (S.state source.old).calls count) }
+        × ((S.state source.new).calls ≡ saturating_sum (S.state source.old).calls count) }
     ensures kept { S.kept source.new ≡ S.kept source.old }
 {
     let mut bytes = Vec::new(alloc);

@@ -10,7 +10,7 @@ use crate::{Failed, Sink};
 /// # Errors
 /// As [`Sink::put`].
 #[tactic(auto, using(crate::proofs::Writing::written_one))]
-pub fn put_piece<K: Sink>(sink: &mut K, piece: &[u8]) -> Result<(), Failed>
+pub fn put_chunk<K: Sink>(sink: &mut K, piece: &[u8]) -> Result<(), Failed>
     ensures { Written result (K.state sink.old) (K.state sink.new) (piece.now ∷ []) }
 {
     sink.put(piece)

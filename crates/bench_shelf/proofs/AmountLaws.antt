@@ -1,6 +1,6 @@
 -- How much is taken of the files that are asked for.
 use Rattle.std.proofs.Common.{◌≡◌, ◌≤◌, ℕ, ◌+◌, ◌-◌, ◌*◌, List, [], ◌∷◌, ◌++◌, length, subst, arith, mul-suc, mul-le-mul_left}
-use Rattle.count_defs.specs.Counts.{raised}
+use Rattle.count_defs.specs.Counts.{saturating_sum}
 use Rattle.shelf_defs.specs.Questions.{Answer, Bytes, Question}
 use Rattle.shelf_defs.specs.Amounts.{IsTaken, AreTaken}
 use Rattle.bench_shelf.specs.States.{ShelfState}
@@ -38,7 +38,7 @@ taken_most limit (x ∷ xs) bytes empty (n, m, one, few, less, rest) =
 -- what is taken of a shelf at most
 pub dialogue_takes : (limit most : ℕ) (IsNext : List Question → Question → Type 0) (before after : ShelfState) (questions : List Question)
     → Dialogue limit most IsNext before after questions
-    → (after.opens ≤ raised before.opens most) × (after.source.taken ≤ raised before.source.taken ((limit + 1) * most))
+    → (after.opens ≤ saturating_sum before.opens most) × (after.source.taken ≤ saturating_sum before.source.taken ((limit + 1) * most))
 dialogue_takes limit most IsNext before after questions dialogue =
     let reads = dialogue.reads in
     let all = taken_most limit questions reads.bytes reads.empty reads.amounts in

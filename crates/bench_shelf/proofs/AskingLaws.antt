@@ -14,7 +14,7 @@ use Rattle.bench_shelf.specs.States.{ShelfState, asked_more}
 use Rattle.bench_shelf.specs.Causes.{ReadsOnce}
 use Rattle.std.proofs.lemmas.List.{map-append}
 use Rattle.bench_shelf.proofs.AmountLaws.{taken_then}
-use Rattle.bench_shelf.specs.Leading.{Leads, IsNextAfter, Asking, AllGiven, IsGiven, EndsBy}
+use Rattle.bench_shelf.specs.Leading.{CopiesTo, IsNextAfter, Asking, AllGiven, IsGiven, EndsBy}
 
 -- contents that have the answers of some questions and of others
 module _ (limit : ℕ) (contents : Contents) where
@@ -127,8 +127,8 @@ turns_as IsNext Other each front (x ∷ xs) turns =
 
 -- what is asked after some questions that were answered
 module _ (old now : Copying) (whole line : Contents → Copied) (asked : List Question) (number : now.copies ≡ old.copies + length asked)
-    (on : (contents : Contents) → Agrees most_bytes contents old.copies asked → (error : CopyError) (last : Copying) → Leads now (line contents) (Some error) last
-    → Leads old (whole contents) (Some error) last) where
+    (on : (contents : Contents) → Agrees most_bytes contents old.copies asked → (error : CopyError) (last : Copying) → CopiesTo now (line contents) (Some error) last
+    → CopiesTo old (whole contents) (Some error) last) where
   next_on : (front : List Question) (x : Question) → IsNextAfter now line front x → IsNextAfter old whole (asked ++ front) x
   next_on front x (place, next) = (
     place,

@@ -19,7 +19,7 @@ use Rattle.bench_shelf.specs.declared.copy_error.CopyCause.{CopyCause}
 use Rattle.bench_shelf.specs.declared.copy_error.CopyCause.TheVariants as cause
 use Rattle.bench_shelf.specs.CopyAnswers.{CopyRefuses, IsNoMemory, defined_cause, defined_place, refused_at, unread_at}
 use Rattle.shelf_defs.specs.Questions.{Answer, Bytes, Unanswered, Question, Agrees, Fits}
-use Rattle.bench_shelf.specs.Leading.{Holds, Leads, LeadsTo, Copies, Asking, EndsBy}
+use Rattle.bench_shelf.specs.Leading.{Holds, CopiesTo, LeadsTo, Copies, Asking, EndsBy}
 use Rattle.bench_shelf.specs.Causes.{AsksOne, answer_by, IsOfName}
 use Rattle.bench_shelf.specs.States.{ShelfState}
 use Rattle.bench_shelf.proofs.StoppingLaws.{told_by}
@@ -27,7 +27,7 @@ use Rattle.bench_shelf.proofs.AskingLaws.{agrees_front, none_follow, shown_one, 
 
 -- what is refused behind lines that were taken
 pub leads_refusal : (old last : Copying) (copies : ℕ) (refusal : CopyRefusal) (error : CopyError) → CopyRefuses {B = List Line} error (Err refusal)
-    → ((done : List PlacedLine) → Holds done old → Holds done last) → Leads old (refused copies refusal) (Some error) last
+    → ((done : List PlacedLine) → Holds done old → Holds done last) → CopiesTo old (refused copies refusal) (Some error) last
 leads_refusal old last copies refusal error refuses same done holds =
     let none : done ++ [] ≡ done = append-nil done in
     let whole : laid_copied (prepend done (refused copies refusal)) ≡ Err refusal =
@@ -47,7 +47,7 @@ refuses_none old found place refusal kept error s same memory is refuses =
       asking = asking_none old old found s refl;
       ends = tt;
       leads = λ contents agrees.
-          subst (λ found. Leads old found (Some (refused_at place kept)) old) (sym (refuses contents))
+          subst (λ found. CopiesTo old found (Some (refused_at place kept)) old) (sym (refuses contents))
           (leads_refusal old old old.copies (spec.At (defined_place place) refusal) (refused_at place kept)
           (memory, ap (λ refusal. Err (spec.At (defined_place place) refusal)) (sym same)) (λ done holds. holds));
     })
@@ -74,13 +74,13 @@ module _ (old last : Copying) (contents : Contents) (levels : ℕ) (place : Plac
 
   -- which ends the copying
   leads_out : (error : CopyError) (answer : Option (List ℕ)) (refusal : CopyRefusal) → ((done : List PlacedLine) → Holds done old → Holds done last)
-      → found_by answer ≡ refused (old.copies + 1) refusal → CopyRefuses {B = List Line} error (Err refusal) → Leads old (found_by answer) (Some error) last
+      → found_by answer ≡ refused (old.copies + 1) refusal → CopyRefuses {B = List Line} error (Err refusal) → CopiesTo old (found_by answer) (Some error) last
   leads_out error answer refusal same found refuses =
-      subst (λ found. Leads old found (Some error) last) (sym found) (leads_refusal old last (old.copies + 1) refusal error refuses same)
+      subst (λ found. CopiesTo old found (Some error) last) (sym found) (leads_refusal old last (old.copies + 1) refusal error refuses same)
 
   -- its file was not read
   pub leads_not_read : (error : FileError) (answer : Option (List ℕ)) → ((done : List PlacedLine) → Holds done old → Holds done last)
-      → IsOfName name error → Fits most_bytes (answer_by error) answer → Leads old (found_by answer) (Some (unread_at place error)) last
+      → IsOfName name error → Fits most_bytes (answer_by error) answer → CopiesTo old (found_by answer) (Some (unread_at place error)) last
   leads_not_read (unread.Missing other) answer same is fits =
       leads_out (unread_at place (unread.Missing other)) answer (spec.At (defined_place place) (spec.Missing name)) same (ap found_by fits)
       (tt, ap (λ name. Err (spec.At (defined_place place) (spec.Missing name))) (sym is))
@@ -91,16 +91,16 @@ module _ (old last : Copying) (contents : Contents) (levels : ℕ) (place : Plac
   leads_not_read _ answer same is fits = λ done holds. (tt, tt)
 
   -- or it was, and its lines are taken
-  pub leads_read : (mid : Copying) (bytes : List ℕ) (answer : Option (List ℕ)) (trouble : Option CopyError) → answer ≡ Some bytes → length bytes ≤ most_bytes
+  pub leads_read : (mid : Copying) (bytes : List ℕ) (answer : Option (List ℕ)) (error_in : Option CopyError) → answer ≡ Some bytes → length bytes ≤ most_bytes
       → ((done : List PlacedLine) → Holds done old → Holds done mid) → mid.copies ≡ old.copies + 1
-      → Leads mid (lines_in (copy_line contents levels) (Some name) mid.copies (line_texts bytes)) trouble last
-      → Leads old (found_by answer) trouble last
-  leads_read mid bytes answer trouble reads size same copies leads done holds =
+      → CopiesTo mid (lines_in (copy_line contents levels) (Some name) mid.copies (line_texts bytes)) error_in last
+      → CopiesTo old (found_by answer) error_in last
+  leads_read mid bytes answer error_in reads size same copies leads done holds =
       let few : nat_lt most_bytes (length bytes) ≡ false = grind (arith, nat_tests, size) in
       let found : found_by answer ≡ lines_in (copy_line contents levels) (Some name) (old.copies + 1) (line_texts bytes) = rw (reads, few) refl in
-      let more = subst (λ copies. LeadsTo trouble done (lines_in (copy_line contents levels) (Some name) copies (line_texts bytes)) last) copies
+      let more = subst (λ copies. LeadsTo error_in done (lines_in (copy_line contents levels) (Some name) copies (line_texts bytes)) last) copies
       (leads done (same done holds)) in
-      subst (λ found. LeadsTo trouble done found last) (sym found) more
+      subst (λ found. LeadsTo error_in done found last) (sym found) more
 
 -- A COPY line, by what is heard of its file.
 module _ (old : Copying) (levels : ℕ) (place : Place) (name : List ℕ) (some : 0 < levels) (s : ShelfState) where
@@ -117,11 +117,11 @@ module _ (old : Copying) (levels : ℕ) (place : Place) (name : List ℕ) (some 
     question answer = record { name = name; answer = answer }
 
     by_more : (contents : Contents) (error : Option CopyError) (last : Copying)
-        → Leads old (found_by old last contents (levels - 1) place name (contents old.copies name)) error last → Leads old (line_by contents) error last
-    by_more contents error last leads = subst (λ found. Leads old found error last) (sym (copy_more contents (defined_place place) old.copies name levels some few)) leads
+        → CopiesTo old (found_by old last contents (levels - 1) place name (contents old.copies name)) error last → CopiesTo old (line_by contents) error last
+    by_more contents error last leads = subst (λ found. CopiesTo old found error last) (sym (copy_more contents (defined_place place) old.copies name levels some few)) leads
 
     not_read : (contents : Contents) (error : FileError) (last : Copying) → ((done : List PlacedLine) → Holds done old → Holds done last)
-        → IsOfName name error → Fits most_bytes (answer_by error) (contents old.copies name) → Leads old (line_by contents) (Some (unread_at place error)) last
+        → IsOfName name error → Fits most_bytes (answer_by error) (contents old.copies name) → CopiesTo old (line_by contents) (Some (unread_at place error)) last
     not_read contents error last same is fits =
         by_more contents (Some (unread_at place error)) last (leads_not_read old last contents (levels - 1) place name error (contents old.copies name) same is fits)
 
@@ -159,7 +159,7 @@ module _ (old : Copying) (levels : ℕ) (place : Place) (name : List ℕ) (some 
           leads = λ contents agrees. not_read contents error last same of agrees.0;
         })
 
-    ends_by : (bytes : List ℕ) (trouble : Option CopyError) (questions : List Question) → EndsBy trouble questions → EndsBy trouble (question (Bytes bytes) ∷ [] ++ questions)
+    ends_by : (bytes : List ℕ) (error_in : Option CopyError) (questions : List Question) → EndsBy error_in questions → EndsBy error_in (question (Bytes bytes) ∷ [] ++ questions)
     ends_by bytes None questions given = (tt, given)
     ends_by bytes (Some error) questions given = ends_then error (question (Bytes bytes) ∷ []) questions given
 
@@ -170,24 +170,24 @@ module _ (old : Copying) (levels : ℕ) (place : Place) (name : List ℕ) (some 
       inner text contents = lines_in (copy_line contents (levels - 1)) (Some name) mid.copies (line_texts text)
 
       on : (contents : Contents) → Agrees most_bytes contents old.copies (question (Bytes bytes) ∷ []) → (error : Option CopyError) (end : Copying)
-          → Leads mid (inner bytes contents) error end → Leads old (line_by contents) error end
+          → CopiesTo mid (inner bytes contents) error end → CopiesTo old (line_by contents) error end
       on contents agrees error end leads =
           by_more contents error end (leads_read old end contents (levels - 1) place name mid bytes (contents old.copies name) error agrees.0 size holds copies leads)
 
-      joined : (trouble : Option CopyError) → Copies mid last (inner bytes) trouble t u → Copies old last line_by trouble s u
-      joined trouble found = record {
+      joined : (error_in : Option CopyError) → Copies mid last (inner bytes) error_in t u → Copies old last line_by error_in s u
+      joined error_in found = record {
         questions = question (Bytes bytes) ∷ [] ++ found.questions;
         asking = asking_then old mid line_by (inner bytes) (question (Bytes bytes) ∷ []) (omega (arith, copies))
             (λ contents agrees error. on contents agrees (Some error)) last s t u found.questions (tt, tt)
             (asking_first mid t (Bytes bytes) copies asks) found.asking;
-        ends = ends_by bytes trouble found.questions found.ends;
-        leads = λ contents agrees. on contents (agrees_front most_bytes contents old.copies (question (Bytes bytes) ∷ []) found.questions agrees) trouble last
+        ends = ends_by bytes error_in found.questions found.ends;
+        leads = λ contents agrees. on contents (agrees_front most_bytes contents old.copies (question (Bytes bytes) ∷ []) found.questions agrees) error_in last
             (found.leads contents (subst (λ n. Agrees most_bytes contents n found.questions) (sym copies) agrees.1));
       }
 
-      pub copies_read : (text : List ℕ) (trouble : Option CopyError) → text ≡ bytes → Copies mid last (inner text) trouble t u
-          → Copies old last line_by trouble s u
-      copies_read text trouble is found = joined trouble (subst (λ text. Copies mid last (inner text) trouble t u) is found)
+      pub copies_read : (text : List ℕ) (error_in : Option CopyError) → text ≡ bytes → Copies mid last (inner text) error_in t u
+          → Copies old last line_by error_in s u
+      copies_read text error_in is found = joined error_in (subst (λ text. Copies mid last (inner text) error_in t u) is found)
 
 -- a COPY line that stands too deep
 deep_by : (contents : Contents) (levels : ℕ) (place : spec.Place) (copies : ℕ) (name : List ℕ) → levels ≡ 0

@@ -4,7 +4,7 @@ use Rattle.std.specs.Prelude.{⊤, IfErr, OnErr, OnOk}
 use Rattle.bench_shelf.specs.declared.error.OpenError.{OpenError}
 use Rattle.bench_shelf.specs.declared.error.OpenError.TheVariants.{Failed, Missing}
 use Rattle.bench_shelf.specs.Opening.{Refuses, SameCounts, StartsAnew}
-use Rattle.bench_shelf.specs.FolderShelf.{Folder, untold, OpensFrom}
+use Rattle.bench_shelf.specs.FolderShelf.{Folder, hidden_state, OpensFrom}
 
 pub nothing_told : {A E : Type 0} (r : Result A E) → OnOk r ⊤
 nothing_told (Ok value) = tt
@@ -16,18 +16,18 @@ nothing_left (Err error) = tt
 
 module _ {A : Type 0} (before after : Folder) where
   pub tells_refused : (name : List ℕ) (r : Result A OpenError) → OpensFrom before r after
-      → IfErr r (λ error. Refuses error (untold before) (untold after) name)
+      → IfErr r (λ error. Refuses error (hidden_state before) (hidden_state after) name)
   tells_refused name (Ok value) opens = tt
   tells_refused name (Err Failed) opens = opens.0
   tells_refused name (Err Missing) opens = (opens.0, tt)
 
   pub tells_counts : (r : Result A OpenError) → OpensFrom before r after
-      → SameCounts (untold before).source (untold after).source
+      → SameCounts (hidden_state before).source (hidden_state after).source
   tells_counts (Ok value) opens = rw opens (record { calls = refl; taken = refl; empty = refl })
   tells_counts (Err Failed) opens = rw opens.1 (record { calls = refl; taken = refl; empty = refl })
   tells_counts (Err Missing) opens = rw opens.1 (record { calls = refl; taken = refl; empty = refl })
 
-  pub tells_anew : (name : List ℕ) (r : Result A OpenError) → OpensFrom before r after → StartsAnew (untold before) (untold after) name
+  pub tells_anew : (name : List ℕ) (r : Result A OpenError) → OpensFrom before r after → StartsAnew (hidden_state before) (hidden_state after) name
   tells_anew name (Ok value) opens = rw opens (record { asked = refl; opens = refl; given = refl; largest = refl })
   tells_anew name (Err Failed) opens = rw opens.1 (record { asked = refl; opens = refl; given = refl; largest = refl })
   tells_anew name (Err Missing) opens = rw opens.1 (record { asked = refl; opens = refl; given = refl; largest = refl })

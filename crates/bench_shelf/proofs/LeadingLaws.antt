@@ -16,7 +16,7 @@ use Rattle.bench_shelf.specs.declared.copying.Copying.{Copying}
 use Rattle.bench_shelf.specs.declared.copy_error.CopyError.{CopyError}
 use Rattle.bench_shelf.specs.declared.copy_error.CopyError.TheVariants as error
 use Rattle.bench_shelf.specs.CopyAnswers.{CopyRefuses}
-use Rattle.bench_shelf.specs.Leading.{Holds, EndsAs, GoesOn, LeadsTo, Leads}
+use Rattle.bench_shelf.specs.Leading.{Holds, EndsAs, GoesOn, LeadsTo, CopiesTo}
 use Rattle.bench_shelf.proofs.LaidLonger.{laid_longer}
 use Rattle.bench_shelf.proofs.StoppingLaws.{where_told, halted, stopped_behind}
 
@@ -65,13 +65,13 @@ refuses_by error.TooLarge a b same refused = same _ refused
 refuses_by _ a b same refused = tt
 
 -- no lines
-pub leads_none : (old : Copying) → IsOpen old.builder → Leads old (nothing old.copies) None old
+pub leads_none : (old : Copying) → IsOpen old.builder → CopiesTo old (nothing old.copies) None old
 leads_none old going done holds =
     record { holds = subst (λ lines. Holds lines old) (sym (append-nil done)) holds; copies = refl; ending = going }
 
 -- lines one of which is refused, and others
-pub leads_refused : (old new : Copying) (found : Copied) (next : ℕ → Copied) (error : CopyError) → Leads old found (Some error) new
-    → Leads old (followed found next) (Some error) new
+pub leads_refused : (old new : Copying) (found : Copied) (next : ℕ → Copied) (error : CopyError) → CopiesTo old found (Some error) new
+    → CopiesTo old (followed found next) (Some error) new
 leads_refused old new found next error leads done holds =
     let refused = leads done holds in (
       refuses_by error (laid_copied (prepend done found)) (laid_copied (prepend done (followed found next)))
@@ -86,8 +86,8 @@ ended_by Ended found next done new ends closed goes = goes
 ended_by (Refused refusal) found next done new ends closed goes = absurd ends
 
 -- lines of which the last ends the source, and others, which are not read
-pub leads_ended : (old new : Copying) (found : Copied) (next : ℕ → Copied) → (IsOpen new.builder → ⊥) → Leads old found None new
-    → Leads old (followed found next) None new
+pub leads_ended : (old new : Copying) (found : Copied) (next : ℕ → Copied) → (IsOpen new.builder → ⊥) → CopiesTo old found None new
+    → CopiesTo old (followed found next) None new
 leads_ended old new found next closed leads done holds =
     let goes = leads done holds in
     ended_by found.ending found next done new goes.ending closed goes
@@ -114,7 +114,7 @@ open_by (Refused refusal) found next done mid new error ends going leads = absur
 
 -- lines that were taken, and others
 pub leads_then : (old mid new : Copying) (found : Copied) (next : ℕ → Copied) (error : Option CopyError) → IsOpen mid.builder
-    → Leads old found None mid → Leads mid (next mid.copies) error new → Leads old (followed found next) error new
+    → CopiesTo old found None mid → CopiesTo mid (next mid.copies) error new → CopiesTo old (followed found next) error new
 leads_then old mid new found next error going first later done holds =
     let goes = first done holds in
     let rest = later (done ++ found.lines) goes.holds in

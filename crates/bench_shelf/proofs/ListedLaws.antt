@@ -14,7 +14,7 @@ use Rattle.asm_defs.specs.Modules.{settle, module_by, module_behind, module_of_l
 use Rattle.shelf_defs.specs.Copied.{most_bytes, most_copies, PlacedLine, Ending, Refused, Copied}
 use Rattle.shelf_defs.specs.Assembly.{texts, places, place_of, in_place, unless_refused, laid_copied}
 use Rattle.asm_list_defs.specs.Listed.{front, first_answer, let_through}
-use Rattle.asm_core.specs.Building.{HasTaken}
+use Rattle.asm_core.specs.Building.{HasAccepted}
 use Rattle.asm_core.specs.Finishing.{RefusesAt}
 use Rattle.asm_core.specs.declared.error.AsmError.{AsmError}
 use Rattle.asm_core.specs.declared.error.AsmError.TheVariants as asm
@@ -32,7 +32,7 @@ use Rattle.bench_shelf.specs.declared.copy_error.CopyError.{CopyError}
 use Rattle.bench_shelf.specs.declared.copy_error.CopyError.TheVariants.{Fault, Memory}
 use Rattle.bench_shelf.specs.States.{ShelfState}
 use Rattle.bench_shelf.specs.CopyAnswers.{CopyRefuses}
-use Rattle.bench_shelf.specs.Causes.{ShelfCauses, TookNoMore}
+use Rattle.bench_shelf.specs.Causes.{ShelfCauses, ReadWithinLimit}
 use Rattle.bench_shelf.specs.Kept.{AreKept, IsKept}
 use Rattle.bench_shelf.specs.Leading.{Holds, EndsAs, GoesOn, LeadsTo, Halts, Stopped, WhereTold, EndsBy, Copies, IsHeld}
 use Rattle.bench_shelf.specs.Listed.{IsTold, IsUntold, AllSettled, SettledAs, RefusedBehind, FinishesBy, Finishes, StopsAt, KeepsFront, EndsListed, GivesListed}
@@ -62,7 +62,7 @@ front_by all taken ending lines is size (inr next) =
     ∙ (ap (λ n. take n all) count ∙ (ap (take (length taken)) next.are ∙ take-append_seam taken (next.line ∷ next.rest)))
 
 -- so they are kept
-keeps_front : (all taken : List PlacedLine) (ending : Ending) (builder : AsmLines) (has : HasTaken (texts taken) builder) (kept : List KeptLine)
+keeps_front : (all taken : List PlacedLine) (ending : Ending) (builder : AsmLines) (has : HasAccepted (texts taken) builder) (kept : List KeptLine)
     → Halts all ending taken → AreKept taken has.lines kept → KeepsFront all has.lines kept
 keeps_front all taken ending builder has kept halts are =
     let is : front all ≡ taken = front_by all taken ending has.lines has.laid has.all halts in
@@ -70,12 +70,12 @@ keeps_front all taken ending builder has kept halts are =
     record { are = are.are ∙ sym is; laid = ap first_answer is ∙ has.laid; size = count ∙ sym (ap length is); heres = are.heres }
 
 -- where all were taken
-front_all : (all : List PlacedLine) (builder : AsmLines) (has : HasTaken (texts all) builder) → front all ≡ all
+front_all : (all : List PlacedLine) (builder : AsmLines) (has : HasAccepted (texts all) builder) → front all ≡ all
 front_all all builder has =
     let count : length has.lines ≡ length all = has.all ∙ length-map all (λ line. line.text) in
     ap (λ answer. take (let_through answer) all) has.laid ∙ (ap (λ n. take n all) count ∙ take-length all)
 
-keeps_all : (all : List PlacedLine) (builder : AsmLines) (has : HasTaken (texts all) builder) (kept : List KeptLine)
+keeps_all : (all : List PlacedLine) (builder : AsmLines) (has : HasAccepted (texts all) builder) (kept : List KeptLine)
     → AreKept all has.lines kept → KeepsFront all has.lines kept
 keeps_all all builder has kept are =
     let count : length has.lines ≡ length all = has.all ∙ length-map all (λ line. line.text) in
@@ -172,7 +172,7 @@ untold_all done lines (Ok listed) finishes = tt
 untold_all done lines (Err error) finishes = subst IsUntold (sym finishes) tt
 
 pub causes_all : (a b : ShelfState) (done : List PlacedLine) (lines : List Line) (result : Result ListedSource CopyError) → Finishes done lines result
-    → TookNoMore most_bytes a b → ListCauses result a b
+    → ReadWithinLimit most_bytes a b → ListCauses result a b
 causes_all a b done lines (Ok listed) finishes within = by_ending listed.ending finishes.1
   where
     by_ending : (ending : ListedEnding) → FinishesBy done lines ending → EndingCauses ending a b
@@ -196,7 +196,7 @@ settled_not : (answer : Result (List Settled) (Refusal AsmCause)) (lines : List 
 settled_not (Ok found) lines refusal e = cc e
 settled_not (Err found) lines refusal e = cc e
 
-module _ (done : List PlacedLine) (builder : AsmLines) (has : HasTaken (texts done) builder) where
+module _ (done : List PlacedLine) (builder : AsmLines) (has : HasAccepted (texts done) builder) where
   behind_is : module_of_lines (texts done) ≡ module_behind has.lines
   behind_is = ap (λ answer. answer >>= module_behind) has.laid
 

@@ -1,7 +1,7 @@
 -- Lines of a file that are taken one after the other.
 use Rattle.std.proofs.Common.{rules, ◌≡◌, ℕ, ◌+◌, ◌*◌, ◌≤◌, List, [], ◌∷◌, ◌++◌, Some, None, length, refl, sym, ap, subst, arith}
 use Rattle.std.specs.Prelude.{Option}
-use Rattle.shelf_defs.specs.CopyLines.{Asked, Itself, asked}
+use Rattle.shelf_defs.specs.CopyLines.{LineKind, Itself, asked}
 use Rattle.shelf_defs.specs.Files.{Contents}
 use Rattle.shelf_defs.specs.Copied.{Place, Copied, copy_line, lines_in, own_line, asked_line, one_line, most_bytes, most_copies}
 use Rattle.asm_core.specs.Building.{IsOpen}
@@ -16,8 +16,8 @@ use Rattle.source_defs.specs.declared.text.Line.{Line as TextLine}
 use Rattle.source_defs.specs.Lines.{lines, part}
 use Rattle.source_defs.proofs.LaidLaws.{texts_of}
 use Rattle.shelf_defs.specs.Questions.{Question, Agrees}
-use Rattle.bench_shelf.specs.Leading.{Leads, IsHeld, HasRoom, Grows, count, AllGiven, EndsBy, Asking, Copies}
-use Rattle.bench_shelf.specs.Causes.{Later}
+use Rattle.bench_shelf.specs.Leading.{CopiesTo, IsHeld, HasRoom, Grows, count, AllGiven, EndsBy, Asking, Copies}
+use Rattle.bench_shelf.specs.Causes.{CountsGrew}
 use Rattle.bench_shelf.proofs.CountLaws.{few_lines}
 use Rattle.bench_shelf.proofs.LeadingLaws.{leads_none, leads_then, leads_ended, leads_refused}
 use Rattle.bench_shelf.proofs.AskingLaws.{agrees_front, agrees_back, all_given, asking_none, asking_then, ends_then}
@@ -34,16 +34,16 @@ line_by levels place copies text contents = one_line (copy_line contents levels)
 
 -- a line that stands for itself asks for no file, and leads to what it leads to as any line
 pub own_copies : (levels : ℕ) (s : ShelfState) (old new : Copying) (place : Place) (text : List ℕ) (error : Option CopyError) → asked text ≡ Itself
-    → new.copies ≡ old.copies → EndsBy error [] → Leads old (own_line place old.copies text) error new → Copies old new (line_by levels place old.copies text) error s s
+    → new.copies ≡ old.copies → EndsBy error [] → CopiesTo old (own_line place old.copies text) error new → Copies old new (line_by levels place old.copies text) error s s
 own_copies levels s old new place text error own same ends leads = record {
   questions = [];
   asking = asking_none old new (line_by levels place old.copies text) s same;
   ends = ends;
-  leads = λ contents agrees. subst (λ request. Leads old (asked_line (copy_line contents levels) request place old.copies text) error new) (sym own) leads;
+  leads = λ contents agrees. subst (λ request. CopiesTo old (asked_line (copy_line contents levels) request place old.copies text) error new) (sym own) leads;
 }
 
 -- what a line comes to by what it asks for
-pub asked_copies : (levels : ℕ) (s t : ShelfState) (old new : Copying) (place : Place) (text : List ℕ) (request : Asked) (error : Option CopyError) → request ≡ asked text
+pub asked_copies : (levels : ℕ) (s t : ShelfState) (old new : Copying) (place : Place) (text : List ℕ) (request : LineKind) (error : Option CopyError) → request ≡ asked text
     → Copies old new (λ contents. asked_line (copy_line contents levels) request place old.copies text) error s t
     → Copies old new (line_by levels place old.copies text) error s t
 asked_copies levels s t old new place text request error is copies =
@@ -55,7 +55,7 @@ no_fault at failure.Memory = tt
 
 -- such a line is refused
 pub own_refuses : (levels : ℕ) (s : ShelfState) (old new : Copying) (place : Place) (text : List ℕ) (at : KeptPlace) (failure : Failure) (error : CopyError)
-    → failed_at at failure ≡ error → asked text ≡ Itself → new.copies ≡ old.copies → Leads old (own_line place old.copies text) (Some (failed_at at failure)) new
+    → failed_at at failure ≡ error → asked text ≡ Itself → new.copies ≡ old.copies → CopiesTo old (own_line place old.copies text) (Some (failed_at at failure)) new
     → Copies old new (line_by levels place old.copies text) (Some error) s s
 own_refuses levels s old new place text at failure error is own same leads =
     subst (λ error. Copies old new (line_by levels place old.copies text) (Some error) s s) is
@@ -68,7 +68,7 @@ pub record Follows (levels : ℕ) (file : Option (List ℕ)) (old : Copying) (al
   pub asking : Asking old now (lines_by levels file old.copies all) questions a b
   pub given : AllGiven questions
   pub leads : (contents : Contents) → Agrees most_bytes contents old.copies questions → (error : Option CopyError) (last : Copying)
-      → Leads now (lines_by levels file now.copies left contents) error last → Leads old (lines_by levels file old.copies all contents) error last
+      → CopiesTo now (lines_by levels file now.copies left contents) error last → CopiesTo old (lines_by levels file old.copies all contents) error last
 
 -- the place of a line
 abbrev pub line_place : Option (List ℕ) → ℕ → Place
@@ -91,7 +91,7 @@ module _ {levels : ℕ} {file : Option (List ℕ)} {old now : Copying} {all left
     asking = follows.asking;
     ends = follows.given;
     leads = λ contents agrees. follows.leads contents agrees None now
-        (subst (λ lines. Leads now (lines_by levels file now.copies lines contents) None now) (sym none) (leads_none now going));
+        (subst (λ lines. CopiesTo now (lines_by levels file now.copies lines contents) None now) (sym none) (leads_none now going));
   }
 
   module _ {rest : Numbered} {number : ℕ} {text : List ℕ} (first : left ≡ (number, text) ∷ rest) where
@@ -102,9 +102,9 @@ module _ {levels : ℕ} {file : Option (List ℕ)} {old now : Copying} {all left
     next contents copies = lines_by levels file copies rest contents
 
     from_first : (contents : Contents) → Agrees most_bytes contents old.copies follows.questions → (error : Option CopyError) (last : Copying)
-        → Leads now (lines_by levels file now.copies ((number, text) ∷ rest) contents) error last → Leads old (lines_by levels file old.copies all contents) error last
+        → CopiesTo now (lines_by levels file now.copies ((number, text) ∷ rest) contents) error last → CopiesTo old (lines_by levels file old.copies all contents) error last
     from_first contents agrees error last leads =
-        follows.leads contents agrees error last (subst (λ lines. Leads now (lines_by levels file now.copies lines contents) error last) (sym first) leads)
+        follows.leads contents agrees error last (subst (λ lines. CopiesTo now (lines_by levels file now.copies lines contents) error last) (sym first) leads)
 
     module _ {mid : Copying} {c : ShelfState} where
       -- what is asked by the next line
@@ -117,8 +117,8 @@ module _ {levels : ℕ} {file : Option (List ℕ)} {old now : Copying} {all left
       -- what all lines lead to, by what the next one leads to
       goes_on : (error end : Option CopyError) (last : Copying) (contents : Contents) (one : Copies now mid line error b c)
           → Agrees most_bytes contents old.copies (follows.questions ++ one.questions)
-          → (Leads now (line contents) error mid → Leads now (lines_by levels file now.copies ((number, text) ∷ rest) contents) end last)
-          → Leads old (lines_by levels file old.copies all contents) end last
+          → (CopiesTo now (line contents) error mid → CopiesTo now (lines_by levels file now.copies ((number, text) ∷ rest) contents) end last)
+          → CopiesTo old (lines_by levels file old.copies all contents) end last
       goes_on error end last contents one agrees more =
           from_first contents (agrees_front most_bytes contents old.copies follows.questions one.questions agrees) end last
           (more (one.leads contents (rw follows.asking.number (agrees_back most_bytes contents old.copies follows.questions one.questions agrees))))
@@ -134,7 +134,7 @@ module _ {levels : ℕ} {file : Option (List ℕ)} {old now : Copying} {all left
 
       -- the next line is the last
       ends : (error : Option CopyError) (one : Copies now mid line error b c) → EndsBy error (follows.questions ++ one.questions)
-          → ((contents : Contents) → Leads now (line contents) error mid → Leads now (lines_by levels file now.copies ((number, text) ∷ rest) contents) error mid)
+          → ((contents : Contents) → CopiesTo now (line contents) error mid → CopiesTo now (lines_by levels file now.copies ((number, text) ∷ rest) contents) error mid)
           → Copies old mid (lines_by levels file old.copies all) error a c
       ends error one given more = record {
         questions = follows.questions ++ one.questions;
@@ -159,7 +159,7 @@ pub first_text : (text : List ℕ) {left rest : List TextLine} {line : TextLine}
 first_text text steps is = rw (steps, is) refl
 
 -- what is later than a later shelf
-pub later_then : (a b c : ShelfState) → Later a b → Later b c → Later a c
+pub later_then : (a b c : ShelfState) → CountsGrew a b → CountsGrew b c → CountsGrew a c
 later_then a b c first then = grind (arith, first, then)
 
 -- the lines that were taken so far, and those that are left of a text
@@ -184,5 +184,5 @@ counts_more text old now mid left rest line counts is grows =
 pub counts_grow : (text : List ℕ) (old now : Copying) (left : List TextLine) → Counts text old now left → Grows (length text) old now
 counts_grow text old now left counts = record { held = counts.held; copies = counts.copies; few = omega (arith, counts.few) }
 
-pub later_first : (a : ShelfState) → Later a a
+pub later_first : (a : ShelfState) → CountsGrew a a
 later_first a = search rules

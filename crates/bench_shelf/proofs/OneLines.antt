@@ -10,7 +10,7 @@ use Rattle.source_defs.specs.LineLaw.{IsLine}
 use Rattle.source_defs.specs.Layout.{line_texts}
 use Rattle.source_defs.proofs.LineLaws.{lines_are_lines}
 use Rattle.source_defs.specs.EndedLines.{IsOneLine}
-use Rattle.shelf_defs.specs.CopyLines.{Asked, Itself, File, Bad, asked}
+use Rattle.shelf_defs.specs.CopyLines.{LineKind, Itself, File, Bad, asked}
 use Rattle.shelf_defs.specs.Files.{Contents}
 use Rattle.shelf_defs.specs.Copied.{Place, copy_line, copied_by, PlacedLine, Ending, Open, Ended, Refused, Copied, then_by, lines_in, copied_file, asked_line, most_bytes, most_copies}
 use Rattle.shelf_defs.specs.Assembly.{texts}
@@ -59,7 +59,7 @@ abbrev IsOneCopy : (Place → ℕ → List ℕ → Copied) → Type 0
 IsOneCopy copy = (place : Place) (copies : ℕ) (name : List ℕ) → AreOneLines (copy place copies name).lines
 
 module _ (copy : Place → ℕ → List ℕ → Copied) (each : IsOneCopy copy) where
-  asked_one : (request : Asked) (place : Place) (copies : ℕ) (text : List ℕ) → IsOneLine text → AreOneLines (asked_line copy request place copies text).lines
+  asked_one : (request : LineKind) (place : Place) (copies : ℕ) (text : List ℕ) → IsOneLine text → AreOneLines (asked_line copy request place copies text).lines
   asked_one Itself place copies text one = (one, tt)
   asked_one (File name) place copies text one = each place copies name
   asked_one Bad place copies text one = tt

@@ -10,7 +10,7 @@ use Rattle.bench_shelf.specs.declared.place.Place.{Place}
 use Rattle.bench_shelf.specs.declared.copy_error.CopyCause.TheVariants.{Missing}
 use Rattle.bench_shelf.specs.declared.copy_error.CopyError.{CopyError}
 use Rattle.bench_shelf.specs.declared.copy_error.CopyError.TheVariants.{At, TooLarge, Fault, Memory}
-use Rattle.bench_shelf.specs.Causes.{Later, FileCauses, ShelfCauses, TookNoMore}
+use Rattle.bench_shelf.specs.Causes.{CountsGrew, FileCauses, ShelfCauses, ReadWithinLimit}
 use Rattle.bench_shelf.specs.CopyAnswers.{unread_at}
 use Rattle.bench_shelf.proofs.Keeping.{within_then}
 
@@ -20,7 +20,7 @@ pub causes_unread : (a b : ShelfState) (place : Place) (error : FileError) (said
 causes_unread a b place unread.TooLarge said is causes = rw is causes
 causes_unread a b place _ said is causes = rw is causes
 
-module _ (a b c : ShelfState) (later : Later a b) (within : TookNoMore most_bytes a b) where
+module _ (a b c : ShelfState) (later : CountsGrew a b) (within : ReadWithinLimit most_bytes a b) where
   pub causes_since : (error : CopyError) → ShelfCauses error b c → ShelfCauses error a c
   causes_since (At file line (Missing name)) causes =
       (rose_since _ _ _ later.misses causes.0, within_then most_bytes a b c within causes.1)

@@ -22,7 +22,7 @@ use Rattle.shelf_defs.specs.Copied as spec
 use Rattle.shelf_defs.specs.Copied.{Place, PlacedLine, Open, Ended, own_line, prepend}
 use Rattle.shelf_defs.specs.Assembly.{texts, places, place_of, laid_copied}
 use Rattle.asm_checks.specs.Answers.{Causes}
-use Rattle.asm_core.specs.Building.{HasTaken, IsOpen}
+use Rattle.asm_core.specs.Building.{HasAccepted, IsOpen}
 use Rattle.asm_core.specs.Finishing.{RefusesAt}
 use Rattle.asm_core.specs.declared.lines.AsmLines.{AsmLines}
 use Rattle.asm_core.specs.declared.error.AsmError.TheVariants as asm
@@ -76,7 +76,7 @@ module _ (done : List PlacedLine) (place : Place) (text : List ℕ) where
   texts_are : texts all ≡ texts done ++ text ∷ []
   texts_are = map-append (λ line. line.text) done more
 
-  module _ (builder : AsmLines) (taken : HasTaken (texts done) builder) (going : IsOpen builder) where
+  module _ (builder : AsmLines) (taken : HasAccepted (texts done) builder) (going : IsOpen builder) where
     still : has_ended taken.lines ≡ false
     still = sym taken.behind.ended ∙ going
 
@@ -89,7 +89,7 @@ module _ (done : List PlacedLine) (place : Place) (text : List ℕ) where
     ends_by new false is = is
 
     -- the lines behind it
-    pub heres_more : (new : AsmLines) (behind : HasTaken (texts done ++ text ∷ []) new)
+    pub heres_more : (new : AsmLines) (behind : HasAccepted (texts done ++ text ∷ []) new)
         → heres behind.lines ≡ heres taken.lines ++ location taken.lines ∷ []
     heres_more new behind =
         let e : last_line check text taken.lines (1 + length (texts done)) ≡ Ok behind.lines = sym whole_is ∙ behind.laid in
@@ -97,7 +97,7 @@ module _ (done : List PlacedLine) (place : Place) (text : List ℕ) where
         let lines_are : a.0 ∷ taken.lines ≡ behind.lines = cc a.2 in
         sym (ap heres lines_are)
 
-    pub taken_ends : (new : AsmLines) → HasTaken (texts done ++ text ∷ []) new → EndsAs (if ends_source text then Ended else Open) new
+    pub taken_ends : (new : AsmLines) → HasAccepted (texts done ++ text ∷ []) new → EndsAs (if ends_source text then Ended else Open) new
     taken_ends new behind =
         let e : last_line check text taken.lines (1 + length (texts done)) ≡ Ok behind.lines = sym whole_is ∙ behind.laid in
         let a = bound (at_line (1 + length (texts done)) (check taken.lines (1 + length (texts done)) text)) _ behind.lines e in
@@ -147,8 +147,8 @@ kept_more done lines next place text here (Some old) (Some new) same kept keeps 
 
 -- a line that stands for itself and is taken
 pub own_taken : (old new : Copying) (place : KeptPlace) (text : List ℕ) (done : List PlacedLine) → IsOpen old.builder → Holds done old
-    → HasTaken (texts done ++ text ∷ []) new.builder → places_of new.runs.items ≡ places_of old.runs.items ++ defined_place place ∷ [] → new.copies ≡ old.copies
-    → ((taken : HasTaken (texts done) old.builder) → KeepsLine old.kept place (location taken.lines) text new.kept)
+    → HasAccepted (texts done ++ text ∷ []) new.builder → places_of new.runs.items ≡ places_of old.runs.items ++ defined_place place ∷ [] → new.copies ≡ old.copies
+    → ((taken : HasAccepted (texts done) old.builder) → KeepsLine old.kept place (location taken.lines) text new.kept)
     → GoesOn done (own_line (defined_place place) old.copies text) new
 own_taken old new place text done going holds taken kept copies keeps = record {
   holds = record {
@@ -171,7 +171,7 @@ own_taken old new place text done going holds taken kept copies keeps = record {
 -- and one that the first checks refuse: there the taking stops
 pub own_refused : (old new : Copying) (place : KeptPlace) (text : List ℕ) (done : List PlacedLine) (number : ℕ) (refused : AsmCause)
     → IsOpen old.builder → Holds done old → RefusesAt (asm.At number refused) (laid check (numbered 1 (texts done ++ text ∷ [])))
-    → HasTaken (texts done) new.builder → new.runs ≡ old.runs → new.kept ≡ old.kept
+    → HasAccepted (texts done) new.builder → new.runs ≡ old.runs → new.kept ≡ old.kept
     → LeadsTo (Some (refused_at place (Asm refused))) done (own_line (defined_place place) old.copies text) new
 own_refused old new place text done number refused going holds refuses taken runs kept =
     let is = refusal_is number refused _ refuses in

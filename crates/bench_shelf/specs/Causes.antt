@@ -2,7 +2,7 @@
 use Rattle.std.specs.Prelude.{◌≡◌, ⊤, ℕ, ◌+◌, ◌<◌, ◌≤◌, max, List, [], ◌∷◌, length}
 use Rattle.std.specs.Prelude.{IfSome}
 use Rattle.std.specs.FinMap.{get}
-use Rattle.count_defs.specs.Counts.{raised, Rose}
+use Rattle.count_defs.specs.Counts.{saturating_sum, Rose}
 use Rattle.shelf_defs.specs.Copied.{most_bytes}
 use Rattle.shelf_defs.specs.Questions.{Answer, NoFile, OverLimit, Unanswered, Question, Fits, names_of}
 use Rattle.shelf_defs.specs.Amounts.{AreTaken}
@@ -15,7 +15,7 @@ use Rattle.bench_shelf.specs.declared.copy_error.CopyError.TheVariants.{At, TooL
 use Rattle.bench_shelf.specs.CopyAnswers.{IsNoMemory}
 
 -- a shelf after some calls: it has the same files, and none of its counts fell, but for that of the file opened last
-pub record Later (before after : ShelfState) : Type 0 where
+pub record CountsGrew (before after : ShelfState) : Type 0 where
   pub files : after.files ≡ before.files
   pub faults : before.source.faults ≤ after.source.faults
   pub opens : before.opens ≤ after.opens
@@ -26,33 +26,33 @@ pub record Later (before after : ShelfState) : Type 0 where
   pub largest : before.source.largest ≤ after.source.largest
 
 -- of the file that was opened last more bytes were taken than these, and so of one file, and as many by these calls
-pub record TookMore (limit : ℕ) (before after : ShelfState) : Type 0 where
+pub record ReadOverLimit (limit : ℕ) (before after : ShelfState) : Type 0 where
   pub given : limit < after.source.given
   pub largest : after.source.given ≤ after.source.largest
-  pub taken : raised before.source.taken (limit + 1) ≤ after.source.taken
+  pub taken : saturating_sum before.source.taken (limit + 1) ≤ after.source.taken
 
 -- of no file more bytes were taken than these, unless there were before
-abbrev pub TookNoMore : ℕ → ShelfState → ShelfState → Type 0
-TookNoMore limit before after = after.source.largest ≤ max before.source.largest limit
+abbrev pub ReadWithinLimit : ℕ → ShelfState → ShelfState → Type 0
+ReadWithinLimit limit before after = after.source.largest ≤ max before.source.largest limit
 
 -- A missing name is counted, and so is a failure. A file is too large exactly where more bytes of one were taken than
 -- it may have.
 abbrev pub FileCauses : ℕ → FileError → ShelfState → ShelfState → Type 0
-FileCauses limit (unread.Missing name) before after = Rose before.misses after.misses × TookNoMore limit before after
-FileCauses limit unread.TooLarge before after = TookMore limit before after
+FileCauses limit (unread.Missing name) before after = Rose before.misses after.misses × ReadWithinLimit limit before after
+FileCauses limit unread.TooLarge before after = ReadOverLimit limit before after
 FileCauses limit unread.Fault before after =
-    Rose before.source.faults after.source.faults × TookNoMore limit before after
-FileCauses limit unread.Memory before after = TookNoMore limit before after
+    Rose before.source.faults after.source.faults × ReadWithinLimit limit before after
+FileCauses limit unread.Memory before after = ReadWithinLimit limit before after
 
 -- The same of what a line is refused for. No line is refused because memory ran out.
 abbrev pub ShelfCauses : CopyError → ShelfState → ShelfState → Type 0
 ShelfCauses (At file line (Missing name)) before after =
-    Rose before.misses after.misses × TookNoMore most_bytes before after
-ShelfCauses (At file line cause) before after = IsNoMemory cause × TookNoMore most_bytes before after
-ShelfCauses TooLarge before after = TookMore most_bytes before after
+    Rose before.misses after.misses × ReadWithinLimit most_bytes before after
+ShelfCauses (At file line cause) before after = IsNoMemory cause × ReadWithinLimit most_bytes before after
+ShelfCauses TooLarge before after = ReadOverLimit most_bytes before after
 ShelfCauses Fault before after =
-    Rose before.source.faults after.source.faults × TookNoMore most_bytes before after
-ShelfCauses Memory before after = TookNoMore most_bytes before after
+    Rose before.source.faults after.source.faults × ReadWithinLimit most_bytes before after
+ShelfCauses Memory before after = ReadWithinLimit most_bytes before after
 
 -- the answer to a question for a file that was not read
 abbrev pub answer_by : FileError → Answer
@@ -77,13 +77,13 @@ IsOfLine error = ⊥
 pub record ReadsOnce (limit : ℕ) (questions : List Question) (before after : ShelfState) : Type 0 where
   pub files : after.files ≡ before.files
   pub asked : after.asked ≡ asked_more before.asked (names_of questions)
-  pub opens : after.opens ≡ raised before.opens (length questions)
+  pub opens : after.opens ≡ saturating_sum before.opens (length questions)
   pub bytes : ℕ
   pub empty : ℕ
   pub amounts : AreTaken limit questions bytes empty
-  pub taken : after.source.taken ≡ raised before.source.taken bytes
-  pub ends : after.source.empty ≡ raised before.source.empty empty
-  pub calls : after.source.calls ≤ raised before.source.calls (bytes + empty)
+  pub taken : after.source.taken ≡ saturating_sum before.source.taken bytes
+  pub ends : after.source.empty ≡ saturating_sum before.source.empty empty
+  pub calls : after.source.calls ≤ saturating_sum before.source.calls (bytes + empty)
   pub none : questions ≡ [] → after ≡ before
 
 -- The file of a name was asked for, and this is the answer. Where the shelf shows its files, it is that of the file.

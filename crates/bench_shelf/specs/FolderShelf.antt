@@ -1,6 +1,6 @@
 -- A shelf of the current folder, which tells nothing of its files.
 use Rattle.std.specs.Prelude.{◌≡◌, ℕ, Bool, true, false, None, Result, Ok, Err}
-use Rattle.count_defs.specs.Counts.{raised, Rose}
+use Rattle.count_defs.specs.Counts.{saturating_sum, Rose}
 use Rattle.bench_shelf.specs.States.{ShelfState}
 use Rattle.bench_shelf.specs.declared.error.OpenError.{OpenError}
 use Rattle.bench_shelf.specs.declared.error.OpenError.TheVariants.{Failed, Missing}
@@ -18,8 +18,8 @@ pub record Folder : Type 0 where
   pub misses : ℕ
 
 -- it as a shelf
-abbrev pub untold : Folder → ShelfState
-untold folder =
+abbrev pub hidden_state : Folder → ShelfState
+hidden_state folder =
     record {
       source =
           record {
@@ -39,13 +39,13 @@ untold folder =
 
 -- a folder that was asked for a file: none is open, and the call is counted
 abbrev pub asked : Folder → Folder
-asked before = record before { is_open = false; given = 0; opens = raised before.opens 1 }
+asked before = record before { is_open = false; given = 0; opens = saturating_sum before.opens 1 }
 
 -- Behind Ok a file is open. Where opening one is refused, none is, and the count of faults or that of misses has risen
 -- by one. Nothing was given yet of what was opened last.
 abbrev pub OpensFrom : {A : Type 0} → Folder → Result A OpenError → Folder → Type 0
 OpensFrom before (Ok _) after = after ≡ record (asked before) { is_open = true }
 OpensFrom before (Err Failed) after =
-    Rose before.faults after.faults × (after ≡ record (asked before) { faults = raised before.faults 1 })
+    Rose before.faults after.faults × (after ≡ record (asked before) { faults = saturating_sum before.faults 1 })
 OpensFrom before (Err Missing) after =
-    Rose before.misses after.misses × (after ≡ record (asked before) { misses = raised before.misses 1 })
+    Rose before.misses after.misses × (after ≡ record (asked before) { misses = saturating_sum before.misses 1 })

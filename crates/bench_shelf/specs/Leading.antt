@@ -10,7 +10,7 @@ use Rattle.source_defs.specs.Refusals.{Refusal}
 use Rattle.source_defs.specs.Layout.{laid, numbered}
 use Rattle.asm_defs.specs.declared.causes.AsmCause.{AsmCause}
 use Rattle.asm_defs.specs.FirstChecks.{check}
-use Rattle.asm_core.specs.Building.{HasTaken, IsOpen}
+use Rattle.asm_core.specs.Building.{HasAccepted, IsOpen}
 use Rattle.asm_core.specs.declared.lines.AsmLines.{AsmLines}
 use Rattle.bench_shelf.specs.declared.copying.Copying.{Copying}
 use Rattle.bench_shelf.specs.declared.copy_error.CopyError.{CopyError}
@@ -26,7 +26,7 @@ use Rattle.bench_shelf.specs.Causes.{ReadsOnce}
 
 -- these lines were taken, and their places are kept; so are the lines, where they are kept
 pub record Holds (done : List PlacedLine) (state : Copying) : Type 0 where
-  pub taken : HasTaken (texts done) state.builder
+  pub taken : HasAccepted (texts done) state.builder
   pub places : places_of state.runs.items ≡ places done
   pub kept : IsKept done taken.lines state.kept
 
@@ -43,14 +43,14 @@ pub record GoesOn (done : List PlacedLine) (found : Copied) (new : Copying) : Ty
   pub ending : EndsAs found.ending new.builder
 
 -- why an answer is no Ok
-abbrev pub trouble : {A : Type 0} → Result A CopyError → Option CopyError
-trouble (Ok value) = None
-trouble (Err error) = Some error
+abbrev pub error_in : {A : Type 0} → Result A CopyError → Option CopyError
+error_in (Ok value) = None
+error_in (Err error) = Some error
 
 -- the same of a line at a place
-abbrev pub trouble_at : {A : Type 0} → Place → Result A Failure → Option CopyError
-trouble_at place (Ok value) = None
-trouble_at place (Err failure) = Some (failed_at place failure)
+abbrev pub error_at : {A : Type 0} → Place → Result A Failure → Option CopyError
+error_at place (Ok value) = None
+error_at place (Err failure) = Some (failed_at place failure)
 
 -- what stands behind lines is refused
 abbrev pub IsRefusal : Ending → Type 0
@@ -89,8 +89,8 @@ LeadsTo (Some error) done found new =
     CopyRefuses error (laid_copied (prepend done found)) × WhereTold error (Stopped done found new)
 
 -- the same, whatever lines were taken before
-abbrev pub Leads : Copying → Copied → Option CopyError → Copying → Type 0
-Leads old found error new = (done : List PlacedLine) → Holds done old → LeadsTo error done found new
+abbrev pub CopiesTo : Copying → Copied → Option CopyError → Copying → Type 0
+CopiesTo old found error new = (done : List PlacedLine) → Holds done old → LeadsTo error done found new
 
 -- After the lines that were taken and these answers this file is the next: if no file had the name, that would be the
 -- refusal.
@@ -98,7 +98,7 @@ abbrev pub IsNextAfter : Copying → (Contents → Copied) → List Question →
 IsNextAfter old found front question =
     (place : spec.Place) × ((contents : Contents) → Agrees most_bytes contents old.copies front
     → contents (old.copies + length front) question.name ≡ None
-    → (last : Copying) × Leads old (found contents) (Some (At place.file place.line (Missing question.name))) last)
+    → (last : Copying) × CopiesTo old (found contents) (Some (At place.file place.line (Missing question.name))) last)
 
 -- A file was asked for by each COPY line that may be followed, in their order, and no other. Where the shelf shows its
 -- files, the answers are those of the files.
@@ -131,7 +131,7 @@ pub record Copies (old new : Copying) (found : Contents → Copied) (error : Opt
   pub asking : Asking old new found questions before after
   pub ends : EndsBy error questions
   pub leads : (contents : Contents) → Agrees most_bytes contents old.copies questions
-      → Leads old (found contents) error new
+      → CopiesTo old (found contents) error new
 
 -- how many lines were taken
 abbrev pub count : Copying → ℕ

@@ -23,7 +23,7 @@ use Rattle.bench_shelf.specs.declared.listed.ListedSource.{ListedSource}
 use Rattle.bench_shelf.specs.declared.place.Place.{Place}
 use Rattle.bench_shelf.specs.declared.copy_error.CopyCause.TheVariants.{Asm}
 use Rattle.bench_shelf.specs.CopyAnswers.{CopyRefuses, IsOwnCause, defined_place, refused_at}
-use Rattle.bench_shelf.specs.Causes.{ShelfCauses, TookNoMore}
+use Rattle.bench_shelf.specs.Causes.{ShelfCauses, ReadWithinLimit}
 use Rattle.bench_shelf.specs.Dialogue.{CopyDialogue}
 use Rattle.bench_shelf.specs.Kept.{defined_kept, AreKept}
 
@@ -104,7 +104,7 @@ pub record ListAnswered (before after : ShelfState) (source : List ℕ) (result 
 
 abbrev pub EndingCauses : ListedEnding → ShelfState → ShelfState → Type 0
 EndingCauses (Before error) before after = ShelfCauses error before after
-EndingCauses (Whole known) before after = TookNoMore most_bytes before after
+EndingCauses (Whole known) before after = ReadWithinLimit most_bytes before after
 EndingCauses (Behind known number error) before after = ShelfCauses error before after
 
 -- what it says of the shelf

@@ -1,7 +1,7 @@
 -- A shelf in memory.
 use Rattle.std.specs.Prelude.{◌≡◌, ℕ, ◌-◌, ◌≤◌, List, [], length, drop, map, Option, Some, None, Contains}
 use Rattle.std.specs.Prelude.{Result, Ok, Err}
-use Rattle.count_defs.specs.Counts.{raised, Rose}
+use Rattle.count_defs.specs.Counts.{saturating_sum, Rose}
 use Rattle.std.specs.FinMap.{get}
 use Rattle.bench_shelf.specs.States.{Shelved, by_name}
 use Rattle.bench_shelf.specs.declared.error.OpenError.{OpenError}
@@ -33,7 +33,7 @@ IsWithin rest None = ⊥
 -- a shelf that was asked for a file: none is open, and the call is counted
 abbrev pub asked : Shelved → Shelved
 asked before =
-    record before { left = []; given = 0; requests = raised before.requests 1; opens = raised before.opens 1 }
+    record before { left = []; given = 0; requests = saturating_sum before.requests 1; opens = saturating_sum before.opens 1 }
 
 -- a shelf whose next call opens a file of this name, or finds that it fails, or that the name is missing
 abbrev pub OpensIn : {A : Type 0} → Shelved → List ℕ → Result A OpenError → Shelved → Type 0
@@ -42,7 +42,7 @@ OpensIn before name (Ok _) after =
     × (after ≡ record (asked before) { left = bytes })
 OpensIn before name (Err Failed) after =
     Contains before.fails before.requests × Rose before.faults after.faults
-    × (after ≡ record (asked before) { faults = raised before.faults 1 })
+    × (after ≡ record (asked before) { faults = saturating_sum before.faults 1 })
 OpensIn before name (Err Missing) after =
     (bytes_of before.files name ≡ None) × (Contains before.fails before.requests → ⊥) × Rose before.misses after.misses
-    × (after ≡ record (asked before) { misses = raised before.misses 1 })
+    × (after ≡ record (asked before) { misses = saturating_sum before.misses 1 })

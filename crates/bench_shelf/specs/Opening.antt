@@ -1,7 +1,7 @@
 -- What opening a file does to a shelf.
 use Rattle.std.specs.Prelude.{◌≡◌, ℕ, List, [], ◌∷◌, Option, Some, None, IfSome}
 use Rattle.std.specs.FinMap.{get}
-use Rattle.count_defs.specs.Counts.{raised, Rose}
+use Rattle.count_defs.specs.Counts.{saturating_sum, Rose}
 use Rattle.bench_io.specs.Stream.{SourceState}
 use Rattle.shelf_defs.specs.Files.{Files}
 use Rattle.bench_shelf.specs.States.{ShelfState, asked_more}
@@ -24,7 +24,7 @@ Refuses Missing before after name = Rose before.misses after.misses × IsMissing
 -- the call is counted and its name kept after the others, and of the file that was opened no bytes were given yet, nor
 -- were any of one that was refused
 pub record StartsAnew (before after : ShelfState) (name : List ℕ) : Type 0 where
-  pub opens : after.opens ≡ raised before.opens 1
+  pub opens : after.opens ≡ saturating_sum before.opens 1
   pub asked : after.asked ≡ asked_more before.asked (name ∷ [])
   pub given : after.source.given ≡ 0
   pub largest : after.source.largest ≡ before.source.largest

@@ -28,19 +28,19 @@ pub record SameFiles (before after : ShelfState) : Type 0 where
   pub asked : after.asked ≡ before.asked
 
 -- what stands of a shelf while its open file is read
-abbrev pub Standing : Type 0
-Standing = ℕ × ℕ × Option Files × Option (List (List ℕ))
+abbrev pub FixedPart : Type 0
+FixedPart = ℕ × ℕ × Option Files × Option (List (List ℕ))
 
-abbrev pub standing : ShelfState → Standing
-standing shelf = (shelf.opens, shelf.misses, shelf.files, shelf.asked)
+abbrev pub fixed_part : ShelfState → FixedPart
+fixed_part shelf = (shelf.opens, shelf.misses, shelf.files, shelf.asked)
 
-abbrev pub same_files : (before after : ShelfState) → standing after ≡ standing before → SameFiles before after
+abbrev pub same_files : (before after : ShelfState) → fixed_part after ≡ fixed_part before → SameFiles before after
 same_files before after same =
     record {
-      files = ap (λ (stands : Standing). stands.2) same;
-      opens = ap (λ (stands : Standing). stands.0) same;
-      misses = ap (λ (stands : Standing). stands.1) same;
-      asked = ap (λ (stands : Standing). stands.3) same;
+      files = ap (λ (stands : FixedPart). stands.2) same;
+      opens = ap (λ (stands : FixedPart). stands.0) same;
+      misses = ap (λ (stands : FixedPart). stands.1) same;
+      asked = ap (λ (stands : FixedPart). stands.3) same;
     }
 
 -- A shelf in memory: its files by name, where the first of equal names counts; what is left of the open one; the
@@ -67,8 +67,8 @@ abbrev pub by_name : List (List ℕ × List ℕ) → Files
 by_name files = from_entries files
 
 -- a shelf in memory as a shelf that tells its files
-abbrev pub told : Shelved → ShelfState
-told shelf =
+abbrev pub visible_state : Shelved → ShelfState
+visible_state shelf =
     record {
       source =
           record {

@@ -4,7 +4,7 @@ ghost use Rattle.std.specs.Prelude.{◌≤◌, IfSome, IfErr, OnOk, length};
 ghost use Rattle.shelf_defs.specs.Copied.{most_bytes};
 ghost use Rattle.shelf_defs.specs.Assembly.{module_of_files};
 ghost use Rattle.bench_shelf.specs.CopyAnswers.{GivesCopied};
-ghost use Rattle.bench_shelf.specs.Causes.{Later, ShelfCauses, TookNoMore};
+ghost use Rattle.bench_shelf.specs.Causes.{CountsGrew, ShelfCauses, ReadWithinLimit};
 ghost use Rattle.bench_shelf.specs.Answered.{Answered};
 
 use crate::copy_error::CopyError;
@@ -39,8 +39,8 @@ pub fn copy_assemble<F: Shelf>(
     ensures shown { IfSome (F.shelf shelf.old).files (λ files. GivesCopied result (module_of_files files text.now)) }
     ensures causes { IfErr result (λ error. ShelfCauses error (F.shelf shelf.old) (F.shelf shelf.new)) }
     // With `Ok` too no more bytes of one file were taken than it may have.
-    ensures within { OnOk result (TookNoMore most_bytes (F.shelf shelf.old) (F.shelf shelf.new)) }
-    ensures later { Later (F.shelf shelf.old) (F.shelf shelf.new) }
+    ensures within { OnOk result (ReadWithinLimit most_bytes (F.shelf shelf.old) (F.shelf shelf.new)) }
+    ensures later { CountsGrew (F.shelf shelf.old) (F.shelf shelf.new) }
 {
     let mut copying = Copying::new(alloc);
     if let Err(error) = copying.copy_lines(shelf, DEEPEST, &None, text) {

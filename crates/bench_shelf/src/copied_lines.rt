@@ -6,11 +6,11 @@ ghost use Rattle.shelf_defs.specs.Copied as spec;
 ghost use Rattle.shelf_defs.specs.Copied.{most_bytes, most_copies};
 ghost use Rattle.asm_core.specs.Building.{IsOpen};
 ghost use Rattle.bench_shelf.specs.CopyAnswers.{defined_place};
-ghost use Rattle.bench_shelf.specs.Leading.{Copies, HasRoom, Grows, trouble};
-ghost use Rattle.bench_shelf.specs.Causes.{Later, ShelfCauses, TookNoMore};
+ghost use Rattle.bench_shelf.specs.Leading.{Copies, HasRoom, Grows, error_in};
+ghost use Rattle.bench_shelf.specs.Causes.{CountsGrew, ShelfCauses, ReadWithinLimit};
 
 use crate::copy_error::{CopyCause, CopyError};
-use crate::copy_line::{Asked, asked_by};
+use crate::copy_line::{LineKind, line_kind};
 use crate::copying::Copying;
 use crate::file_name::FileName;
 use crate::named_file::read_named;
@@ -43,10 +43,10 @@ impl Copying {
         requires room { HasRoom (length text.now) self.old }
         ensures copies { Copies self.old self.new
             (λ contents. spec.lines_in (spec.copy_line contents levels) file.now self.old.copies (line_texts text.now))
-            (trouble result) (F.shelf shelf.old) (F.shelf shelf.new) }
+            (error_in result) (F.shelf shelf.old) (F.shelf shelf.new) }
         ensures causes { IfErr result (λ error. ShelfCauses error (F.shelf shelf.old) (F.shelf shelf.new)) }
-        ensures within { OnOk result (TookNoMore most_bytes (F.shelf shelf.old) (F.shelf shelf.new)) }
-        ensures later { Later (F.shelf shelf.old) (F.shelf shelf.new) }
+        ensures within { OnOk result (ReadWithinLimit most_bytes (F.shelf shelf.old) (F.shelf shelf.new)) }
+        ensures later { CountsGrew (F.shelf shelf.old) (F.shelf shelf.new) }
         ensures grows { OnOk result (Grows (length text.now) self.old self.new) }
         ensures most { self.new.copies ≤ most_copies }
         ensures same { is_some self.new.kept ≡ is_some self.old.kept }
@@ -77,21 +77,21 @@ impl Copying {
         requires room { HasRoom 1 self.old }
         ensures copies { Copies self.old self.new
             (λ contents. spec.one_line (spec.copy_line contents levels) (defined_place place) self.old.copies text.now)
-            (trouble result) (F.shelf shelf.old) (F.shelf shelf.new) }
+            (error_in result) (F.shelf shelf.old) (F.shelf shelf.new) }
         ensures causes { IfErr result (λ error. ShelfCauses error (F.shelf shelf.old) (F.shelf shelf.new)) }
-        ensures within { OnOk result (TookNoMore most_bytes (F.shelf shelf.old) (F.shelf shelf.new)) }
-        ensures later { Later (F.shelf shelf.old) (F.shelf shelf.new) }
+        ensures within { OnOk result (ReadWithinLimit most_bytes (F.shelf shelf.old) (F.shelf shelf.new)) }
+        ensures later { CountsGrew (F.shelf shelf.old) (F.shelf shelf.new) }
         ensures grows { OnOk result (Grows 1 self.old self.new) }
         ensures most { self.new.copies ≤ most_copies }
         ensures same { is_some self.new.kept ≡ is_some self.old.kept }
     {
-        match asked_by(text) {
-            Asked::Itself => match self.take(&place.file, place.line, text) {
+        match line_kind(text) {
+            LineKind::Itself => match self.take(&place.file, place.line, text) {
                 Ok(()) => Ok(()),
                 Err(failure) => Err(place.failed(failure)),
             },
-            Asked::File(name) => self.copy_file(shelf, levels, place, name),
-            Asked::Bad => Err(place.refused(CopyCause::BadCopy)),
+            LineKind::File(name) => self.copy_file(shelf, levels, place, name),
+            LineKind::Bad => Err(place.refused(CopyCause::BadCopy)),
         }
     }
 
@@ -108,10 +108,10 @@ impl Copying {
         requires room { HasRoom 1 self.old }
         ensures copies { Copies self.old self.new
             (λ contents. spec.copy_line contents levels (defined_place place) self.old.copies name)
-            (trouble result) (F.shelf shelf.old) (F.shelf shelf.new) }
+            (error_in result) (F.shelf shelf.old) (F.shelf shelf.new) }
         ensures causes { IfErr result (λ error. ShelfCauses error (F.shelf shelf.old) (F.shelf shelf.new)) }
-        ensures within { OnOk result (TookNoMore most_bytes (F.shelf shelf.old) (F.shelf shelf.new)) }
-        ensures later { Later (F.shelf shelf.old) (F.shelf shelf.new) }
+        ensures within { OnOk result (ReadWithinLimit most_bytes (F.shelf shelf.old) (F.shelf shelf.new)) }
+        ensures later { CountsGrew (F.shelf shelf.old) (F.shelf shelf.new) }
         ensures grows { OnOk result (Grows 1 self.old self.new) }
         ensures most { self.new.copies ≤ most_copies }
         ensures same { is_some self.new.kept ≡ is_some self.old.kept }

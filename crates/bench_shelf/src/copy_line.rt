@@ -8,7 +8,7 @@ use crate::file_name::FileName;
 use asm_text::{Name, between_quotes, fields, is_operation, is_quote, is_word, part};
 
 /// What a line of a source asks for.
-pub(crate) enum Asked {
+pub(crate) enum LineKind {
     /// It stands for itself.
     Itself,
     /// The lines of a file.
@@ -28,31 +28,31 @@ fn copies_nothing(line: &[u8]) -> bool
 /// What a line of a source asks for. A line with the operation COPY asks for a file. It has no label, and its operand
 /// is the name of the file in quotes.
 #[tactic(auto, unfolding(shelf_defs::specs::CopyLines::asked))]
-pub(crate) fn asked_by(line: &[u8]) -> Asked
+pub(crate) fn line_kind(line: &[u8]) -> LineKind
     ensures { defined_asked result ≡ spec.asked line.now }
 {
     if copies_nothing(line) {
-        return Asked::Itself;
+        return LineKind::Itself;
     }
     let Ok(found) = fields(line) else {
-        return Asked::Itself;
+        return LineKind::Itself;
     };
     let Some(operation) = found.operation else {
-        return Asked::Itself;
+        return LineKind::Itself;
     };
     if !is_word(part(line, operation), b"COPY") {
-        return Asked::Itself;
+        return LineKind::Itself;
     }
     asked_for(found.label, quoted_name(part(line, found.operands)))
 }
 
 /// What a line with the operation COPY asks for, by its label and the name in its operand field.
-fn asked_for(label: Option<Name>, name: Option<FileName>) -> Asked
+fn asked_for(label: Option<Name>, name: Option<FileName>) -> LineKind
     ensures { defined_asked result ≡ spec.asked_for label name }
 {
     match (label, name) {
-        (None, Some(name)) => Asked::File(name),
-        _ => Asked::Bad,
+        (None, Some(name)) => LineKind::File(name),
+        _ => LineKind::Bad,
     }
 }
 

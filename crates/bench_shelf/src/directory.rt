@@ -1,10 +1,10 @@
 //! The current folder as a shelf.
 
 ghost use Rattle.std.specs.Prelude.{◌≡◌, ◌<◌, ◌≤◌, max, length, false, refl, is_some, IfOk, OnErr};
-ghost use Rattle.count_defs.specs.Counts.{raised, Rose};
+ghost use Rattle.count_defs.specs.Counts.{saturating_sum, Rose};
 ghost use Rattle.bench_io.specs.Stream.{empty_calls};
-ghost use Rattle.bench_shelf.specs.States.{Standing, standing, same_files};
-ghost use Rattle.bench_shelf.specs.FolderShelf.{untold, OpensFrom};
+ghost use Rattle.bench_shelf.specs.States.{FixedPart, fixed_part, same_files};
+ghost use Rattle.bench_shelf.specs.FolderShelf.{hidden_state, OpensFrom};
 
 use crate::error::OpenError;
 use crate::file_name::FileName;
@@ -87,16 +87,16 @@ impl<'a, R: Files> DirShelf<'a, R> {
         ensures within { IfOk result (λ count. count ≤ length buffer.old) }
         ensures cause { OnErr result (Rose self.old.faults self.new.faults) }
         ensures ok { IfOk result (λ count. self.new ≡ record self.old {
-          calls = raised self.old.calls 1;
-          taken = raised self.old.taken count;
-          given = raised self.old.given count;
-          largest = max self.old.largest (raised self.old.given count);
-          empty = raised self.old.empty (empty_calls count);
+          calls = saturating_sum self.old.calls 1;
+          taken = saturating_sum self.old.taken count;
+          given = saturating_sum self.old.given count;
+          largest = max self.old.largest (saturating_sum self.old.given count);
+          empty = saturating_sum self.old.empty (empty_calls count);
         }) }
         ensures error { OnErr result (self.new ≡ record self.old {
-          calls = raised self.old.calls 1;
-          empty = raised self.old.empty 1;
-          faults = raised self.old.faults 1;
+          calls = saturating_sum self.old.calls 1;
+          empty = saturating_sum self.old.empty 1;
+          faults = saturating_sum self.old.faults 1;
         }) }
     {
         self.calls = self.calls.saturating_add(1);
@@ -120,11 +120,11 @@ impl<'a, R: Files> DirShelf<'a, R> {
 }
 
 impl<'a, R: Files> Source for DirShelf<'a, R> {
-    ghost state = { λ s. (untold s).source };
+    ghost state = { λ s. (hidden_state s).source };
 
-    ghost Kept = { Standing };
+    ghost Kept = { FixedPart };
 
-    ghost kept = { λ s. standing (untold s) };
+    ghost kept = { λ s. fixed_part (hidden_state s) };
 
     fn take(&mut self, buffer: &mut [u8]) -> Result<usize, Failed> {
         self.read(buffer)
@@ -132,11 +132,11 @@ impl<'a, R: Files> Source for DirShelf<'a, R> {
 }
 
 impl<'a, R: Files> Shelf for DirShelf<'a, R> {
-    ghost shelf = { untold };
+    ghost shelf = { hidden_state };
 
     ghost source_is = { λ _. refl };
 
-    ghost keeps = { λ before after. same_files (untold before) (untold after) };
+    ghost keeps = { λ before after. same_files (hidden_state before) (hidden_state after) };
 
     /// Opens a file, and counts the call. One that is refused leaves none open and raises the count of faults or that
     /// of misses by one, and no other call does.

@@ -2,7 +2,7 @@
 
 ghost use Rattle.std.specs.Prelude.{◌≡◌, ◌≤◌, true, List, IfErr, length, is_some};
 ghost use Rattle.shelf_defs.specs.Copied.{PlacedLine};
-ghost use Rattle.bench_shelf.specs.Causes.{Later};
+ghost use Rattle.bench_shelf.specs.Causes.{CountsGrew};
 ghost use Rattle.bench_shelf.specs.Leading.{Holds};
 ghost use Rattle.bench_shelf.specs.Listed.{Finishes, ListAnswered, IsUntold, ListCauses, StopsAt};
 ghost use Rattle.bench_shelf.specs.RefusedLines.{RefusesLine};
@@ -60,7 +60,7 @@ pub fn copy_listed<F: Shelf>(
     ensures answered { ListAnswered (F.shelf shelf.old) (F.shelf shelf.new) text.now result }
     ensures untold { IfErr result IsUntold }
     ensures causes { ListCauses result (F.shelf shelf.old) (F.shelf shelf.new) }
-    ensures later { Later (F.shelf shelf.old) (F.shelf shelf.new) }
+    ensures later { CountsGrew (F.shelf shelf.old) (F.shelf shelf.new) }
 {
     let mut copying = Copying::keeping(alloc);
     match copying.copy_lines(shelf, DEEPEST, &None, text) {

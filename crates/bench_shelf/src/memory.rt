@@ -3,9 +3,9 @@
 ghost use Rattle.std.specs.Prelude.{◌≡◌, ◌↔◌, ◌<◌, ◌≤◌, min, max, [], ◌++◌, length, take, drop, refl, IsTrue, IsFalse};
 ghost use Rattle.std.specs.Prelude.{IsErr, IfOk, OnOk, OnErr, IfErr, Contains, is_some, Option};
 ghost use Rattle.std.specs.Option.{option_map, unwrap_or};
-ghost use Rattle.count_defs.specs.Counts.{raised, Rose};
+ghost use Rattle.count_defs.specs.Counts.{saturating_sum, Rose};
 ghost use Rattle.bench_io.specs.Stream.{empty_calls};
-ghost use Rattle.bench_shelf.specs.States.{Standing, standing, same_files, told};
+ghost use Rattle.bench_shelf.specs.States.{FixedPart, fixed_part, same_files, visible_state};
 ghost use Rattle.bench_shelf.specs.MemoryShelf.{named, bytes_of, OpensIn};
 
 use crate::error::OpenError;
@@ -114,7 +114,7 @@ impl MemShelf {
     /// Whether the next call fails, which is then counted as made.
     fn fails_next(&mut self) -> bool
         ensures fails { IsTrue result ↔ Contains self.old.fails self.old.requests }
-        ensures counted { self.new ≡ record self.old { requests = raised self.old.requests 1 } }
+        ensures counted { self.new ≡ record self.old { requests = saturating_sum self.old.requests 1 } }
     {
         let request = self.requests;
         self.requests = request.saturating_add(1);
@@ -123,7 +123,7 @@ impl MemShelf {
 
     /// Counts a call of `open_file`, and closes the open file. Of the one that is opened next no bytes were given yet.
     fn begin_opening(&mut self)
-        ensures { self.new ≡ record self.old { left = []; given = 0; opens = raised self.old.opens 1 } }
+        ensures { self.new ≡ record self.old { left = []; given = 0; opens = saturating_sum self.old.opens 1 } }
     {
         self.opens = self.opens.saturating_add(1);
         self.current = None;
@@ -153,10 +153,10 @@ impl MemShelf {
         requires { count ≤ length self.old.left }
         ensures { self.new ≡ record self.old {
           left = drop count self.old.left;
-          taken = raised self.old.taken count;
-          given = raised self.old.given count;
-          largest = max self.old.largest (raised self.old.given count);
-          empty = raised self.old.empty (empty_calls count);
+          taken = saturating_sum self.old.taken count;
+          given = saturating_sum self.old.given count;
+          largest = max self.old.largest (saturating_sum self.old.given count);
+          empty = saturating_sum self.old.empty (empty_calls count);
         } }
     {
         self.rest -= count;
@@ -183,32 +183,32 @@ impl MemShelf {
 }
 
 impl Source for MemShelf {
-    ghost state = { λ s. (told s).source };
+    ghost state = { λ s. (visible_state s).source };
 
-    ghost Kept = { Standing };
+    ghost Kept = { FixedPart };
 
-    ghost kept = { λ s. standing (told s) };
+    ghost kept = { λ s. fixed_part (visible_state s) };
 
     fn take(&mut self, buffer: &mut [u8]) -> Result<usize, Failed>
         requires { 0 < length buffer.old }
         ensures fails { IsErr result ↔ Contains self.old.fails self.old.requests }
         ensures failed { OnErr result (self.new ≡ record self.old {
-          requests = raised self.old.requests 1;
-          calls = raised self.old.calls 1;
-          empty = raised self.old.empty 1;
-          faults = raised self.old.faults 1;
+          requests = saturating_sum self.old.requests 1;
+          calls = saturating_sum self.old.calls 1;
+          empty = saturating_sum self.old.empty 1;
+          faults = saturating_sum self.old.faults 1;
         }) }
         ensures cause { OnErr result (Rose self.old.faults self.new.faults) }
         ensures count { IfOk result (λ count. count ≡ min (length buffer.old) (length self.old.left)) }
         ensures bytes { IfOk result (λ count. buffer.new ≡ take count self.old.left ++ drop count buffer.old) }
         ensures ok { IfOk result (λ count. self.new ≡ record self.old {
           left = drop count self.old.left;
-          requests = raised self.old.requests 1;
-          calls = raised self.old.calls 1;
-          taken = raised self.old.taken count;
-          given = raised self.old.given count;
-          largest = max self.old.largest (raised self.old.given count);
-          empty = raised self.old.empty (empty_calls count);
+          requests = saturating_sum self.old.requests 1;
+          calls = saturating_sum self.old.calls 1;
+          taken = saturating_sum self.old.taken count;
+          given = saturating_sum self.old.given count;
+          largest = max self.old.largest (saturating_sum self.old.given count);
+          empty = saturating_sum self.old.empty (empty_calls count);
         }) }
     {
         let fails = self.fails_next();
@@ -225,11 +225,11 @@ impl Source for MemShelf {
 }
 
 impl Shelf for MemShelf {
-    ghost shelf = { told };
+    ghost shelf = { visible_state };
 
     ghost source_is = { λ _. refl };
 
-    ghost keeps = { λ before after. same_files (told before) (told after) };
+    ghost keeps = { λ before after. same_files (visible_state before) (visible_state after) };
 
     fn open_file(&mut self, name: &FileName) -> Result<(), OpenError>
         ensures { OpensIn self.old name.now result self.new }

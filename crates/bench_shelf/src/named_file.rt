@@ -2,7 +2,7 @@
 
 ghost use Rattle.std.specs.Prelude.{◌<◌, ◌≤◌, IfOk, IfErr, OnOk, length};
 ghost use Rattle.shelf_defs.specs.Questions.{Bytes};
-ghost use Rattle.bench_shelf.specs.Causes.{AsksOne, Later, FileCauses, IsOfName, TookNoMore, answer_by};
+ghost use Rattle.bench_shelf.specs.Causes.{AsksOne, CountsGrew, FileCauses, IsOfName, ReadWithinLimit, answer_by};
 
 use crate::error::{FileError, OpenError};
 use crate::file_name::FileName;
@@ -31,8 +31,8 @@ pub fn read_named<F: Shelf>(
     ensures missed { IfErr result (IsOfName name.now) }
     ensures size { IfOk result (λ bytes. length bytes.items ≤ limit) }
     ensures causes { IfErr result (λ error. FileCauses limit error (F.shelf shelf.old) (F.shelf shelf.new)) }
-    ensures within { OnOk result (TookNoMore limit (F.shelf shelf.old) (F.shelf shelf.new)) }
-    ensures later { Later (F.shelf shelf.old) (F.shelf shelf.new) }
+    ensures within { OnOk result (ReadWithinLimit limit (F.shelf shelf.old) (F.shelf shelf.new)) }
+    ensures later { CountsGrew (F.shelf shelf.old) (F.shelf shelf.new) }
 {
     match shelf.open_file(name) {
         Ok(()) => {}

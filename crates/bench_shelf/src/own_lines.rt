@@ -6,7 +6,7 @@ ghost use Rattle.shelf_defs.specs.Assembly.{texts, in_place};
 ghost use Rattle.asm_defs.specs.Modules.{module_of_lines};
 ghost use Rattle.asm_core.specs.Building.{IsOpen};
 ghost use Rattle.bench_shelf.specs.CopyAnswers.{defined_place, failed_at, place_in, GivesCopied};
-ghost use Rattle.bench_shelf.specs.Leading.{Holds, IsHeld, Leads, HasRoom, Grows, count, trouble_at};
+ghost use Rattle.bench_shelf.specs.Leading.{Holds, IsHeld, CopiesTo, HasRoom, Grows, count, error_at};
 ghost use Rattle.bench_shelf.specs.Causes.{IsOfLine};
 
 use crate::copy_error::{CopyCause, CopyError};
@@ -59,8 +59,8 @@ impl Copying {
     ) -> Result<(), Failure>
         requires going { IsOpen self.old.builder }
         requires room { HasRoom 1 self.old }
-        ensures leads { Leads self.old (own_line (defined_place (place_in file.now line)) self.old.copies text.now)
-            (trouble_at (place_in file.now line) result) self.new }
+        ensures leads { CopiesTo self.old (own_line (defined_place (place_in file.now line)) self.old.copies text.now)
+            (error_at (place_in file.now line) result) self.new }
         ensures same { is_some self.new.kept ≡ is_some self.old.kept }
         ensures grows { OnOk result (Grows 1 self.old self.new) }
         ensures copies { self.new.copies ≡ self.old.copies }

@@ -1,7 +1,7 @@
 -- How a line shows all that its step changed.
 use Rattle.std.specs.Prelude.{ℕ, ◌+◌, ◌==◌, ◌&&◌, not, if◌then◌else◌, List, [], ◌∷◌, ◌++◌, codes}
 use Rattle.std.specs.Fmt.{decimal}
-use Rattle.source_defs.specs.Digits.{marked_word, byte_digits}
+use Rattle.source_defs.specs.Digits.{hex_word, byte_digits}
 use Rattle.gpl_step_defs.specs.declared.cells.TheConstants.{VISIBLE_CELLS}
 use Rattle.gpl_step_defs.specs.declared.limits.TheConstants.{VIDEO_REGISTERS}
 use Rattle.report_defs.specs.Trace.{ShowsChanges, cell_place, register_place}
@@ -19,7 +19,7 @@ size_of Registers = VIDEO_REGISTERS
 -- Profile: cells are shown by their addresses, video memory by V and the address, its registers by W and the digit.
 abbrev pub place_text : Part → ℕ → List ℕ
 place_text Cells at = cell_place at
-place_text Video at = codes "V" ++ marked_word at
+place_text Video at = codes "V" ++ hex_word at
 place_text Registers at = codes "W" ++ register_place at
 
 -- Profile: the same byte at several places in a row is written once, with their number.

@@ -19,7 +19,7 @@ use Rattle.tms_defs.specs.forms.One.{one, one_operand}
 use Rattle.tms_defs.specs.forms.Jump.{jump, jump_where}
 use Rattle.tms_defs.specs.forms.Imm.{imm}
 use Rattle.tms_defs.specs.forms.Bare.{bare}
-use Rattle.tms_defs.specs.Step.{is_stopping, executed, executed_where, step_end, step}
+use Rattle.tms_defs.specs.Step.{is_unsupported, executed, executed_where, step_end, step}
 use Rattle.console_defs.specs.Causes.{is_refused, refused_at, refusal, MeetsPort}
 use Rattle.tms_defs.specs.declared.flags.Flags.{Flags}
 use Rattle.tms_defs.specs.declared.instruction.Place.{Place}
@@ -139,7 +139,7 @@ division_executes (Some words) address x = with_words_executes x (in_row address
 division_executes None address x = GivesValue x
 
 reg_executes : (op : RegOp) (number source : ℕ) (src : Place) (x : Cpu Memory) →
-    is_stopping (Reg op number src) ≡ false →
+    is_unsupported (Reg op number src) ≡ false →
     Executes (reg Memory console op number source x)
 reg_executes COC number source src x e = search operands
 reg_executes CZC number source src x e = search operands
@@ -151,7 +151,7 @@ reg_executes MPY number source src x e = search operands
 reg_executes DIV number source src x e = search (operands, division_executes) depth 8
 
 source_executes : (op : RegOp) (number : ℕ) (src : Place) (x : Cpu Memory) →
-    is_stopping (Reg op number src) ≡ false → Executes (with_source Memory console op number src x)
+    is_unsupported (Reg op number src) ≡ false → Executes (with_source Memory console op number src x)
 source_executes op number src x e =
     let all : (source : ℕ) (y : Cpu Memory) → Executes (reg Memory console op number source y) =
     λ source y. reg_executes op number source src y e in
@@ -164,7 +164,7 @@ shift_executes : (op : ShiftOp) (count number : ℕ) (x : Cpu Memory) →
     Executes (shift Memory console op count number x)
 shift_executes op count number x = search (operands, count_executes)
 
-one_executes : (op : OneOp) (address : ℕ) (at : Place) (x : Cpu Memory) → is_stopping (One op at) ≡ false →
+one_executes : (op : OneOp) (address : ℕ) (at : Place) (x : Cpu Memory) → is_unsupported (One op at) ≡ false →
     Executes (one Memory console op address x)
 one_executes BLWP address at x e = search operands depth 8
 one_executes B address at x e = search operands
@@ -181,7 +181,7 @@ one_executes SWPB address at x e = search operands
 one_executes SETO address at x e = search operands
 one_executes ABS address at x e = search operands
 
-one_operand_executes : (op : OneOp) (at : Place) (x : Cpu Memory) → is_stopping (One op at) ≡ false →
+one_operand_executes : (op : OneOp) (at : Place) (x : Cpu Memory) → is_unsupported (One op at) ≡ false →
     Executes (one_operand Memory console op at x)
 one_operand_executes op at x e =
     let all : (address : ℕ) (y : Cpu Memory) → Executes (one Memory console op address y) =
@@ -191,7 +191,7 @@ one_operand_executes op at x e =
 jump_where_executes : (taken : Bool) (disp : ℤ) (x : Cpu Memory) → Executes (jump_where Memory (Some taken) disp x)
 jump_where_executes taken disp x = GivesValue _
 
-jump_executes : (op : JumpOp) (disp : ℤ) (x : Cpu Memory) → is_stopping (Jump op disp) ≡ false →
+jump_executes : (op : JumpOp) (disp : ℤ) (x : Cpu Memory) → is_unsupported (Jump op disp) ≡ false →
     Executes (jump Memory op disp x)
 jump_executes JMP disp x e = search jump_where_executes
 jump_executes JLT disp x e = search jump_where_executes
@@ -219,7 +219,7 @@ imm_executes CI number x = search operands depth 8
 imm_executes STWP number x = search operands
 imm_executes STST number x = search operands
 
-bare_executes : (op : BareOp) (x : Cpu Memory) → is_stopping (Bare op) ≡ false →
+bare_executes : (op : BareOp) (x : Cpu Memory) → is_unsupported (Bare op) ≡ false →
     Executes (bare Memory console op x)
 bare_executes LWPI x e = search operands
 bare_executes LIMI x e = search operands
@@ -231,7 +231,7 @@ bare_executes CKOF x e = absurd (cc)
 bare_executes LREX x e = absurd (cc)
 
 -- An instruction whose operation is executed gives a state, or meets a port.
-pub instr_executes : (instr : Instr) (x : Cpu Memory) → is_stopping instr ≡ false →
+pub instr_executes : (instr : Instr) (x : Cpu Memory) → is_unsupported instr ≡ false →
     Executes (executed Memory console instr x)
 instr_executes (Two op byte dst src) x e = two_operands_executes op (byte_or_word byte) dst src x
 instr_executes (Reg op number src) x e = source_executes op number src x e
@@ -276,16 +276,16 @@ by_state x word (Gives y) is = record { is_refused = refl; port = tt }
 by_state x word (AtPort address) (MeetsPortAt at port) = record { is_refused = refl; port = port }
 by_state x word NoInstruction is = elim is [ ]
 
-by_test : (x y : Cpu Memory) (word : ℕ) (instr : Instr) (stopping : Bool) → is_stopping instr ≡ stopping →
+by_test : (x y : Cpu Memory) (word : ℕ) (instr : Instr) (stopping : Bool) → is_unsupported instr ≡ stopping →
     HasCause (if stopping then Some x.pc else None)
     (end_by_state x word (if stopping then NoInstruction else executed Memory console instr y))
 by_test x y word instr true e = record { is_refused = refl; port = tt }
 by_test x y word instr false e = by_state x word (executed Memory console instr y) (instr_executes instr y e)
 
 by_row : (x y : Cpu Memory) (word : ℕ) (found : Option Instr) →
-    HasCause (if elim found [ Some instr ↦ is_stopping instr | None ↦ true ] then Some x.pc else None)
+    HasCause (if elim found [ Some instr ↦ is_unsupported instr | None ↦ true ] then Some x.pc else None)
     (end_by_state x word (executed_where Memory console found y))
-by_row x y word (Some instr) = by_test x y word instr (is_stopping instr) refl
+by_row x y word (Some instr) = by_test x y word instr (is_unsupported instr) refl
 by_row x y word None = record { is_refused = refl; port = tt }
 
 by_word : (x : Cpu Memory) (word : Answer ℕ) → Executes word →

@@ -2,7 +2,7 @@
 use Rattle.std.proofs.Common.{◌≡◌, ◌<◌, ℕ, zero, suc, ◌+◌, Bool, true, false, refl, sym, ap, ◌∙◌, arith, Option, Some}
 use Rattle.std.proofs.Common.{None}
 use Rattle.std.specs.Prelude.{eqb, if◌then◌else◌}
-use Rattle.count_defs.specs.Counts.{raised}
+use Rattle.count_defs.specs.Counts.{saturating_sum}
 use Rattle.tms_defs.specs.Accesses.{Answer, Gives, AtPort, NoInstruction, ◌>>=◌}
 use Rattle.console_defs.specs.Memory.{Memory, IsMemory, console}
 use Rattle.tms_defs.specs.Operand.{Cpu}
@@ -42,24 +42,24 @@ given a b e = cc
 
 -- What a step that gives a machine has counted.
 given_count : (end : StepEnd) (cpu : Cpu Memory) (count : ℕ) (z : MachineState) →
-    given_by (end, record { cpu = cpu; count = counted end count }) ≡ Gives z → z.count ≡ raised count 1
+    given_by (end, record { cpu = cpu; count = counted end count }) ≡ Gives z → z.count ≡ saturating_sum count 1
 given_count (Done word) cpu count z gives = sym (ap (λ (x : MachineState). x.count) (given _ z gives))
 given_count (Refused address) cpu count z gives = absurd (cc)
 given_count (Port address) cpu count z gives = absurd (cc)
 
 next_count : (count : ℕ) (x z : MachineState) (a : Answer MachineState) →
-    ((y : MachineState) → a ≡ Gives y → y.count ≡ raised x.count 1) →
-    ((y : MachineState) → steps count y ≡ Gives z → z.count ≡ raised y.count count) →
-    (a >>= steps count) ≡ Gives z → z.count ≡ raised x.count (suc count)
+    ((y : MachineState) → a ≡ Gives y → y.count ≡ saturating_sum x.count 1) →
+    ((y : MachineState) → steps count y ≡ Gives z → z.count ≡ saturating_sum y.count count) →
+    (a >>= steps count) ≡ Gives z → z.count ≡ saturating_sum x.count (suc count)
 next_count count x z (Gives y) one all led =
-    let first : y.count ≡ raised x.count 1 = one y refl in
-    let rest : z.count ≡ raised y.count count = all y led in
+    let first : y.count ≡ saturating_sum x.count 1 = one y refl in
+    let rest : z.count ≡ saturating_sum y.count count = all y led in
     omega arith
 next_count count x z (AtPort address) one all led = absurd (cc)
 next_count count x z NoInstruction one all led = absurd (cc)
 
 -- So many steps raise the count by their number.
-pub steps-count : (count : ℕ) (x z : MachineState) → steps count x ≡ Gives z → z.count ≡ raised x.count count
+pub steps-count : (count : ℕ) (x z : MachineState) → steps count x ≡ Gives z → z.count ≡ saturating_sum x.count count
 steps-count zero x z led = sym (ap (λ (y : MachineState). y.count) (given x z led)) ∙ omega arith
 steps-count (suc count) x z led =
     next_count count x z (done_step x)
@@ -103,7 +103,7 @@ run_is_steps stop limit made x y ending run =
 
 -- A run raises the count by the number of its instructions.
 pub run_counts : (stop : Option ℕ) (limit made : ℕ) (x y : MachineState) (ending : RunEnd) →
-    IsRun stop limit made x ending y → y.count ≡ raised x.count made
+    IsRun stop limit made x ending y → y.count ≡ saturating_sum x.count made
 run_counts stop limit made x y ending run = steps-count made x y (run_is_steps stop limit made x y ending run)
 
 -- A new machine is one.

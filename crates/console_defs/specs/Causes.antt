@@ -4,13 +4,13 @@ use Rattle.tms_defs.specs.Instructions.{instr_at}
 use Rattle.tms_defs.specs.Accesses.{Gives, AtPort, NoInstruction}
 use Rattle.tms_defs.specs.Operand.{Cpu}
 use Rattle.console_defs.specs.Memory.{Memory, word_read, is_port_address}
-use Rattle.tms_defs.specs.Step.{is_stopping}
+use Rattle.tms_defs.specs.Step.{is_unsupported}
 use Rattle.tms_defs.specs.declared.step_end.StepEnd.{StepEnd}
 use Rattle.tms_defs.specs.declared.step_end.StepEnd.TheVariants.{Done, Refused, Port}
 
 -- A word that no step executes: it belongs to no row of the instruction table, or its operation is not executed.
 abbrev pub is_refused : ℕ → Bool
-is_refused word = elim (instr_at word) [ Some instr ↦ is_stopping instr | None ↦ true ]
+is_refused word = elim (instr_at word) [ Some instr ↦ is_unsupported instr | None ↦ true ]
 
 -- The address of the word that a step refused, where it ended so.
 abbrev pub refused_at : StepEnd → Option ℕ

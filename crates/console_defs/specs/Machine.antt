@@ -1,6 +1,6 @@
 -- The machine of the console: the processor over the console's memory, with a count of its instructions, and its steps.
 use Rattle.std.specs.Prelude.{◌≡◌, ◌<◌, ℕ, zero, suc, ◌^◌, Bool, ◌&&◌, ◌||◌, nat_le}
-use Rattle.count_defs.specs.Counts.{raised}
+use Rattle.count_defs.specs.Counts.{saturating_sum}
 use Rattle.tms_defs.specs.Words.{even}
 use Rattle.tms_defs.specs.Status.{IsStatus, status_at}
 use Rattle.tms_defs.specs.Accesses.{Answer, Gives, AtPort, NoInstruction, ◌>>=◌}
@@ -34,7 +34,7 @@ new_machine memory wp pc =
 
 -- The count after a step: an instruction that was executed raises it by one.
 abbrev pub counted : StepEnd → ℕ → ℕ
-counted (Done word) count = raised count 1
+counted (Done word) count = saturating_sum count 1
 counted (Refused address) count = count
 counted (Port address) count = count
 

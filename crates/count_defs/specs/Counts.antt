@@ -5,8 +5,8 @@
 use Rattle.std.specs.Prelude.{◌≢◌, ℕ, ◌+◌, ◌-◌, ◌^◌, ◌<◌, min, max, Bool, true, false}
 
 -- a count that was raised by a number
-abbrev pub raised : ℕ → ℕ → ℕ
-raised count by = max count (min (count + by) (2 ^ 64 - 1))
+abbrev pub saturating_sum : ℕ → ℕ → ℕ
+saturating_sum count by = max count (min (count + by) (2 ^ 64 - 1))
 
 -- a count rose: it is greater, or stands at its last value
 abbrev pub Rose : ℕ → ℕ → Type 0

@@ -14,7 +14,7 @@ use Rattle.bench_shelf.specs.declared.copy_error.CopyError.{CopyError}
 use Rattle.bench_shelf.specs.declared.copy_error.CopyError.TheVariants.{At, TooLarge, Fault, Memory}
 use Rattle.bench_shelf.proofs.AskedLaws.{some_contents}
 use Rattle.report_defs.specs.FileReports.{copy_report}
-use Rattle.reports.specs.declared.unreported.Unreported.{Unreported}
+use Rattle.reports.specs.declared.command_error.CommandError.{CommandError}
 use Rattle.reports.specs.Answers.{Reported, error_answer}
 use Rattle.file_commands.specs.Copying.{copy_refusal}
 use Rattle.file_commands.specs.Reported.{CopyCauses}
@@ -75,11 +75,11 @@ module _ (before after : ShelfState) (source : List ℕ) where
     is = refl;
   }
 
-  pub error_reported : (error : CopyError) (unreported : Unreported) → IsUntold error → ListingAnswered before after source (Err error)
-      → ListingCauses (Err error) before after → error_answer unreported ≡ seen (λ refusal. copy_report (Err refusal)) (copy_refusal error)
-      → Reported (ListReported before after source) (ListFails before after source) (error_answer unreported)
-  error_reported (At file line cause) unreported untold answered causes is = absurd untold
-  error_reported TooLarge unreported untold answered causes is = absurd untold
-  error_reported Fault unreported untold answered causes is =
+  pub error_reported : (error : CopyError) (command_error : CommandError) → IsUntold error → ListingAnswered before after source (Err error)
+      → ListingCauses (Err error) before after → error_answer command_error ≡ seen (λ refusal. copy_report (Err refusal)) (copy_refusal error)
+      → Reported (ListReported before after source) (ListFails before after source) (error_answer command_error)
+  error_reported (At file line cause) command_error untold answered causes is = absurd untold
+  error_reported TooLarge command_error untold answered causes is = absurd untold
+  error_reported Fault command_error untold answered causes is =
       rw is (answered.questions, answered.dialogue, record { ends = answered.ends; rose = causes.0; within = causes.1 })
-  error_reported Memory unreported untold answered causes is = rw is (answered.questions, answered.dialogue, causes)
+  error_reported Memory command_error untold answered causes is = rw is (answered.questions, answered.dialogue, causes)

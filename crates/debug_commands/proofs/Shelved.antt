@@ -6,7 +6,7 @@ use Rattle.bench_io.specs.Stream.{SourceState}
 use Rattle.bench_io.specs.ReadAll.{ReadWhole}
 use Rattle.shelf_defs.specs.Copied.{CopyRefusal, most_bytes}
 use Rattle.bench_shelf.specs.States.{ShelfState}
-use Rattle.bench_shelf.specs.Causes.{TookNoMore}
+use Rattle.bench_shelf.specs.Causes.{ReadWithinLimit}
 use Rattle.report_defs.specs.declared.fault.Fault.TheVariants.{TooLarge}
 use Rattle.report_defs.specs.declared.status.Status.{Status}
 use Rattle.report_defs.specs.declared.status.Status.TheVariants as status
@@ -34,7 +34,7 @@ run_at command before after o = record { said = Some command; before = before; a
 
 -- ---- a run that leaves the shelf as it was
 
-none_more : (shelf : ShelfState) → TookNoMore most_bytes shelf shelf
+none_more : (shelf : ShelfState) → ReadWithinLimit most_bytes shelf shelf
 none_more shelf = omega arith
 
 module _ (shelf : ShelfState) (input input' : SourceState) where

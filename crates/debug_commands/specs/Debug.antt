@@ -1,7 +1,7 @@
 -- `ti_debug` as a program: what its commands read of the input and of a shelf, report and leave.
 use Rattle.std.specs.Prelude.{◌≡◌, ◌⊎◌, ℕ, ◌+◌, ◌*◌, ◌≤◌, nat_lt, true, MatchBool, List, length}
 use Rattle.std.specs.Prelude.{Option, Some, None}
-use Rattle.count_defs.specs.Counts.{raised, Rose}
+use Rattle.count_defs.specs.Counts.{saturating_sum, Rose}
 use Rattle.bench_io.specs.Stream.{SourceState}
 use Rattle.bench_io.specs.ReadAll.{ReadWhole}
 use Rattle.shelf_defs.specs.Files.{Files}
@@ -18,13 +18,13 @@ use Rattle.bench_commands.specs.InputRun.{InputCommands, ReadsInput, TookWithin}
 use Rattle.debug_report_defs.specs.declared.command.DebugCommand.{DebugCommand}
 use Rattle.debug_report_defs.specs.declared.command.DebugCommand.TheVariants as command
 use Rattle.debug_report_defs.specs.Words.{debug_usage}
-use Rattle.debug_report_defs.specs.Reports.{InputReport, ReportOn, FrontOn}
+use Rattle.debug_report_defs.specs.Reports.{InputReport, ReportOn, PrefixOn}
 use Rattle.debug_commands.specs.Listed.{ListReported, ListFails, TookOfFiles}
 
 -- the commands over the input alone, which each of them reads
 abbrev pub debug_input : InputCommands DebugCommand
 debug_input =
-    record { usage = debug_usage; reads = λ command. true; Accepted = InputReport; FrontOn = FrontOn }
+    record { usage = debug_usage; reads = λ command. true; Accepted = InputReport; PrefixOn = PrefixOn }
 
 -- what the commands read: the input, and a shelf of files
 pub record Reading : Type 0 where
@@ -109,6 +109,6 @@ debug_program =
 abbrev pub TakesOfShelf : Option DebugCommand → ShelfState → ShelfState → Type 0
 TakesOfShelf None before after = after ≡ before
 TakesOfShelf (Some command.List) before after =
-    (after.opens ≤ raised before.opens most_copies)
-    × (after.source.taken ≤ raised before.source.taken ((most_bytes + 1) * most_copies))
+    (after.opens ≤ saturating_sum before.opens most_copies)
+    × (after.source.taken ≤ saturating_sum before.source.taken ((most_bytes + 1) * most_copies))
 TakesOfShelf (Some command) before after = after ≡ before

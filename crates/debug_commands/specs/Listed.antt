@@ -11,7 +11,7 @@ use Rattle.shelf_defs.specs.Questions.{Question, Agrees}
 use Rattle.asm_list_defs.specs.Listed.{listing_of}
 use Rattle.asm_list_defs.specs.Rows.{listing_rows}
 use Rattle.bench_shelf.specs.States.{ShelfState}
-use Rattle.bench_shelf.specs.Causes.{TookMore, TookNoMore}
+use Rattle.bench_shelf.specs.Causes.{ReadOverLimit, ReadWithinLimit}
 use Rattle.bench_shelf.specs.Dialogue.{CopyDialogue}
 use Rattle.bench_shelf.specs.declared.copy_error.CopyError.{CopyError}
 use Rattle.report_defs.specs.declared.status.Status.{Status}
@@ -32,7 +32,7 @@ pub record GivesRows (asked : ℕ) (rows : List (List ℕ)) (refusal : Option Co
 
 -- what a refusal says of the shelf, and what it says that there is none
 abbrev pub RefusalCauses : Option CopyRefusal → ShelfState → ShelfState → Type 0
-RefusalCauses None before after = TookNoMore most_bytes before after
+RefusalCauses None before after = ReadWithinLimit most_bytes before after
 RefusalCauses (Some refusal) before after = CopyCauses (Err refusal) before after
 
 -- The report of a source with the files that it copies, by the answers of the shelf, whatever else it would have
@@ -49,7 +49,7 @@ pub record ListReported (before after : ShelfState) (source : List ℕ) (report 
 
 -- Of no file more bytes were taken than it may have, unless of the last one more, which then is too large.
 abbrev pub TookOfFiles : ShelfState → ShelfState → Type 0
-TookOfFiles before after = TookNoMore most_bytes before after ⊎ TookMore most_bytes before after
+TookOfFiles before after = ReadWithinLimit most_bytes before after ⊎ ReadOverLimit most_bytes before after
 
 -- Why nothing is reported of a source. Where memory ran out there is no cause: it may run out once a file was found too
 -- large, while the rows of the lines before are made.

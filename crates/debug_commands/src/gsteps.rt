@@ -33,7 +33,7 @@ pub(crate) fn gsteps<O: Sink, E: Sink>(
 {
     let trace = match start_trace(alloc, limit, input) {
         Ok(trace) => trace,
-        Err(unreported) => return finish(&Err(unreported), out, err),
+        Err(command_error) => return finish(&Err(command_error), out, err),
     };
     match AllChanges::new(alloc) {
         Ok(mut line) => trace.finish(&mut line, out, err),

@@ -6,7 +6,7 @@ ghost use Rattle.source_defs.specs.Refusals.{seen};
 ghost use Rattle.report_defs.specs.Report.{largest_input};
 ghost use Rattle.report_defs.specs.FileReports.{copy_report};
 ghost use Rattle.debug_report_defs.specs.Listings.{rows_report};
-ghost use Rattle.bench_shelf.specs.Causes.{Later};
+ghost use Rattle.bench_shelf.specs.Causes.{CountsGrew};
 ghost use Rattle.bench_shelf.specs.Listed.{IsTold};
 ghost use Rattle.reports.specs.Answers.{error_answer};
 ghost use Rattle.reports.specs.Outputs.{EndsWith};
@@ -19,7 +19,7 @@ use bench_io::Sink;
 use bench_shelf::{CopyError, Shelf};
 use file_commands::copy_line;
 use report_defs::{Fault, Status};
-use reports::{Unreported, finish};
+use reports::{CommandError, finish};
 use std::alloc::Global;
 
 /// Lists a source with the files of a shelf that it copies. Of one that is refused the lines before the refused one are
@@ -38,11 +38,11 @@ pub(crate) fn list<F: Shelf, O: Sink, E: Sink>(
       err = E.state err.old;
       err' = E.state err.new;
     }) result }
-    ensures later { Later (F.shelf shelf.old) (F.shelf shelf.new) }
+    ensures later { CountsGrew (F.shelf shelf.old) (F.shelf shelf.new) }
 {
     match list_source(alloc, shelf, source) {
         Ok(listing) => finish_list(&listing, out, err),
-        Err(error) => finish(&Err(unreported(error)), out, err),
+        Err(error) => finish(&Err(command_error(error)), out, err),
     }
 }
 
@@ -60,19 +60,19 @@ fn finish_list<O: Sink, E: Sink>(listing: &AsmListing, out: &mut O, err: &mut E)
         return Status::WriteFault;
     }
     match listing.refused() {
-        Some(error) => finish(&Err(unreported(error)), out, err),
+        Some(error) => finish(&Err(command_error(error)), out, err),
         None => Status::Done,
     }
 }
 
 /// Why a source is refused, or is not listed.
-fn unreported(error: CopyError) -> Unreported
+fn command_error(error: CopyError) -> CommandError
     ensures { error_answer result ≡ seen (λ refusal. copy_report (Err refusal)) (copy_refusal error) }
 {
     match error {
-        CopyError::At { file, line, cause } => Unreported::Refused(copy_line(file, line, cause)),
-        CopyError::TooLarge => Unreported::Fault(Fault::TooLarge),
-        CopyError::Fault => Unreported::ReadFault,
-        CopyError::Memory => Unreported::Memory,
+        CopyError::At { file, line, cause } => CommandError::Refused(copy_line(file, line, cause)),
+        CopyError::TooLarge => CommandError::Fault(Fault::TooLarge),
+        CopyError::Fault => CommandError::ReadFault,
+        CopyError::Memory => CommandError::Memory,
     }
 }

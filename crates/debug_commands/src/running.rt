@@ -2,7 +2,7 @@
 
 ghost use Rattle.std.specs.Prelude.{Some};
 ghost use Rattle.debug_report_defs.specs.Words.{debug_command, KeepsLimit};
-ghost use Rattle.bench_shelf.specs.Causes.{Later};
+ghost use Rattle.bench_shelf.specs.Causes.{CountsGrew};
 ghost use Rattle.reports.specs.Run.{EndsBy};
 ghost use Rattle.debug_commands.specs.Debug.{TakesOfShelf, debug_program};
 ghost use Rattle.debug_commands.specs.Laws.{LawsOfDebugRuns};
@@ -56,7 +56,7 @@ pub fn debug<S: Source, F: Shelf, O: Sink, E: Sink>(
       };
     }) result }
     ensures shelf { TakesOfShelf (debug_command words.now) (F.shelf shelf.old) (F.shelf shelf.new) }
-    ensures later { Later (F.shelf shelf.old) (F.shelf shelf.new) }
+    ensures later { CountsGrew (F.shelf shelf.old) (F.shelf shelf.new) }
 {
     match read_debug_command(words) {
         Some(command) => run_debug_command(alloc, command, input, shelf, out, err),
@@ -85,7 +85,7 @@ fn run_debug_command<S: Source, F: Shelf, O: Sink, E: Sink>(
         err' = E.state err.new;
       };
     }) result }
-    ensures later { Later (F.shelf shelf.old) (F.shelf shelf.new) }
+    ensures later { CountsGrew (F.shelf shelf.old) (F.shelf shelf.new) }
 {
     let bytes = match read_all(alloc, input, LARGEST_INPUT) {
         Ok(bytes) => bytes,

@@ -7,7 +7,7 @@ use Rattle.std.proofs.lemmas.Fmt.{decimal_by_steps}
 use Rattle.std.proofs.lemmas.Bool.{agree_below_at}
 use Rattle.std.proofs.lemmas.Bool.Decides.{nat_tests}
 use Rattle.source_defs.specs.Numbers.{hexadecimal_digit, is_hexadecimal_digit, digit_value}
-use Rattle.source_defs.specs.Digits.{byte_digits, word_digits, marked_word}
+use Rattle.source_defs.specs.Digits.{byte_digits, word_digits, hex_word}
 use Rattle.listed_lines.proofs.DigitLaws.{digit_passes, eqb_same}
 use Rattle.change_defs.specs.declared.part.Part.{Part}
 use Rattle.change_defs.specs.declared.part.Part.TheVariants.{Cells, Video, Registers}
@@ -34,7 +34,7 @@ reading made part at byte number phase =
     record { made = made; part = part; at = at; byte = byte; number = number; phase = phase }
 
 module _ (made : StepChanges) (part : Part) (at : ℕ) where
-  word_read : (n : ℕ) → n < 65536 → read_from (reading made part at 0 0 Place) (marked_word n) ≡ reading made part at 0 n Place
+  word_read : (n : ℕ) → n < 65536 → read_from (reading made part at 0 0 Place) (hex_word n) ≡ reading made part at 0 n Place
   unfolding word_digits
   word_read n lt =
       rw (sign_digit (n / 4096), sign_digit (n / 256), sign_digit (n / 16), sign_digit n)
@@ -89,11 +89,11 @@ module _ (made : StepChanges) (old : ℕ) where
   place_read : (part : Part) (at : ℕ) → at < size_of part
       → read_from (reading made Cells old 0 0 Place) (place_text part at ++ codes "=") ≡ placed made part at
   place_read Cells at lt =
-      read_append (reading made Cells old 0 0 Place) (marked_word (0x8300 + at)) (codes "=")
+      read_append (reading made Cells old 0 0 Place) (hex_word (0x8300 + at)) (codes "=")
       ∙ ap (λ r. read_from r (codes "=")) (word_read made Cells old (0x8300 + at) (omega (arith, lt)))
       ∙ ap (λ k. placed made Cells k) (omega arith)
   place_read Video at lt =
-      read_append (reading made Video old 0 0 Place) (marked_word at) (codes "=")
+      read_append (reading made Video old 0 0 Place) (hex_word at) (codes "=")
       ∙ ap (λ r. read_from r (codes "=")) (word_read made Video old at (omega (arith, lt)))
       ∙ ap (λ k. placed made Video k) (omega arith)
   place_read Registers at lt =

@@ -16,7 +16,7 @@ use Rattle.change_defs.specs.Text.{step_text, all_changes_text}
 use Rattle.debug_report_defs.specs.declared.command.DebugCommand.{DebugCommand}
 use Rattle.debug_report_defs.specs.declared.command.DebugCommand.TheVariants as command
 use Rattle.debug_report_defs.specs.Reader.{changes_of_text}
-use Rattle.debug_report_defs.specs.Reports.{ReportOn, FrontOn}
+use Rattle.debug_report_defs.specs.Reports.{ReportOn, PrefixOn}
 
 -- the law, which is proved: there is at most one report on each command, input and files
 abbrev pub OneDebugReport : Type 0
@@ -28,7 +28,7 @@ OneDebugReport =
 abbrev pub DebugFrontsBeginReports : Type 0
 DebugFrontsBeginReports =
     (command : DebugCommand) (files : Files) (input : List ℕ) (front report : Report)
-    → FrontOn command input front → ReportOn command files input report → Begins front report
+    → PrefixOn command input front → ReportOn command files input report → Begins front report
 
 -- what standard error gets of a report
 abbrev pub told_of : Report → Option (List ℕ)

@@ -35,9 +35,9 @@ ReportOn command files = OnInput (AcceptedReport command files)
 
 -- What is written before the end of a report is known, of an input that is not too large: `gsteps` and `steps` write the
 -- line of each step once it is made.
-abbrev pub FrontOn : DebugCommand → List ℕ → Report → Type 0
-FrontOn Glist input front = ⊥
-FrontOn command.List input front = ⊥
-FrontOn (Gsteps limit) input front =
+abbrev pub PrefixOn : DebugCommand → List ℕ → Report → Type 0
+PrefixOn Glist input front = ⊥
+PrefixOn command.List input front = ⊥
+PrefixOn (Gsteps limit) input front =
     (length input ≤ largest_input) × ProgramReport (ShowsSteps all_changes_text limit) (program_of_source input) front
-FrontOn (Steps limit) input front = (length input ≤ largest_input) × StepsFront limit (linked_input input) front
+PrefixOn (Steps limit) input front = (length input ≤ largest_input) × StepsFront limit (linked_input input) front

@@ -6,7 +6,7 @@ ghost use Rattle.interp_defs.specs.Match.{shown_by};
 ghost use Rattle.list_defs.specs.Lists as plain;
 ghost use Rattle.report_defs.specs.Summary as spec;
 
-use bench_io::{Failed, Sink, put_piece};
+use bench_io::{Failed, Sink, put_chunk};
 use gpl_step_defs::{Reason, VISIBLE_CELLS};
 use lane_scan::sum_bytes;
 use report_defs::Summary;
@@ -59,7 +59,7 @@ fn put_lines<O: Sink>(lines: &[Line], out: &mut O) -> Result<(), Failed>
     ensures { Written result (O.state out.old) (O.state out.new) (map (λ line. line.items) lines.now) }
 {
     for line in lines {
-        put_piece(out, line.as_slice())?;
+        put_chunk(out, line.as_slice())?;
     }
     Ok(())
 }

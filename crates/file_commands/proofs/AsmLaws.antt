@@ -9,7 +9,7 @@ use Rattle.shelf_defs.specs.Copied as copied
 use Rattle.shelf_defs.specs.Copied.{most_bytes}
 use Rattle.bench_shelf.specs.States.{ShelfState}
 use Rattle.bench_shelf.specs.CopyAnswers.{defined_cause}
-use Rattle.bench_shelf.specs.Causes.{ShelfCauses, TookNoMore}
+use Rattle.bench_shelf.specs.Causes.{ShelfCauses, ReadWithinLimit}
 use Rattle.bench_shelf.specs.Answered.{Answered}
 use Rattle.bench_shelf.specs.declared.copy_error.CopyCause.{CopyCause}
 use Rattle.bench_shelf.specs.declared.copy_error.CopyCause.TheVariants.{Asm, BadCopy, TooDeep, TooMany, Missing}
@@ -19,13 +19,13 @@ use Rattle.report_defs.specs.declared.status.Status.TheVariants.{Done}
 use Rattle.report_defs.specs.TextLines.{text_lines}
 use Rattle.report_defs.specs.Report.{Whole}
 use Rattle.report_defs.specs.FileReports.{copy_report}
-use Rattle.reports.specs.declared.unreported.Unreported.{Unreported}
+use Rattle.reports.specs.declared.command_error.CommandError.{CommandError}
 use Rattle.reports.specs.Answers.{Reported, error_answer}
 use Rattle.file_commands.specs.Copying.{copy_refusal}
 use Rattle.file_commands.specs.Reported.{CopyCauses, CopyReported, CopyFails}
 
 module _ (before after : ShelfState) (source : List ℕ) where
-  pub module_reported : (found : Module) (text : List ℕ) → Answered before after source (Ok found) → TookNoMore most_bytes before after
+  pub module_reported : (found : Module) (text : List ℕ) → Answered before after source (Ok found) → ReadWithinLimit most_bytes before after
       → text ≡ written (defined_module found) → CopyReported before after source (Whole Done (text_lines text))
   module_reported found text answered within is = record {
     questions = answered.questions;
@@ -45,10 +45,10 @@ module _ (before after : ShelfState) (source : List ℕ) where
   line_causes file line TooMany causes = causes.1
   line_causes file line (Missing name) causes = causes
 
-  pub error_reported : (error : CopyError) (unreported : Unreported) → Answered before after source (Err error) → ShelfCauses error before after
-      → error_answer unreported ≡ seen (λ refusal. copy_report (Err refusal)) (copy_refusal error)
-      → Reported (CopyReported before after source) (CopyFails before after source) (error_answer unreported)
-  error_reported (At file line cause) unreported answered causes is = rw is (record {
+  pub error_reported : (error : CopyError) (command_error : CommandError) → Answered before after source (Err error) → ShelfCauses error before after
+      → error_answer command_error ≡ seen (λ refusal. copy_report (Err refusal)) (copy_refusal error)
+      → Reported (CopyReported before after source) (CopyFails before after source) (error_answer command_error)
+  error_reported (At file line cause) command_error answered causes is = rw is (record {
     questions = answered.questions;
     dialogue = answered.dialogue;
     answer = Err (copied.At (record { file = file; line = line }) (defined_cause cause));
@@ -57,7 +57,7 @@ module _ (before after : ShelfState) (source : List ℕ) where
     causes = line_causes file line cause causes;
     is = refl;
   })
-  error_reported TooLarge unreported answered causes is = rw is (record {
+  error_reported TooLarge command_error answered causes is = rw is (record {
     questions = answered.questions;
     dialogue = answered.dialogue;
     answer = Err copied.TooLarge;
@@ -66,6 +66,6 @@ module _ (before after : ShelfState) (source : List ℕ) where
     causes = causes;
     is = refl;
   })
-  error_reported Fault unreported answered causes is =
+  error_reported Fault command_error answered causes is =
       rw is (answered.questions, answered.dialogue, record { ends = answered.ends; rose = causes.0; within = causes.1 })
-  error_reported Memory unreported answered causes is = rw is (answered.questions, answered.dialogue, causes)
+  error_reported Memory command_error answered causes is = rw is (answered.questions, answered.dialogue, causes)

@@ -7,7 +7,7 @@ use Rattle.link_defs.specs.LinkedMemory.{linked}
 use Rattle.bench_shelf.specs.declared.error.FileError.{FileError}
 use Rattle.bench_shelf.specs.declared.error.FileError.TheVariants.{Missing, TooLarge, Fault, Memory}
 use Rattle.bench_shelf.specs.States.{ShelfState}
-use Rattle.bench_shelf.specs.Causes.{FileCauses, TookNoMore}
+use Rattle.bench_shelf.specs.Causes.{FileCauses, ReadWithinLimit}
 use Rattle.report_defs.specs.declared.status.Status.{Status}
 use Rattle.report_defs.specs.Report.{Report, largest_input}
 use Rattle.report_defs.specs.LinkedFiles as spec
@@ -15,14 +15,14 @@ use Rattle.report_defs.specs.LinkedFiles.{FilesRefusal, modules_of, as_linked, l
 use Rattle.report_defs.specs.FileReports.{files_report}
 use Rattle.file_commands.specs.declared.file_text.FileText.{FileText}
 use Rattle.file_commands.specs.Modules.{ReportsRefused}
-use Rattle.reports.specs.declared.unreported.Unreported.{Unreported}
+use Rattle.reports.specs.declared.command_error.CommandError.{CommandError}
 use Rattle.reports.specs.Answers.{WantsMemory, Reported, error_answer}
 use Rattle.file_commands.specs.Reading.{defined_texts, Reads, refusal_of}
 use Rattle.file_commands.specs.Reported.{LinkReported, LinkFails}
 
 module _ (before after : ShelfState) (names : List (List ℕ)) where
   pub texts_reported : {A : Type 0} (see : A → List (List ℕ × List ℕ)) (value : A) (linked : List FileText) (answer : Result Report Status)
-      → Reads see names (Ok value) before after → TookNoMore largest_input before after → defined_texts linked ≡ see value
+      → Reads see names (Ok value) before after → ReadWithinLimit largest_input before after → defined_texts linked ≡ see value
       → Reported (λ report. report ≡ files_report (linked_texts (defined_texts linked))) WantsMemory answer
       → Reported (LinkReported before after names) (LinkFails names before after) answer
   texts_reported see value linked (Ok report) reads within same is = record {
@@ -35,11 +35,11 @@ module _ (before after : ShelfState) (names : List (List ℕ)) where
   }
   texts_reported see value linked (Err end) reads within same memory = rw memory (reads.questions, reads.dialogue, within)
 
-  pub error_reported : {A : Type 0} (see : A → List (List ℕ × List ℕ)) (error : FileError) (unreported : Unreported)
+  pub error_reported : {A : Type 0} (see : A → List (List ℕ × List ℕ)) (error : FileError) (command_error : CommandError)
       → Reads see names (Err error) before after → FileCauses largest_input error before after
-      → error_answer unreported ≡ seen (λ refusal. files_report (Err refusal)) (refusal_of error)
-      → Reported (LinkReported before after names) (LinkFails names before after) (error_answer unreported)
-  error_reported see (Missing name) unreported reads causes is = rw is (record {
+      → error_answer command_error ≡ seen (λ refusal. files_report (Err refusal)) (refusal_of error)
+      → Reported (LinkReported before after names) (LinkFails names before after) (error_answer command_error)
+  error_reported see (Missing name) command_error reads causes is = rw is (record {
     questions = reads.questions;
     dialogue = reads.dialogue;
     texts = Err (spec.Missing name);
@@ -47,7 +47,7 @@ module _ (before after : ShelfState) (names : List (List ℕ)) where
     causes = (reads.ends, causes.0, causes.1);
     is = refl;
   })
-  error_reported see TooLarge unreported reads causes is = rw is (record {
+  error_reported see TooLarge command_error reads causes is = rw is (record {
     questions = reads.questions;
     dialogue = reads.dialogue;
     texts = Err spec.TooLarge;
@@ -55,9 +55,9 @@ module _ (before after : ShelfState) (names : List (List ℕ)) where
     causes = (reads.ends, causes);
     is = refl;
   })
-  error_reported see Fault unreported reads causes is =
+  error_reported see Fault command_error reads causes is =
       rw is (reads.questions, reads.dialogue, record { ends = reads.ends; rose = causes.0; within = causes.1 })
-  error_reported see Memory unreported reads causes is = rw is (reads.questions, reads.dialogue, causes)
+  error_reported see Memory command_error reads causes is = rw is (reads.questions, reads.dialogue, causes)
 
 -- ---- what is reported of files that were read
 

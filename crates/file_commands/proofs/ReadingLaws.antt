@@ -12,7 +12,7 @@ use Rattle.shelf_defs.specs.Questions.{names_of}
 use Rattle.bench_shelf.specs.declared.error.FileError.{FileError}
 use Rattle.bench_shelf.specs.declared.error.FileError.TheVariants as unread
 use Rattle.bench_shelf.specs.States.{ShelfState}
-use Rattle.bench_shelf.specs.Causes.{ReadsOnce, AsksOne, Later, FileCauses, IsOfName, TookNoMore, answer_by}
+use Rattle.bench_shelf.specs.Causes.{ReadsOnce, AsksOne, CountsGrew, FileCauses, IsOfName, ReadWithinLimit, answer_by}
 use Rattle.bench_shelf.specs.Leading.{AllGiven}
 use Rattle.bench_shelf.proofs.Keeping.{within_then}
 use Rattle.bench_shelf.proofs.AskingLaws.{agrees_front, agrees_back, shown_then, shown_one, shown_none, reads_none, reads_then, none_follow, turns_then}
@@ -234,7 +234,7 @@ memory_ran_out s u names see (Ok value) is reads = absurd is
 memory_ran_out s u names see (Err error) is reads = subst (λ error. Reads see names (Err error) s u) (sym is) reads
 
 -- what an error says of the shelf holds since an earlier one
-module _ (a b c : ShelfState) (later : Later a b) (within : TookNoMore largest_input a b) where
+module _ (a b c : ShelfState) (later : CountsGrew a b) (within : ReadWithinLimit largest_input a b) where
   pub causes_since : (error : FileError) → FileCauses largest_input error b c → FileCauses largest_input error a c
   causes_since (unread.Missing name) causes = (λ top. omega (arith, later.misses, causes.0 top), within_then largest_input a b c within causes.1)
   causes_since unread.TooLarge causes = record { given = causes.given; largest = causes.largest; taken = omega (arith, later.taken, causes.taken) }

@@ -3,7 +3,7 @@ use Rattle.std.specs.Prelude.{◌≡◌, Result, Ok, Err}
 use Rattle.report_defs.specs.Report.{Report}
 use Rattle.report_defs.specs.LinkedFiles.{FilesRefusal}
 use Rattle.report_defs.specs.FileReports.{files_report}
-use Rattle.reports.specs.declared.unreported.Unreported.{Unreported}
+use Rattle.reports.specs.declared.command_error.CommandError.{CommandError}
 use Rattle.reports.specs.Answers.{WantsMemory, Reported, error_answer}
 
 -- the report of what is refused
@@ -12,6 +12,6 @@ ReportsRefused defined report =
     (refusal : FilesRefusal) × (defined ≡ Err refusal) × (report ≡ files_report (Err refusal))
 
 -- what is found is what is defined, or why there is none is told; want of memory says nothing
-abbrev pub GivesModules : {A B : Type 0} → (A → B) → Result A Unreported → Result B FilesRefusal → Type 0
+abbrev pub GivesModules : {A B : Type 0} → (A → B) → Result A CommandError → Result B FilesRefusal → Type 0
 GivesModules see (Ok value) defined = defined ≡ Ok (see value)
-GivesModules see (Err unreported) defined = Reported (ReportsRefused defined) WantsMemory (error_answer unreported)
+GivesModules see (Err command_error) defined = Reported (ReportsRefused defined) WantsMemory (error_answer command_error)

@@ -13,7 +13,7 @@ use Rattle.shelf_defs.specs.Assembly.{module_by}
 use Rattle.shelf_defs.specs.Questions.{OverLimit, Unanswered, Question, Agrees, EndsWith, names_of}
 use Rattle.bench_shelf.specs.States.{ShelfState}
 use Rattle.bench_shelf.specs.CopyAnswers.{IsOwnCause}
-use Rattle.bench_shelf.specs.Causes.{TookMore, TookNoMore}
+use Rattle.bench_shelf.specs.Causes.{ReadOverLimit, ReadWithinLimit}
 use Rattle.bench_shelf.specs.Dialogue.{CopyDialogue}
 use Rattle.report_defs.specs.declared.status.Status.{Status}
 use Rattle.report_defs.specs.declared.status.Status.TheVariants as status
@@ -27,7 +27,7 @@ use Rattle.file_commands.specs.Reading.{LinkDialogue, EndsMissing}
 pub record Failed (limit : ℕ) (before after : ShelfState) (questions : List Question) : Type 0 where
   pub ends : EndsWith Unanswered questions
   pub rose : Rose before.source.faults after.source.faults
-  pub within : TookNoMore limit before after
+  pub within : ReadWithinLimit limit before after
 
 -- Why nothing is reported of a source. Where memory ran out there is no cause. Of no file more bytes were taken than it
 -- may have.
@@ -35,19 +35,19 @@ abbrev pub CopyFails : ShelfState → ShelfState → List ℕ → Status → Typ
 CopyFails before after text status.ReadFault =
     (questions : List Question) × CopyDialogue before after text questions × Failed most_bytes before after questions
 CopyFails before after text status.Memory =
-    (questions : List Question) × CopyDialogue before after text questions × TookNoMore most_bytes before after
+    (questions : List Question) × CopyDialogue before after text questions × ReadWithinLimit most_bytes before after
 CopyFails before after text other = ⊥
 
 -- A name that is missing was counted, and a file is too large exactly where more bytes of one were taken than it may
 -- have. No line is refused because memory ran out.
 abbrev pub CopyCauses : Result Module CopyRefusal → ShelfState → ShelfState → Type 0
-CopyCauses (Ok found) before after = TookNoMore most_bytes before after
+CopyCauses (Ok found) before after = ReadWithinLimit most_bytes before after
 CopyCauses (Err (copied.At place (copied.Missing name))) before after =
-    Rose before.misses after.misses × TookNoMore most_bytes before after
+    Rose before.misses after.misses × ReadWithinLimit most_bytes before after
 CopyCauses (Err (copied.At place (copied.Asm cause))) before after =
-    IsOwnCause cause × TookNoMore most_bytes before after
-CopyCauses (Err (copied.At place cause)) before after = TookNoMore most_bytes before after
-CopyCauses (Err copied.TooLarge) before after = TookMore most_bytes before after
+    IsOwnCause cause × ReadWithinLimit most_bytes before after
+CopyCauses (Err (copied.At place cause)) before after = ReadWithinLimit most_bytes before after
+CopyCauses (Err copied.TooLarge) before after = ReadOverLimit most_bytes before after
 
 -- The report of a source with the files that it copies, by the answers of the shelf, whatever else it would have
 -- answered. Each file that is copied was asked for once, and no other.
@@ -66,11 +66,11 @@ pub record CopyReported (before after : ShelfState) (text : List ℕ) (report : 
 abbrev pub ReadCauses : List (List ℕ) → Result (List (List ℕ × List ℕ)) FilesRefusal → List Question → ShelfState
     → ShelfState → Type 0
 ReadCauses names (Ok texts) questions before after =
-    (names_of questions ≡ names) × TookNoMore largest_input before after
+    (names_of questions ≡ names) × ReadWithinLimit largest_input before after
 ReadCauses names (Err (Missing name)) questions before after =
-    EndsMissing name questions × Rose before.misses after.misses × TookNoMore largest_input before after
+    EndsMissing name questions × Rose before.misses after.misses × ReadWithinLimit largest_input before after
 ReadCauses names (Err TooLarge) questions before after =
-    EndsWith OverLimit questions × TookMore largest_input before after
+    EndsWith OverLimit questions × ReadOverLimit largest_input before after
 ReadCauses names (Err (InFile name refused)) questions before after = ⊥
 ReadCauses names (Err (Unlinked cause)) questions before after = ⊥
 
@@ -89,5 +89,5 @@ LinkFails names before after status.ReadFault =
     (questions : List Question) × LinkDialogue before after names questions
     × Failed largest_input before after questions
 LinkFails names before after status.Memory =
-    (questions : List Question) × LinkDialogue before after names questions × TookNoMore largest_input before after
+    (questions : List Question) × LinkDialogue before after names questions × ReadWithinLimit largest_input before after
 LinkFails names before after other = ⊥

@@ -4,7 +4,7 @@ ghost use Rattle.std.specs.Prelude.{◌≡◌, ◌≤◌, length, Err, IfOk};
 ghost use Rattle.source_defs.specs.Refusals.{seen};
 ghost use Rattle.object_defs.specs.Writing.{written};
 ghost use Rattle.object_tags.specs.Seen.{defined_module};
-ghost use Rattle.bench_shelf.specs.Causes.{Later};
+ghost use Rattle.bench_shelf.specs.Causes.{CountsGrew};
 ghost use Rattle.bench_shelf.specs.Answered.{IsOfLines};
 ghost use Rattle.report_defs.specs.Report.{largest_input};
 ghost use Rattle.report_defs.specs.FileReports.{copy_report};
@@ -16,7 +16,7 @@ use crate::causes::copy_line;
 use bench_shelf::{CopyError, Shelf, copy_assemble};
 use object_tags::{Module, write_module};
 use report_defs::Fault;
-use reports::{Report, Unreported};
+use reports::{CommandError, Report};
 use std::alloc::{AllocError, Global};
 
 /// What is to be reported of a source of at most 1,048,576 bytes with the files of a shelf that it copies: the object
@@ -28,11 +28,15 @@ use std::alloc::{AllocError, Global};
 /// `Refused` carries a refused line, and `Fault` says that a file is too large. `ReadFault` comes only where the
 /// shelf's count of faults rose, at the file that was asked for last, and `Memory` is out of memory. Of no file more
 /// bytes were taken than it may have then.
-pub fn asm_files<F: Shelf>(alloc: Global, shelf: &mut F, text: &[u8]) -> Result<Report, Unreported>
+pub fn asm_files<F: Shelf>(
+    alloc: Global,
+    shelf: &mut F,
+    text: &[u8],
+) -> Result<Report, CommandError>
     requires { length text.now ≤ largest_input }
     ensures report { Reported (CopyReported (F.shelf shelf.old) (F.shelf shelf.new) text.now)
         (CopyFails (F.shelf shelf.old) (F.shelf shelf.new) text.now) (answer result) }
-    ensures later { Later (F.shelf shelf.old) (F.shelf shelf.new) }
+    ensures later { CountsGrew (F.shelf shelf.old) (F.shelf shelf.new) }
 {
     match copy_assemble(alloc, shelf, text) {
         Ok(module) => Ok(Report::Text(text_of(alloc, &module)?)),
@@ -41,14 +45,14 @@ pub fn asm_files<F: Shelf>(alloc: Global, shelf: &mut F, text: &[u8]) -> Result<
 }
 
 /// Why a source is refused, or is not assembled.
-fn refused(error: CopyError) -> Unreported
+fn refused(error: CopyError) -> CommandError
     ensures { error_answer result ≡ seen (λ refusal. copy_report (Err refusal)) (copy_refusal error) }
 {
     match error {
-        CopyError::At { file, line, cause } => Unreported::Refused(copy_line(file, line, cause)),
-        CopyError::TooLarge => Unreported::Fault(Fault::TooLarge),
-        CopyError::Fault => Unreported::ReadFault,
-        CopyError::Memory => Unreported::Memory,
+        CopyError::At { file, line, cause } => CommandError::Refused(copy_line(file, line, cause)),
+        CopyError::TooLarge => CommandError::Fault(Fault::TooLarge),
+        CopyError::Fault => CommandError::ReadFault,
+        CopyError::Memory => CommandError::Memory,
     }
 }
 

@@ -2,7 +2,7 @@
 
 ghost use Rattle.std.specs.Prelude.{◌≡◌, ◌≤◌, length, Err};
 ghost use Rattle.source_defs.specs.Refusals.{seen};
-ghost use Rattle.bench_shelf.specs.Causes.{Later};
+ghost use Rattle.bench_shelf.specs.Causes.{CountsGrew};
 ghost use Rattle.report_defs.specs.ProgramCommands.{most_files};
 ghost use Rattle.report_defs.specs.LinkedFiles.{linked_texts};
 ghost use Rattle.report_defs.specs.FileReports.{files_report};
@@ -17,7 +17,7 @@ use crate::reading::read_files;
 use bench_shelf::{FileError, FileName, Shelf};
 use link_loader::link;
 use report_defs::Fault;
-use reports::{Report, Unreported};
+use reports::{CommandError, Report};
 use std::alloc::Global;
 
 /// What is to be reported of up to 16 files of object text: the linked memory of their modules, or why there is none.
@@ -34,11 +34,11 @@ pub fn link_files<F: Shelf>(
     alloc: Global,
     shelf: &mut F,
     names: &[FileName],
-) -> Result<Report, Unreported>
+) -> Result<Report, CommandError>
     requires { length names.now ≤ most_files }
     ensures report { Reported (LinkReported (F.shelf shelf.old) (F.shelf shelf.new) names.now)
         (LinkFails names.now (F.shelf shelf.old) (F.shelf shelf.new)) (answer result) }
-    ensures later { Later (F.shelf shelf.old) (F.shelf shelf.new) }
+    ensures later { CountsGrew (F.shelf shelf.old) (F.shelf shelf.new) }
 {
     match read_files(alloc, shelf, names) {
         Ok(texts) => link_texts(alloc, texts.as_slice()),
@@ -47,20 +47,20 @@ pub fn link_files<F: Shelf>(
 }
 
 /// Why files are not read.
-fn unread(error: FileError) -> Unreported
+fn unread(error: FileError) -> CommandError
     ensures { error_answer result ≡ seen (λ refusal. files_report (Err refusal)) (refusal_of error) }
 {
     match error {
-        FileError::Missing(name) => Unreported::Refused(missing_line(name)),
-        FileError::TooLarge => Unreported::Fault(Fault::TooLarge),
-        FileError::Fault => Unreported::ReadFault,
-        FileError::Memory => Unreported::Memory,
+        FileError::Missing(name) => CommandError::Refused(missing_line(name)),
+        FileError::TooLarge => CommandError::Fault(Fault::TooLarge),
+        FileError::Fault => CommandError::ReadFault,
+        FileError::Memory => CommandError::Memory,
     }
 }
 
 /// What is to be reported of files that were read.
 #[tactic(auto, using(crate::proofs::LinkLaws::bad_place, crate::proofs::LinkLaws::texts_linked))]
-fn link_texts(alloc: Global, texts: &[FileText]) -> Result<Report, Unreported>
+fn link_texts(alloc: Global, texts: &[FileText]) -> Result<Report, CommandError>
     requires { length texts.now ≤ most_files }
     ensures { Reported (λ report. report ≡ files_report (linked_texts (defined_texts texts.now))) WantsMemory
         (answer result) }

@@ -10,11 +10,11 @@ ghost use Rattle.file_commands.specs.Modules.{GivesModules};
 use crate::causes::file_tag_line;
 use crate::file_text::FileText;
 use object_tags::{Module, TagError, read_modules};
-use reports::Unreported;
+use reports::CommandError;
 use std::alloc::Global;
 
 /// The modules of all files, in the order of the files.
-pub(crate) fn modules_of(alloc: Global, texts: &[FileText]) -> Result<Vec<Module>, Unreported>
+pub(crate) fn modules_of(alloc: Global, texts: &[FileText]) -> Result<Vec<Module>, CommandError>
     ensures is { GivesModules (λ modules. defined_modules modules.items) result
         (spec.modules_of (defined_texts texts.now)) }
     ensures few { IfOk result (λ modules. vec_len modules ≤ 64 * length texts.now) }
@@ -30,7 +30,7 @@ pub(crate) fn modules_of(alloc: Global, texts: &[FileText]) -> Result<Vec<Module
 }
 
 /// The modules of a file.
-fn modules_in(alloc: Global, text: &FileText) -> Result<Vec<Module>, Unreported>
+fn modules_in(alloc: Global, text: &FileText) -> Result<Vec<Module>, CommandError>
     ensures is { GivesModules (λ modules. defined_modules modules.items) result
         (spec.in_file text.now.name (read text.now.bytes.items)) }
     ensures few { IfOk result (λ modules. vec_len modules ≤ 64) }
@@ -38,8 +38,8 @@ fn modules_in(alloc: Global, text: &FileText) -> Result<Vec<Module>, Unreported>
     match read_modules(alloc, text.bytes.as_slice()) {
         Ok(modules) => Ok(modules),
         Err(TagError::At { line, cause }) => {
-            Err(Unreported::Refused(file_tag_line(text.name, line, cause)))
+            Err(CommandError::Refused(file_tag_line(text.name, line, cause)))
         }
-        Err(TagError::Memory) => Err(Unreported::Memory),
+        Err(TagError::Memory) => Err(CommandError::Memory),
     }
 }

@@ -1,7 +1,7 @@
 //! Files that are read whole, one after the other.
 
 ghost use Rattle.std.specs.Prelude.{IfErr, OnOk};
-ghost use Rattle.bench_shelf.specs.Causes.{FileCauses, Later, TookNoMore};
+ghost use Rattle.bench_shelf.specs.Causes.{FileCauses, CountsGrew, ReadWithinLimit};
 ghost use Rattle.report_defs.specs.Report.{largest_input};
 ghost use Rattle.file_commands.specs.Reading.{Reads, defined_texts};
 
@@ -20,8 +20,8 @@ pub(crate) fn read_files<F: Shelf>(
     ensures reads { Reads (λ texts. defined_texts texts.items) names.now result
         (F.shelf shelf.old) (F.shelf shelf.new) }
     ensures causes { IfErr result (λ error. FileCauses largest_input error (F.shelf shelf.old) (F.shelf shelf.new)) }
-    ensures within { OnOk result (TookNoMore largest_input (F.shelf shelf.old) (F.shelf shelf.new)) }
-    ensures later { Later (F.shelf shelf.old) (F.shelf shelf.new) }
+    ensures within { OnOk result (ReadWithinLimit largest_input (F.shelf shelf.old) (F.shelf shelf.new)) }
+    ensures later { CountsGrew (F.shelf shelf.old) (F.shelf shelf.new) }
 {
     let mut texts = Vec::new(alloc);
     for name in names {

@@ -7,7 +7,7 @@ use Rattle.source_defs.specs.Layout.{settled, set_or, none_or, origin, since}
 use Rattle.gpl_source_defs.specs.declared.causes.GplCause.{GplCause}
 use Rattle.gpl_source_defs.specs.declared.causes.GplCause.TheVariants.{Overlap}
 use Rattle.gpl_source_defs.specs.declared.location.Location.{Location}
-use Rattle.gpl_source_defs.specs.Statements.{size_said}
+use Rattle.gpl_source_defs.specs.Statements.{declared_size}
 use Rattle.gpl_source_defs.specs.Locations.{Line, location, place, behind, start, origin_of}
 use Rattle.gpl_source_defs.specs.FirstChecks.{Checked, line_of}
 use Rattle.gpl_source_defs.specs.SecondChecks.{Outcome, Bytes, outcome}
@@ -30,10 +30,10 @@ location_by None from bytes more =
 
 pub location_more : (number : ℕ) (found : Checked) (lines : List Line)
     → location (line_of (location lines) number found ∷ lines)
-    ≡ behind (set_or (origin_of (location lines) found.statement) (location lines)) (size_said found.statement)
+    ≡ behind (set_or (origin_of (location lines) found.statement) (location lines)) (declared_size found.statement)
 location_more number found lines =
-    let none : 0 + size_said found.statement ≡ size_said found.statement = omega arith in
-    location_by (origin_of (location lines) found.statement) (origin start behind lines) (since start behind lines) (0 + size_said found.statement)
+    let none : 0 + declared_size found.statement ≡ declared_size found.statement = omega arith in
+    location_by (origin_of (location lines) found.statement) (origin start behind lines) (since start behind lines) (0 + declared_size found.statement)
     ∙ ap (behind (set_or (origin_of (location lines) found.statement) (location lines))) none
 
 -- a line's place

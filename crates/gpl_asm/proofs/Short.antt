@@ -10,7 +10,7 @@ use Rattle.source_defs.specs.Symbols.{Names}
 use Rattle.source_defs.proofs.RefusalLaws.{bound}
 use Rattle.gpl_source_defs.specs.declared.location.Location.{Location}
 use Rattle.gpl_source_defs.specs.Statements.{Statement}
-use Rattle.gpl_source_defs.specs.FirstChecks.{as_text, said}
+use Rattle.gpl_source_defs.specs.FirstChecks.{as_text, parsed}
 
 short_by : (long : Bool) (line : List ℕ) (others : Result Fields TextError) (found : Fields) → nat_lt longest_line (length line) ≡ long
     → cond long (Err LineTooLong) others ≡ Ok found → length line ≤ 256
@@ -25,7 +25,7 @@ text_is : (answer : Result Fields TextError) (found : Fields) → as_text answer
 text_is (Ok value) found e = cc e
 text_is (Err error) found e = cc e
 
-pub said_short : (known : Names) (here : Location) (line : List ℕ) (statement : Statement) → said known here line ≡ Ok statement → length line ≤ 256
+pub said_short : (known : Names) (here : Location) (line : List ℕ) (statement : Statement) → parsed known here line ≡ Ok statement → length line ≤ 256
 said_short known here line statement e =
     let a = bound (as_text (fields line)) _ statement e in
     fields_short line a.0 (text_is (fields line) a.0 a.1)

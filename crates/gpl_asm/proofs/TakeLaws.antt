@@ -12,7 +12,7 @@ use Rattle.source_defs.specs.Layout.{with_names, set_or}
 use Rattle.source_defs.proofs.DefinedNames.{grown, grown_on, grown_not}
 use Rattle.gpl_source_defs.specs.declared.causes.GplCause.{GplCause}
 use Rattle.gpl_source_defs.specs.declared.location.Location.{Location}
-use Rattle.gpl_source_defs.specs.Statements.{Statement, size_said}
+use Rattle.gpl_source_defs.specs.Statements.{Statement, declared_size}
 use Rattle.gpl_source_defs.specs.Locations.{Line, location, behind, origin_of, IsInGrom}
 use Rattle.gpl_source_defs.specs.FirstChecks.{Checked, checked, line_of, names, label_entry, label_value, is_taken, is_end, is_full}
 use Rattle.gpl_source_defs.specs.SecondChecks.{Outcome, outcome}
@@ -70,7 +70,7 @@ module _ (lines : List Line) (builder : GplLines) (is : IsBehind lines builder) 
         ∙ sym (kept_more later builder rest)))))
 
     room_of : (left : Option Rest) → answer later builder.location left ≡ outcome (look_up later) builder.location found.statement → WaitsForSome left
-        → builder.location.number + size_said found.statement ≤ 65536 → AllByRecursion (HasRoom later) (pending_of builder left)
+        → builder.location.number + declared_size found.statement ≤ 65536 → AllByRecursion (HasRoom later) (pending_of builder left)
     room_of None same waits le = tt
     room_of (Some left) same waits le = (
       record {
@@ -82,7 +82,7 @@ module _ (lines : List Line) (builder : GplLines) (is : IsBehind lines builder) 
       tt,
     )
 
-    pub room_more : WaitsForSome rest → builder.location.number + size_said found.statement ≤ 65536
+    pub room_more : WaitsForSome rest → builder.location.number + declared_size found.statement ≤ 65536
         → AllByRecursion (HasRoom later) (builder.waiting.items ++ pending_of builder rest)
     room_more waits le =
         all_append (HasRoom later) builder.waiting.items (pending_of builder rest) (is.room later grows) (room_of rest (answers later grows) waits le)
@@ -91,12 +91,12 @@ module _ (lines : List Line) (builder : GplLines) (is : IsBehind lines builder) 
   pub record TakesOne (new : GplLines) : Type 0 where
     pub waiting : new.waiting.items ≡ builder.waiting.items ++ pending_of builder rest
     pub names : new.symbols ≡ with_names builder.symbols (label_entry found.label (label_value builder.location found.statement))
-    pub location : new.location ≡ behind (set_or (origin_of builder.location found.statement) builder.location) (size_said found.statement)
+    pub location : new.location ≡ behind (set_or (origin_of builder.location found.statement) builder.location) (declared_size found.statement)
     pub taken : new.taken ≡ builder.taken + 1
     pub ended : new.ended ≡ (is_end found.statement || builder.ended)
 
   pub is_behind : (new : GplLines) → Answers → WaitsForSome rest → is_taken builder.symbols found.label ≡ false
-      → builder.location.number + size_said found.statement ≤ 65536 → TakesOne new → IsBehind (line ∷ lines) new
+      → builder.location.number + declared_size found.statement ≤ 65536 → TakesOne new → IsBehind (line ∷ lines) new
   is_behind new answers waits fresh le takes =
       let grows : Grows builder.symbols new.symbols =
       subst (Grows builder.symbols) (sym takes.names) (label_grows builder.symbols found.label (label_value builder.location found.statement) fresh) in
@@ -105,7 +105,7 @@ module _ (lines : List Line) (builder : GplLines) (is : IsBehind lines builder) 
             ∙ (ap (λ (known : Names). with_names known (label_entry found.label (label_value builder.location found.statement))) is.names
             ∙ ap (λ (at : Location). with_names (names lines) (label_entry found.label (label_value at found.statement))) is.location);
         location = takes.location
-            ∙ (ap (λ (at : Location). behind (set_or (origin_of at found.statement) at) (size_said found.statement)) is.location
+            ∙ (ap (λ (at : Location). behind (set_or (origin_of at found.statement) at) (declared_size found.statement)) is.location
             ∙ sym (location_more (length lines + 1) found lines));
         taken = takes.taken ∙ (ap (λ taken. taken + 1) is.taken ∙ omega arith);
         ended = takes.ended ∙ ap (λ ended. is_end found.statement || ended) is.ended;
@@ -119,7 +119,7 @@ module _ (lines : List Line) (builder : GplLines) (is : IsBehind lines builder) 
 -- where the builder goes on
 pub leads_on : (known : Names) (at here next : Location) (text : List ℕ) (found : Checked) (origin : Option Location) (size : ℕ)
     → checked known at text ≡ Ok found → at ≡ here → next ≡ here → origin ≡ origin_of here found.statement → IfSome origin (λ origin. origin.grom ≤ 65535)
-    → size ≡ size_said found.statement → IsInGrom here → IsInGrom (behind (set_or origin next) size)
+    → size ≡ declared_size found.statement → IsInGrom here → IsInGrom (behind (set_or origin next) size)
 leads_on known at here next text found origin size e same still by le sized is =
     let through = is_let_through known at text found e in
     let fits : is_full here found.statement ≡ false = ap (λ (at : Location). is_full at found.statement) (sym same) ∙ through.fits in
@@ -131,7 +131,7 @@ leads_on known at here next text found origin size e same still by le sized is =
     (subst (λ size. IsInGrom (behind (set_or (origin_of here found.statement) here) size)) (sym sized) there))
 
 -- how far a line reaches
-pub reaches : (here : Location) (statement : Statement) → IsInGrom here → is_full here statement ≡ false → here.number + size_said statement ≤ 65536
+pub reaches : (here : Location) (statement : Statement) → IsInGrom here → is_full here statement ≡ false → here.number + declared_size statement ≤ 65536
 reaches here statement is fits =
-    let within : here.number + size_said statement ≤ here.grom + GROM_SIZE = grind (arith, nat_tests, fits) in
+    let within : here.number + declared_size statement ≤ here.grom + GROM_SIZE = grind (arith, nat_tests, fits) in
     omega (arith, within, is.aligned, is.address)

@@ -5,22 +5,22 @@ use Rattle.source_defs.specs.Refusals.{◌>>=◌, at_line}
 use Rattle.source_defs.specs.Layout.{laid, numbered, has_ended}
 use Rattle.source_defs.proofs.LaidLaws.{last_line, laid_more}
 use Rattle.gpl_source_defs.specs.FirstChecks.{check}
-use Rattle.gpl_asm.specs.Building.{Takes, HasTaken}
-use Rattle.gpl_asm.specs.Finishing.{TakesText}
+use Rattle.gpl_asm.specs.Building.{Takes, HasAccepted}
+use Rattle.gpl_asm.specs.Finishing.{AcceptsText}
 use Rattle.gpl_asm.specs.declared.error.GplError.{GplError}
 use Rattle.gpl_asm.specs.declared.error.GplError.TheVariants.{At, Memory}
 use Rattle.gpl_asm.specs.declared.lines.GplLines.{GplLines}
 use Rattle.gpl_asm.specs.declared.taken.TakenLine.{TakenLine}
 
 -- a line that was taken, by the texts of the lines
-module _ (texts : List (List ℕ)) (text : List ℕ) (builder new : GplLines) (taken : HasTaken texts builder) (going : has_ended taken.lines ≡ false) where
+module _ (texts : List (List ℕ)) (text : List ℕ) (builder new : GplLines) (taken : HasAccepted texts builder) (going : has_ended taken.lines ≡ false) where
   abbrev count : ℕ
   count = length taken.lines + 1
 
   whole_is : laid check (numbered 1 (texts ++ text ∷ [])) ≡ last_line check text taken.lines count
   whole_is = laid_more check text texts [] 1 count taken.lines (omega (arith, taken.all)) taken.laid going
 
-  pub takes_text : (result : Result TakenLine GplError) → Takes taken.lines text result new → TakesText texts text result new
+  pub takes_text : (result : Result TakenLine GplError) → Takes taken.lines text result new → AcceptsText texts text result new
   takes_text (Ok value) takes = record {
     lines = takes.0 ∷ taken.lines;
     laid = whole_is ∙ ap (λ answer. at_line count answer >>= λ line. Ok (line ∷ taken.lines)) takes.1;

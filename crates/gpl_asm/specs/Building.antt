@@ -52,7 +52,7 @@ Takes lines text (Err (error.At number cause)) builder =
 Takes lines text (Err error.Memory) builder = IsBehind lines builder
 
 -- The meaning of a builder: the texts of the lines that it has taken.
-pub record HasTaken (texts : List (List ℕ)) (builder : GplLines) : Type 0 where
+pub record HasAccepted (texts : List (List ℕ)) (builder : GplLines) : Type 0 where
   pub lines : List Line
   pub laid : laid check (numbered 1 texts) ≡ Ok lines
   pub all : length lines ≡ length texts

@@ -9,7 +9,7 @@ use Rattle.gpl_asm.specs.declared.error.GplError.{GplError}
 use Rattle.gpl_asm.specs.declared.finish.GplProgram.{GplProgram}
 use Rattle.gpl_asm.specs.declared.lines.GplLines.{GplLines}
 use Rattle.gpl_asm.specs.Errors.{RefusesAt}
-use Rattle.gpl_asm.specs.Building.{HasTaken}
+use Rattle.gpl_asm.specs.Building.{HasAccepted}
 
 abbrev pub defined_program : GplProgram → Program
 defined_program program = record { image = program.image; entry = program.entry; names = program.names }
@@ -20,7 +20,7 @@ GivesProgram (Ok found) defined = defined ≡ Ok (defined_program found)
 GivesProgram (Err error) defined = RefusesAt error defined
 
 -- a line was taken behind others, or the first checks refuse it there
-abbrev pub TakesText : {A : Type 0} → List (List ℕ) → List ℕ → Result A GplError → GplLines → Type 0
-TakesText texts text (Ok _) builder = HasTaken (texts ++ text ∷ []) builder
-TakesText texts text (Err error) builder =
-    RefusesAt error (laid check (numbered 1 (texts ++ text ∷ []))) × HasTaken texts builder
+abbrev pub AcceptsText : {A : Type 0} → List (List ℕ) → List ℕ → Result A GplError → GplLines → Type 0
+AcceptsText texts text (Ok _) builder = HasAccepted (texts ++ text ∷ []) builder
+AcceptsText texts text (Err error) builder =
+    RefusesAt error (laid check (numbered 1 (texts ++ text ∷ []))) × HasAccepted texts builder

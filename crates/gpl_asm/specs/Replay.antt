@@ -8,7 +8,7 @@ use Rattle.gpl_defs.specs.Image.{Image, placed}
 use Rattle.gpl_source_defs.specs.declared.causes.GplCause.{GplCause}
 use Rattle.gpl_source_defs.specs.declared.causes.GplCause.TheVariants.{Overlap}
 use Rattle.gpl_source_defs.specs.declared.location.Location.{Location}
-use Rattle.gpl_source_defs.specs.FirstChecks.{said}
+use Rattle.gpl_source_defs.specs.FirstChecks.{parsed}
 use Rattle.gpl_source_defs.specs.SecondChecks.{Outcome, Bytes, outcome}
 use Rattle.gpl_source_defs.specs.Programs.{bytes_in, entry_by, overlaps}
 use Rattle.gpl_lines.specs.Answers.{Fails, NoMemory}
@@ -42,7 +42,7 @@ put at found built =
 abbrev pub answer_by : Names → Location → Rest → Result Outcome GplCause
 answer_by later at (Resolved found) = Ok (defined_outcome found)
 answer_by later at (Refused cause) = Err cause
-answer_by later at (Unresolved text) = said later at text.items >>= λ statement. outcome (look_up later) at statement
+answer_by later at (Unresolved text) = parsed later at text.items >>= λ statement. outcome (look_up later) at statement
 
 abbrev pub answer : Names → Location → Option Rest → Result Outcome GplCause
 answer later at None = Ok (Bytes [])

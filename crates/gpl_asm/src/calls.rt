@@ -7,8 +7,8 @@ ghost use Rattle.source_defs.specs.EndedLines.{IsOneLine, text_of};
 ghost use Rattle.gpl_source_defs.specs.Programs.{program_of_lines, program_of_source};
 ghost use Rattle.gpl_source_defs.specs.Locations.{Line};
 ghost use Rattle.gpl_source_defs.specs.FirstChecks.{names};
-ghost use Rattle.gpl_asm.specs.Building.{HasTaken, IsBehind, Takes, IsOpen, CanCount};
-ghost use Rattle.gpl_asm.specs.Finishing.{TakesText, GivesProgram};
+ghost use Rattle.gpl_asm.specs.Building.{HasAccepted, IsBehind, Takes, IsOpen, CanCount};
+ghost use Rattle.gpl_asm.specs.Finishing.{AcceptsText, GivesProgram};
 
 use crate::error::GplError;
 use crate::finish::GplProgram;
@@ -25,7 +25,7 @@ const FIRST_GROM: u32 = 0x6000;
 impl GplLines {
     /// A builder that has taken no line.
     pub fn new(alloc: Global) -> Result<GplLines, AllocError>
-        ensures none { IfOk result (HasTaken []) }
+        ensures none { IfOk result (HasAccepted []) }
         ensures open { IfOk result IsOpen }
         ensures count { IfOk result CanCount }
     {
@@ -52,7 +52,7 @@ impl GplLines {
     pub fn line(&mut self, line: &[u8]) -> Result<TakenLine, GplError>
         requires open { IsOpen self.old }
         requires count { CanCount self.old }
-        ensures texts { (texts : List (List ℕ)) → HasTaken texts self.old → TakesText texts line.now result self.new }
+        ensures texts { (texts : List (List ℕ)) → HasAccepted texts self.old → AcceptsText texts line.now result self.new }
         ensures lines { (lines : List Line) → IsBehind lines self.old → Takes lines line.now result self.new }
         ensures short { OnOk result (length line.now ≤ 256) }
     {
@@ -69,14 +69,14 @@ impl GplLines {
     /// Whether a line that ends the source was taken.
     pub fn is_ended(&self) -> bool
         ensures open { IsFalse result ↔ IsOpen self.now }
-        ensures ended { (texts : List (List ℕ)) → (taken : HasTaken texts self.now) → result ≡ has_ended taken.lines }
+        ensures ended { (texts : List (List ℕ)) → (taken : HasAccepted texts self.now) → result ≡ has_ended taken.lines }
     {
         self.ended
     }
 
     /// How many lines were taken. One more can be taken while they are fewer than 2^32 - 1.
     pub fn taken(&self) -> u32
-        ensures taken { (texts : List (List ℕ)) → HasTaken texts self.now → result ≡ length texts }
+        ensures taken { (texts : List (List ℕ)) → HasAccepted texts self.now → result ≡ length texts }
         ensures count { (result < 2 ^ 32 - 1) ↔ CanCount self.now }
     {
         self.taken
@@ -90,8 +90,8 @@ impl GplLines {
     /// want of memory. After an error the lines are given up.
     #[tactic(auto, using(crate::proofs::EndedLines::lines_make_texts))]
     pub fn finish(self) -> Result<GplProgram, GplError>
-        ensures lines { (texts : List (List ℕ)) → HasTaken texts self → GivesProgram result (program_of_lines texts) }
-        ensures text { (texts : List (List ℕ)) → HasTaken texts self → AllByRecursion IsOneLine texts →
+        ensures lines { (texts : List (List ℕ)) → HasAccepted texts self → GivesProgram result (program_of_lines texts) }
+        ensures text { (texts : List (List ℕ)) → HasAccepted texts self → AllByRecursion IsOneLine texts →
             GivesProgram result (program_of_source (text_of texts)) }
     {
         self.program()

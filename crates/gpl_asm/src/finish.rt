@@ -93,7 +93,7 @@ fn resolve(
                 symbols,
                 at: line.at,
             };
-            let statement = scope.said(text.as_slice())?;
+            let statement = scope.parsed(text.as_slice())?;
             let outcome = scope.outcome(&statement)?;
             Ok(put(image, entry, line.at, &outcome)?)
         }

@@ -4,7 +4,7 @@ ghost use Rattle.std.specs.Prelude.{◌≡◌, ◌<◌, ◌+◌, ◌-◌, ◌^�
 ghost use Rattle.source_defs.specs.Layout.{with_names};
 ghost use Rattle.source_defs.specs.Symbols.{Names, look_up};
 ghost use Rattle.source_defs.specs.Growing.{Grows};
-ghost use Rattle.gpl_source_defs.specs.FirstChecks.{label_entry, said};
+ghost use Rattle.gpl_source_defs.specs.FirstChecks.{label_entry, parsed};
 ghost use Rattle.gpl_source_defs.specs.declared.location.Location.{Location};
 ghost use Rattle.gpl_source_defs.specs.SecondChecks.{Bytes, outcome};
 ghost use Rattle.gpl_source_defs.specs.Growing as growing;
@@ -29,7 +29,7 @@ pub(crate) fn assemble_line(
     statement: &Statement<'_>,
 ) -> Result<Option<Rest>, AllocError>
     requires valid { IsValid statement.now }
-    requires said { said scope.now.symbols.now scope.now.at text.now ≡ Ok (defined_statement statement.now) }
+    requires parsed { parsed scope.now.symbols.now scope.now.at text.now ≡ Ok (defined_statement statement.now) }
     ensures waits { IfOk result WaitsForSome }
     ensures answers { IfOk result (λ rest. (later : Names) → Grows scope.now.symbols.now later →
         answer later scope.now.at rest ≡ outcome (look_up later) scope.now.at (defined_statement statement.now)) }
@@ -38,7 +38,7 @@ pub(crate) fn assemble_line(
         Ok(Outcome::Bytes(bytes)) => Ok(assembled_bytes(bytes)),
         Ok(Outcome::Entry(address)) => Ok(Some(Rest::Resolved(Outcome::Entry(address)))),
         Err(Failure::Refused(cause)) => {
-            if is_open(cause) {
+            if is_unresolved(cause) {
                 let text = Vec::from_slice(scope.alloc, text)?;
                 return Ok(Some(Rest::Unresolved(text)));
             }
@@ -60,8 +60,8 @@ fn assembled_bytes(bytes: Vec<u8>) -> Option<Rest>
 }
 
 /// Whether a refusal may be lifted by names that are still to come.
-fn is_open(cause: GplCause) -> bool
-    ensures { result ≡ growing.is_open cause }
+fn is_unresolved(cause: GplCause) -> bool
+    ensures { result ≡ growing.is_unresolved cause }
 {
     matches!(cause, GplCause::Expr(ExprError::UnknownName))
 }

@@ -13,7 +13,7 @@ use std::alloc::Global;
 /// A GPL source, line by line. A line waits for the second pass by what it comes to; its text is kept only where a
 /// value of it is still open.
 ///
-/// Contracts see it by the lines that it has taken (`HasTaken`).
+/// Contracts see it by the lines that it has taken (`HasAccepted`).
 #[derive(Drop)]
 pub struct GplLines {
     pub(crate) alloc: Global,

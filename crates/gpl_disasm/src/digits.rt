@@ -1,7 +1,7 @@
 //! Bytes and words as hexadecimal digits, at the end of a text.
 ghost use Rattle.std.specs.Prelude.{◌≡◌, ◌≤◌, ◌+◌, ◌++◌};
 ghost use Rattle.arrayvec.specs.ArrayString.{array_string_len};
-ghost use Rattle.source_defs.specs.Digits.{marked_word, marked_byte};
+ghost use Rattle.source_defs.specs.Digits.{hex_word, hex_byte};
 
 use arrayvec::ArrayString;
 use asm_text::{byte_digits, word_digits};
@@ -10,7 +10,7 @@ use asm_text::{byte_digits, word_digits};
 #[tactic(auto, using(std::proofs::Common::append_assoc), unfolding(source_defs::specs::Digits::word_digits))]
 pub fn push_word<const N: usize>(text: &mut ArrayString<N>, word: u16)
     requires { array_string_len text.old + 5 ≤ N }
-    ensures text { text.new.bytes ≡ text.old.bytes ++ marked_word word }
+    ensures text { text.new.bytes ≡ text.old.bytes ++ hex_word word }
     ensures size { array_string_len text.new ≡ array_string_len text.old + 5 }
 {
     let [first, second, third, fourth] = word_digits(word);
@@ -25,7 +25,7 @@ pub fn push_word<const N: usize>(text: &mut ArrayString<N>, word: u16)
 #[tactic(auto, using(std::proofs::Common::append_assoc), unfolding(source_defs::specs::Digits::byte_digits))]
 pub(crate) fn push_byte<const N: usize>(text: &mut ArrayString<N>, byte: u8)
     requires { array_string_len text.old + 3 ≤ N }
-    ensures text { text.new.bytes ≡ text.old.bytes ++ marked_byte byte }
+    ensures text { text.new.bytes ≡ text.old.bytes ++ hex_byte byte }
     ensures size { array_string_len text.new ≡ array_string_len text.old + 3 }
 {
     let [first, second] = byte_digits(byte);

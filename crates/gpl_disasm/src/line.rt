@@ -1,6 +1,6 @@
 //! A line of the listing.
 ghost use Rattle.std.specs.Prelude.{◌≡◌, ◌≤◌, ◌<◌, ◌+◌, ◌++◌, codes, length};
-ghost use Rattle.source_defs.specs.Digits.{marked_byte};
+ghost use Rattle.source_defs.specs.Digits.{hex_byte};
 ghost use Rattle.arrayvec.specs.ArrayString.{array_string_len};
 ghost use Rattle.source_defs.specs.ListedLines.{listed};
 ghost use Rattle.gpl_defs.specs.declared.instruction.GplRead.TheVariants.{Instr};
@@ -90,7 +90,7 @@ fn boundary(at: u16) -> u32
 /// Appends BYTE with a byte, and says that it stands for one.
 fn push_byte_line(line: &mut Line, byte: u8) -> u32
     requires { array_string_len line.old ≤ 7 }
-    ensures text { line.new.bytes ≡ line.old.bytes ++ (codes "BYTE " ++ marked_byte byte) }
+    ensures text { line.new.bytes ≡ line.old.bytes ++ (codes "BYTE " ++ hex_byte byte) }
     ensures size { array_string_len line.new ≤ array_string_len line.old + 8 }
     ensures one { result ≡ 1 }
 {

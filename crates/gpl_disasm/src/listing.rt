@@ -2,14 +2,14 @@
 ghost use Rattle.std.specs.Prelude.{◌≡◌, ◌≤◌, ◌<◌, ◌+◌, ◌-◌, ◌++◌, ℕ, List, [], ◌∷◌, length, map, IfOk};
 ghost use Rattle.arrayvec.specs.ArrayString.{array_string_len};
 ghost use Rattle.bench_io.specs.Written.{Written};
-ghost use Rattle.source_defs.specs.Digits.{marked_word};
+ghost use Rattle.source_defs.specs.Digits.{hex_word};
 ghost use Rattle.source_defs.specs.ListedLines.{listing_line};
 ghost use Rattle.gpl_defs.specs.Image.{AreBytesOf, low_of, high_of};
 ghost use Rattle.gpl_listing_defs.specs.Listing as spec;
 
 use crate::digits::push_word;
 use crate::line::{Line, MARGIN, list_line};
-use bench_io::{Failed, Sink, put_piece};
+use bench_io::{Failed, Sink, put_chunk};
 use gpl_forms::GromImage;
 use grom_defs::GROM_SIZE;
 
@@ -35,7 +35,7 @@ fn put_listing<O: Sink>(image: &[u8], low: u16, high: u32, out: &mut O) -> Resul
 {
     put_origin(low, out)?;
     put_lines(image, low, high, out)?;
-    put_piece(out, b"       END\n")
+    put_chunk(out, b"       END\n")
 }
 
 /// Writes the lines of the bytes from an address up to another.
@@ -97,7 +97,7 @@ fn put_line<O: Sink>(image: &[u8], at: u16, high: u32, out: &mut O) -> Result<u3
 {
     let (mut line, next) = list_line(image, at, high);
     line.push_str("\n");
-    put_piece(out, line.as_str().as_bytes())?;
+    put_chunk(out, line.as_str().as_bytes())?;
     Ok(next)
 }
 
@@ -105,20 +105,20 @@ fn put_line<O: Sink>(image: &[u8], at: u16, high: u32, out: &mut O) -> Result<u3
 fn put_origin<O: Sink>(at: u16, out: &mut O) -> Result<(), Failed>
     ensures { Written result (O.state out.old) (O.state out.new) (map listing_line (spec.origin_texts at)) }
 {
-    put_piece(
+    put_chunk(
         out,
         named_line("GROM ", at / GROM_SIZE * GROM_SIZE)
             .as_str()
             .as_bytes(),
     )?;
-    put_piece(out, named_line("AORG ", at % GROM_SIZE).as_str().as_bytes())
+    put_chunk(out, named_line("AORG ", at % GROM_SIZE).as_str().as_bytes())
 }
 
 /// The line of a directive, which a blank ends, with a word.
 #[tactic(auto, using(std::proofs::Common::append_assoc))]
 fn named_line(directive: &str, word: u16) -> Line
     requires { length directive.now ≤ 5 }
-    ensures { result.bytes ≡ listing_line (directive.now ++ marked_word word) }
+    ensures { result.bytes ≡ listing_line (directive.now ++ hex_word word) }
 {
     let mut line = Line::new();
     line.push_str(MARGIN);

@@ -5,7 +5,7 @@ ghost use Rattle.gpl_defs.specs.Codes.{row_of};
 ghost use Rattle.gpl_defs.specs.Reading.{reading};
 ghost use Rattle.gpl_defs.specs.Valid.{is_valid};
 ghost use Rattle.gpl_source_defs.specs.Mnemonics.{name_of_words};
-ghost use Rattle.source_defs.specs.Digits.{marked_byte};
+ghost use Rattle.source_defs.specs.Digits.{hex_byte};
 ghost use Rattle.source_defs.specs.ListedLines.{two_texts};
 ghost use Rattle.gpl_listing_defs.specs.Texts as spec;
 
@@ -46,7 +46,7 @@ pub fn push_standing<const N: usize>(text: &mut ArrayString<N>, image: &[u8], at
 #[tactic(auto, using(std::proofs::Common::append_assoc))]
 pub(crate) fn push_byte_text<const N: usize>(text: &mut ArrayString<N>, byte: u8)
     requires { array_string_len text.old + 8 ≤ N }
-    ensures text { text.new.bytes ≡ text.old.bytes ++ (codes "BYTE " ++ marked_byte byte) }
+    ensures text { text.new.bytes ≡ text.old.bytes ++ (codes "BYTE " ++ hex_byte byte) }
     ensures size { array_string_len text.new ≡ array_string_len text.old + 8 }
 {
     text.push_str("BYTE ");

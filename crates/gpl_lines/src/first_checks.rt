@@ -4,7 +4,7 @@ ghost use Rattle.std.specs.Prelude.{◌≡◌, ◌≤◌, IfOk, IfSome};
 ghost use Rattle.source_defs.specs.Symbols.{look_up};
 ghost use Rattle.gpl_source_defs.specs.Locations as places;
 ghost use Rattle.gpl_source_defs.specs.FirstChecks as spec;
-ghost use Rattle.gpl_source_defs.specs.Statements.{size_said};
+ghost use Rattle.gpl_source_defs.specs.Statements.{declared_size};
 ghost use Rattle.gpl_lines.specs.Answers.{Gives};
 ghost use Rattle.gpl_lines.specs.Defined.{defined_statement, defined_checked};
 ghost use Rattle.gpl_lines.specs.Validity.{IsValid};
@@ -38,7 +38,7 @@ impl Scope<'_> {
         requires { (self.now.at.grom ≤ 65535) × (self.now.at.number ≤ 65536) }
         ensures checked { Gives defined_checked result (spec.checked self.now.symbols.now self.now.at text.now) }
         ensures valid { IfOk result (λ checked. IsValid checked.statement) }
-        ensures size { IfOk result (λ checked. checked.size ≡ size_said (defined_statement checked.statement)) }
+        ensures size { IfOk result (λ checked. checked.size ≡ declared_size (defined_statement checked.statement)) }
         ensures most { IfOk result (λ checked. checked.size ≤ 65535) }
     {
         let found = match fields(text) {
@@ -64,8 +64,8 @@ impl Scope<'_> {
     }
 
     /// What a line says, of which the first checks let through what it said with fewer names.
-    pub fn said<'b>(&self, text: &'b [u8]) -> Result<Statement<'b>, Failure>
-        ensures said { Gives defined_statement result (spec.said self.now.symbols.now self.now.at text.now) }
+    pub fn parsed<'b>(&self, text: &'b [u8]) -> Result<Statement<'b>, Failure>
+        ensures parsed { Gives defined_statement result (spec.parsed self.now.symbols.now self.now.at text.now) }
         ensures valid { IfOk result IsValid }
     {
         match fields(text) {

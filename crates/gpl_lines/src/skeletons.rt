@@ -21,7 +21,7 @@ use crate::failure::Failure;
 use crate::forms::{Form, form_of, takes_move, takes_two};
 use crate::skeleton::{Route, Skeleton, Source};
 use crate::values::Scope;
-use asm_text::{one_of, operands};
+use asm_text::{one_operand, operands};
 use gpl_defs::{GplOperand, TwoName};
 use gpl_source_defs::{GplCause, Mnemonic};
 
@@ -146,7 +146,7 @@ impl Scope<'_> {
 fn one_form(field: &[u8]) -> Result<Form<'_>, Failure>
     ensures { Gives defined_form result (spec.one_form (operand_texts field.now)) }
 {
-    let text = one_of(field)?;
+    let text = one_operand(field)?;
     Ok(form_of(text))
 }
 

@@ -17,7 +17,8 @@ use crate::mnemonics::mnemonic;
 use crate::skeleton::Skeleton;
 use crate::values::Scope;
 use asm_text::{
-    Fields, at_most_one_of, character_count, one_of, operand_count, part, quoted, some_of,
+    Fields, character_count, one_operand, operand_count, operand_list, optional_operand, part,
+    quoted,
 };
 use gpl_source_defs::{Directive, GplCause};
 
@@ -51,7 +52,7 @@ impl Statement<'_> {
     /// How many bytes a line takes.
     pub(crate) fn size(&self) -> u32
         requires { IsValid self.now }
-        ensures size { result ≡ spec.size_said (defined_statement self.now) }
+        ensures size { result ≡ spec.declared_size (defined_statement self.now) }
         ensures most { result ≤ 65535 }
     {
         match self {
@@ -78,7 +79,7 @@ impl Scope<'_> {
     ) -> Result<Statement<'b>, Failure>
         requires inside { FieldsLieInside line.now found.now }
         requires length { length line.now ≤ 256 }
-        ensures said { Gives defined_statement result
+        ensures parsed { Gives defined_statement result
             (spec.statement_at (look_up self.now.symbols.now)
             (address_of self.now.at) line.now found.now.operation found.now.operands) }
         ensures valid { IfOk result IsValid }
@@ -98,7 +99,7 @@ impl Scope<'_> {
         field: &'b [u8],
     ) -> Result<Statement<'b>, Failure>
         requires { length field.now ≤ 256 }
-        ensures said { Gives defined_statement result
+        ensures parsed { Gives defined_statement result
             (spec.operation_statement (look_up self.now.symbols.now) (address_of self.now.at) operation.now field.now) }
         ensures valid { IfOk result IsValid }
     {
@@ -115,7 +116,7 @@ impl Scope<'_> {
         operation: &[u8],
         field: &'b [u8],
     ) -> Result<Statement<'b>, Failure>
-        ensures said { Gives defined_statement result
+        ensures parsed { Gives defined_statement result
             (spec.instruction_statement (look_up self.now.symbols.now) (address_of self.now.at)
             (mnemonic operation.now) field.now) }
         ensures valid { IfOk result IsValid }
@@ -136,7 +137,7 @@ impl Scope<'_> {
         field: &'b [u8],
     ) -> Result<Statement<'b>, Failure>
         requires { length field.now ≤ 256 }
-        ensures said { Gives defined_statement result
+        ensures parsed { Gives defined_statement result
             (spec.directive_statement (look_up self.now.symbols.now) (address_of self.now.at) found
             (operand_texts field.now)) }
         ensures valid { IfOk result IsValid }
@@ -146,10 +147,10 @@ impl Scope<'_> {
             Directive::Aorg => Ok(Statement::Aorg(self.number_of_one(field)?)),
             Directive::Equ => Ok(Statement::Equ(self.number_of_one(field)?)),
             Directive::Bss => Ok(Statement::Bss(self.number_of_one(field)?)),
-            Directive::Data => Ok(Statement::Data(some_of(field)?)),
-            Directive::Byte => Ok(Statement::Byte(some_of(field)?)),
-            Directive::Text => Ok(Statement::Text(quoted(one_of(field)?)?)),
-            Directive::End => Ok(Statement::End(at_most_one_of(field)?)),
+            Directive::Data => Ok(Statement::Data(operand_list(field)?)),
+            Directive::Byte => Ok(Statement::Byte(operand_list(field)?)),
+            Directive::Text => Ok(Statement::Text(quoted(one_operand(field)?)?)),
+            Directive::End => Ok(Statement::End(optional_operand(field)?)),
         }
     }
 
@@ -158,7 +159,7 @@ impl Scope<'_> {
         ensures { Gives (λ number. number) result
             (spec.number_of_one (look_up self.now.symbols.now) (address_of self.now.at) (operand_texts field.now)) }
     {
-        let text = one_of(field)?;
+        let text = one_operand(field)?;
         self.number(text)
     }
 }

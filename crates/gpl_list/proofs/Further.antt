@@ -4,7 +4,7 @@ use Rattle.std.proofs.lemmas.List.{drop_all, length-drop}
 use Rattle.std.specs.Prelude.{◌++◌, codes}
 use Rattle.report_defs.specs.Rows.{spaced_bytes}
 use Rattle.source_defs.specs.Numbers.{hexadecimal_digit}
-use Rattle.source_defs.specs.Digits.{word_digits, marked_word}
+use Rattle.source_defs.specs.Digits.{word_digits, hex_word}
 use Rattle.gpl_list_defs.specs.Text.{further_line, further_rows, further_lines}
 
 digits_by : (a b c d e f g h : ℕ) → a ≡ e → b ≡ f → c ≡ g → d ≡ h
@@ -17,7 +17,7 @@ digits_by a b c d e f g h p q r s =
     ∙ ap (λ d. hexadecimal_digit e ∷ hexadecimal_digit f ∷ hexadecimal_digit g ∷ hexadecimal_digit d ∷ []) s))
 
 -- a word is shown by its last 16 bits
-pub word_by : (number word : ℕ) → word ≡ number % 65536 → marked_word word ≡ marked_word number
+pub word_by : (number word : ℕ) → word ≡ number % 65536 → hex_word word ≡ hex_word number
 unfolding word_digits
 word_by number word e =
     ap (λ digits. 0x3E ∷ digits)

@@ -13,7 +13,7 @@ use Rattle.gpl_source_defs.specs.FirstChecks.{check}
 use Rattle.gpl_asm.specs.declared.error.GplError.{GplError}
 use Rattle.gpl_asm.specs.declared.error.GplError.TheVariants.{At, Memory}
 use Rattle.gpl_asm.specs.declared.lines.GplLines.{GplLines}
-use Rattle.gpl_asm.specs.Building.{IsBehind, HasTaken}
+use Rattle.gpl_asm.specs.Building.{IsBehind, HasAccepted}
 use Rattle.gpl_list_defs.specs.Rows as spec
 use Rattle.gpl_list.specs.declared.read.ReadLines.{ReadLines}
 use Rattle.gpl_list.specs.Reading.{ReadsLine, ReadsLines}
@@ -77,7 +77,7 @@ module _ (text : List ℕ) (before : List Line) (line : TextLine) (next : List T
   one_longer = let count = passed.count in omega (arith, count, length-append passed.front (part text line.span ∷ []))
 
   abbrev pub has_taken : (found : Line) (builder : GplLines) → check before (length before + 1) (part text line.span) ≡ Ok found → has_ended before ≡ false
-      → IsBehind (found ∷ before) builder → HasTaken (passed.front ++ part text line.span ∷ []) builder
+      → IsBehind (found ∷ before) builder → HasAccepted (passed.front ++ part text line.span ∷ []) builder
   has_taken found builder e going behind =
       record { lines = found ∷ before; laid = laid_more_is found e going; all = let longer = one_longer in omega (arith, longer); behind = behind }
 

@@ -7,7 +7,7 @@ use Rattle.gpl_defs.specs.Image.{Image, placed}
 use Rattle.gpl_source_defs.specs.declared.causes.GplCause.{GplCause}
 use Rattle.gpl_source_defs.specs.declared.causes.GplCause.TheVariants.{Overlap}
 use Rattle.gpl_source_defs.specs.declared.location.Location.{Location}
-use Rattle.gpl_source_defs.specs.Statements.{Statement, size_said}
+use Rattle.gpl_source_defs.specs.Statements.{Statement, declared_size}
 use Rattle.gpl_source_defs.specs.SecondChecks.{Outcome, outcome}
 use Rattle.gpl_source_defs.specs.Programs.{Settled, settle_at, with_room, overlaps, image, bytes_in, entry_by}
 use Rattle.gpl_source_defs.proofs.Sizes.{outcome_size}
@@ -49,7 +49,7 @@ module _ (known : Names) (at : Location) (statement : Statement) (earlier : List
       ap Err same
   put_err false cause e = cc e
 
-  pub fits : at.number + size_said statement ≤ 65536 → at.number + length (bytes_in found) ≤ 65536
+  pub fits : at.number + declared_size statement ≤ 65536 → at.number + length (bytes_in found) ≤ 65536
   fits le =
       let fills = outcome_size (look_up known) at statement found came in
       omega (arith, fills, le)

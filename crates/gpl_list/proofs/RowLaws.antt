@@ -9,10 +9,10 @@ use Rattle.source_defs.specs.Refusals.{◌>>=◌}
 use Rattle.source_defs.proofs.RefusalLaws.{bound}
 use Rattle.source_defs.proofs.DefinedNames.{grown_on}
 use Rattle.gpl_source_defs.specs.declared.location.Location.{Location}
-use Rattle.gpl_source_defs.specs.Statements.{Statement, size_said}
+use Rattle.gpl_source_defs.specs.Statements.{Statement, declared_size}
 use Rattle.gpl_source_defs.specs.Locations.{Line, location, place, origin_of}
-use Rattle.gpl_source_defs.specs.FirstChecks.{Checked, checked, check, line_of, names, said, label_entry, label_value}
-use Rattle.gpl_source_defs.specs.Growing.{is_open}
+use Rattle.gpl_source_defs.specs.FirstChecks.{Checked, checked, check, line_of, names, parsed, label_entry, label_value}
+use Rattle.gpl_source_defs.specs.Growing.{is_unresolved}
 use Rattle.gpl_source_defs.proofs.CheckLaws.{is_let_through}
 use Rattle.gpl_source_defs.proofs.GrowingLaws.{said_stays}
 use Rattle.gpl_asm.specs.declared.taken.TakenLine.{TakenLine}
@@ -68,15 +68,15 @@ module _ (texts : List (ℕ × List ℕ)) (lines : List Line) (text : List ℕ) 
   at_there : row.at ≡ location lines
   at_there = taken.at ∙ (tells.at ∙ place_there)
 
-  said_later : (later : Names) → Grows (names (line ∷ lines)) later → said later row.at row.text.items ≡ Ok statement
+  said_later : (later : Names) → Grows (names (line ∷ lines)) later → parsed later row.at row.text.items ≡ Ok statement
   said_later later more =
       let through = is_let_through (names lines) (location lines) text found e in
       let grows : Grows (names lines) later =
       grown_on (names lines) (names (line ∷ lines)) later (label_grows (names lines) found.label (label_value (location lines) statement) through.fresh) more in
-      let closed : is_closed is_open (said (names lines) (location lines) text) ≡ true = ap (is_closed is_open) through.said in
-      ap (λ (at : Location). said later at row.text.items) at_there
-      ∙ (ap (λ text. said later (location lines) text) taken.text
-      ∙ (said_stays (names lines) later grows (location lines) text closed ∙ through.said))
+      let closed : is_closed is_unresolved (parsed (names lines) (location lines) text) ≡ true = ap (is_closed is_unresolved) through.parsed in
+      ap (λ (at : Location). parsed later at row.text.items) at_there
+      ∙ (ap (λ text. parsed later (location lines) text) taken.text
+      ∙ (said_stays (names lines) later grows (location lines) text closed ∙ through.parsed))
 
   pub row_of : (later : Names) → Grows (names (line ∷ lines)) later → RowOf texts later lines line row
   row_of later more = record {
@@ -89,6 +89,6 @@ module _ (texts : List (ℕ × List ℕ)) (lines : List Line) (text : List ℕ) 
         ∙ ap (λ (at : Location). (set_or (origin_of at statement) (place lines line)).number) (sym place_there)));
     bytes = taken.bytes;
     text = taken.text ∙ sym there;
-    said = said_later later more;
-    room = subst (λ (at : Location). at.number + size_said statement ≤ 65536) (sym taken.at) tells.room;
+    parsed = said_later later more;
+    room = subst (λ (at : Location). at.number + declared_size statement ≤ 65536) (sym taken.at) tells.room;
   }

@@ -138,7 +138,7 @@ module _ (texts : List (ℕ × List ℕ)) (known : Names) where
         → SettledAs see known (place g.done line) line.statement g.earlier result left
     came g line result is settles =
         subst (λ (at : Location). SettledAs see known at line.statement g.earlier result left) is.at
-        (settles line.statement g.earlier is.said is.room g.made_is)
+        (settles line.statement g.earlier is.parsed is.room g.made_is)
 
     pub going_more : (value : A) (new : Row) (after : List Row) → Going lines (row ∷ next) made rows → Asked (Ok value) → Given row new (see value)
         → after ≡ rows ++ new ∷ [] → Going lines next left after

@@ -7,13 +7,13 @@ use Rattle.source_defs.specs.Symbols.{Names}
 use Rattle.source_defs.specs.Growing.{Grows}
 use Rattle.source_defs.specs.Layout.{laid, set_or}
 use Rattle.gpl_source_defs.specs.declared.location.Location.{Location}
-use Rattle.gpl_source_defs.specs.Statements.{size_said}
+use Rattle.gpl_source_defs.specs.Statements.{declared_size}
 use Rattle.gpl_source_defs.specs.Locations.{Line, place}
-use Rattle.gpl_source_defs.specs.FirstChecks.{check, names, said}
+use Rattle.gpl_source_defs.specs.FirstChecks.{check, names, parsed}
 use Rattle.gpl_asm.specs.declared.error.GplError.{GplError}
 use Rattle.gpl_asm.specs.declared.error.GplError.TheVariants.{At, Memory}
 use Rattle.gpl_asm.specs.declared.taken.TakenLine.{TakenLine}
-use Rattle.gpl_asm.specs.Building.{IsBehind, HasTaken, IsOpen, CanCount}
+use Rattle.gpl_asm.specs.Building.{IsBehind, HasAccepted, IsOpen, CanCount}
 use Rattle.gpl_list_defs.specs.Rows as spec
 use Rattle.gpl_list.specs.declared.rows.Row.{Row}
 use Rattle.gpl_list.specs.declared.rows.NameRow.{NameRow}
@@ -54,8 +54,8 @@ pub record RowOf (texts : List (ℕ × List ℕ)) (later : Names) (before : List
   pub address : row.address ≡ spec.address (place before line) line.statement
   pub bytes : row.bytes.items ≡ []
   pub text : row.text.items ≡ spec.text_of texts line.number
-  pub said : said later row.at row.text.items ≡ Ok line.statement
-  pub room : row.at.number + size_said line.statement ≤ 65536
+  pub parsed : parsed later row.at row.text.items ≡ Ok line.statement
+  pub room : row.at.number + declared_size line.statement ≤ 65536
 
 -- the rows of lines in their order, behind others
 abbrev pub Describes : List (ℕ × List ℕ) → Names → List Line → List Line → List Row → Type 0
@@ -84,7 +84,7 @@ pub record Keeps (texts : List (ℕ × List ℕ)) (lines : List Line) (read : Re
 
 -- no line was taken
 pub record KeepsNone (read : ReadLines) : Type 0 where
-  pub taken : HasTaken [] read.builder
+  pub taken : HasAccepted [] read.builder
   pub going : IsOpen read.builder
   pub count : CanCount read.builder
   pub rows : read.rows.items ≡ []

@@ -5,9 +5,9 @@ use Rattle.source_defs.specs.Symbols.{Names, look_up}
 use Rattle.source_defs.specs.Layout.{settled}
 use Rattle.gpl_defs.specs.Image.{Image}
 use Rattle.gpl_source_defs.specs.declared.location.Location.{Location}
-use Rattle.gpl_source_defs.specs.Statements.{Statement, size_said}
+use Rattle.gpl_source_defs.specs.Statements.{Statement, declared_size}
 use Rattle.gpl_source_defs.specs.Locations.{Line}
-use Rattle.gpl_source_defs.specs.FirstChecks.{said}
+use Rattle.gpl_source_defs.specs.FirstChecks.{parsed}
 use Rattle.gpl_source_defs.specs.SecondChecks.{outcome}
 use Rattle.gpl_source_defs.specs.Programs.{Settled, settle, settle_at, image}
 use Rattle.gpl_lines.specs.Answers.{Fails, Gives}
@@ -23,7 +23,7 @@ use Rattle.gpl_list.specs.Reading.{defined_row}
 -- what a line comes to that says something by all names
 abbrev pub ComesTo : Names → Location → List ℕ → Result Outcome Failure → Type 0
 ComesTo known at text result =
-    (statement : Statement) → said known at text ≡ Ok statement
+    (statement : Statement) → parsed known at text ≡ Ok statement
     → Gives defined_outcome result (outcome (look_up known) at statement)
 
 -- a line was settled behind others, and its bytes were placed
@@ -36,7 +36,7 @@ SettledAs bytes known at statement earlier (Err failure) left = Fails failure (s
 abbrev pub SettlesLine : {A : Type 0} → (A → List ℕ) → Names → Location → List ℕ → Image → Result A Failure → Image → Type 0
 SettlesLine bytes known at text old result left =
     (statement : Statement) (earlier : List Settled)
-    → said known at text ≡ Ok statement → at.number + size_said statement ≤ 65536 → old ≡ image earlier
+    → parsed known at text ≡ Ok statement → at.number + declared_size statement ≤ 65536 → old ≡ image earlier
     → SettledAs bytes known at statement earlier result left
 
 -- the rows of lines with their bytes, or of those before the first that the second checks refuse

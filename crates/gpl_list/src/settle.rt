@@ -89,7 +89,7 @@ fn outcome_of(alloc: Global, names: &Symbols, at: Location, text: &[u8]) -> Resu
         symbols: names,
         at,
     };
-    let statement = scope.said(text)?;
+    let statement = scope.parsed(text)?;
     scope.outcome(&statement)
 }
 

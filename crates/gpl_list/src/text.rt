@@ -1,7 +1,7 @@
 //! The lines of a listing.
 
 ghost use Rattle.std.specs.Prelude.{◌≡◌, ◌≤◌, ◌+◌, ◌%◌, ◌++◌, length, take, drop};
-ghost use Rattle.source_defs.specs.Digits.{marked_word};
+ghost use Rattle.source_defs.specs.Digits.{hex_word};
 ghost use Rattle.arrayvec.specs.ArrayVec.{array_vec_len};
 ghost use Rattle.gpl_list_defs.specs.Text as spec;
 ghost use Rattle.gpl_list.specs.Reading.{defined_name, defined_row};
@@ -55,7 +55,7 @@ fn line_front(row: &Row) -> Line
 #[tactic(auto, using(crate::proofs::Further::word_by))]
 pub(crate) fn address(number: u32) -> u16
     ensures value { result ≡ number % 65536 }
-    ensures shown { marked_word result ≡ marked_word number }
+    ensures shown { hex_word result ≡ hex_word number }
 {
     (number % 0x10000) as u16
 }

@@ -8,7 +8,7 @@ ghost use Rattle.gpl_list.specs.Reading.{defined_name, defined_row};
 
 use crate::rows::{NameRow, Row};
 use crate::text::{address, first_bytes, further_bytes, further_line, line_text, name_line};
-use bench_io::{Failed, Sink, put_piece};
+use bench_io::{Failed, Sink, put_chunk};
 
 /// Writes rows, each line by one call.
 pub(crate) fn put_rows<O: Sink>(rows: &[Row], out: &mut O) -> Result<(), Failed>
@@ -26,7 +26,7 @@ fn put_row<O: Sink>(row: &Row, out: &mut O) -> Result<(), Failed>
     ensures { Written result (O.state out.old) (O.state out.new) (spec.row_lines (defined_row row.now)) }
 {
     let bytes = row.bytes.as_slice();
-    put_piece(out, line_text(row).as_slice())?;
+    put_chunk(out, line_text(row).as_slice())?;
     put_further(
         address(row.address).wrapping_add(8),
         further_bytes(bytes),
@@ -41,7 +41,7 @@ fn put_further<O: Sink>(at: u16, bytes: &[u8], out: &mut O) -> Result<(), Failed
     let mut place = at;
     let mut rest = bytes;
     while !rest.is_empty() {
-        put_piece(out, further_line(place, first_bytes(rest)).as_slice())?;
+        put_chunk(out, further_line(place, first_bytes(rest)).as_slice())?;
         place = place.wrapping_add(8);
         rest = further_bytes(rest);
     }
@@ -53,7 +53,7 @@ pub(crate) fn put_names<O: Sink>(names: &[NameRow], out: &mut O) -> Result<(), F
     ensures { Written result (O.state out.old) (O.state out.new) (map spec.name_line (map defined_name names.now)) }
 {
     for name in names {
-        put_piece(out, name_line(name).as_slice())?;
+        put_chunk(out, name_line(name).as_slice())?;
     }
     Ok(())
 }

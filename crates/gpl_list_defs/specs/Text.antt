@@ -3,7 +3,7 @@ use Rattle.std.specs.Prelude.{ℕ, zero, suc, ◌+◌, ◌-◌, ◌*◌, ◌/◌
 use Rattle.std.specs.Prelude.{codes}
 use Rattle.std.specs.List.{flat_map}
 use Rattle.std.specs.Fmt.{decimal}
-use Rattle.source_defs.specs.Digits.{marked_word}
+use Rattle.source_defs.specs.Digits.{hex_word}
 use Rattle.source_defs.specs.Expression.{Value, Absolute, Relocatable, External}
 use Rattle.report_defs.specs.Rows.{spaced_bytes, row_line}
 use Rattle.gpl_list_defs.specs.Rows.{Row, NameRow}
@@ -19,7 +19,7 @@ bytes_text bytes = spaced_bytes bytes ++ replicate (24 - 3 * length bytes) 0x20
 -- Profile: a line is shown by its number, its address, its first eight bytes and its text.
 unfoldable pub line_front : Row → List ℕ
 line_front row =
-    number_text row.number ++ (codes " " ++ (marked_word row.at ++ (bytes_text (take 8 row.bytes) ++ codes " ")))
+    number_text row.number ++ (codes " " ++ (hex_word row.at ++ (bytes_text (take 8 row.bytes) ++ codes " ")))
 
 unfoldable pub line_text : Row → List ℕ
 line_text row = line_front row ++ (row.text ++ codes "\n")
@@ -50,7 +50,7 @@ number_in (External name) = 0
 -- Profile: a name is shown by what it stands for and the number of its line.
 unfoldable pub name_line : NameRow → List ℕ
 name_line row =
-    codes "name " ++ (marked_word (number_in row.value)
+    codes "name " ++ (hex_word (number_in row.value)
     ++ (codes " " ++ (number_text row.line ++ (codes " " ++ (row.name ++ codes "\n")))))
 
 -- the lines of a listing

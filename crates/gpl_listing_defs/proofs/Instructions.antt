@@ -5,7 +5,7 @@ use Rattle.std.proofs.Common.{List, [], ◌∷◌, ◌++◌, length, length-appe
 use Rattle.std.specs.Prelude.{◌==◌, IsTrue, nat_le}
 use Rattle.std.specs.List.{list_all}
 use Rattle.std.proofs.lemmas.Bool.Decides.{nat_tests}
-use Rattle.source_defs.specs.Digits.{marked_byte, marked_word}
+use Rattle.source_defs.specs.Digits.{hex_byte, hex_word}
 use Rattle.source_defs.specs.Expression.{Value}
 use Rattle.grom_defs.specs.Addresses.{in_grom_of}
 use Rattle.grom_defs.specs.declared.size.TheConstants.{GROM_SIZE}
@@ -116,22 +116,22 @@ source_left word (source.Immediate value) = Immediate (value_text word value)
 
 abbrev pub length_left : MoveLength → Source
 length_left (count.At operand) = At operand
-length_left (count.Immediate number) = Immediate (marked_word number)
+length_left (count.Immediate number) = Immediate (hex_word number)
 
 abbrev pub route_left : MoveTarget → MoveSource → Route
 route_left (target.At to) (from.At place) = Within to place
-route_left (target.At to) (from.Grom address) = ToMemory to (marked_word address) None
-route_left (target.At to) (from.GromIndexed address index) = ToMemory to (marked_word address)
+route_left (target.At to) (from.Grom address) = ToMemory to (hex_word address) None
+route_left (target.At to) (from.GromIndexed address index) = ToMemory to (hex_word address)
     (index_written (Some index))
-route_left (target.Register number) (from.Grom address) = ToRegisters (marked_byte number) (marked_word address)
-route_left (target.Register number) (from.At place) = ToRegisters (marked_byte number) []
-route_left (target.Register number) (from.GromIndexed address index) = ToRegisters (marked_byte number) []
+route_left (target.Register number) (from.Grom address) = ToRegisters (hex_byte number) (hex_word address)
+route_left (target.Register number) (from.At place) = ToRegisters (hex_byte number) []
+route_left (target.Register number) (from.GromIndexed address index) = ToRegisters (hex_byte number) []
 
 abbrev pub left_of : GplInstr → ℕ → Skeleton
 left_of (instr.Plain op) at = Plain op
-left_of (instr.Byte op value) at = Byte op (marked_byte value)
-left_of (instr.Jump op to) at = Jump op (marked_word to)
-left_of (instr.Branch on offset) at = Branch on (marked_word (in_grom_of at offset))
+left_of (instr.Byte op value) at = Byte op (hex_byte value)
+left_of (instr.Jump op to) at = Jump op (hex_word to)
+left_of (instr.Branch on offset) at = Branch on (hex_word (in_grom_of at offset))
 left_of (instr.One op word operand) at = One op word operand
 left_of (instr.Two op word dst src) at = Two op word dst (source_left word src)
 left_of (instr.Move length to source) at = Move (length_left length) (route_left to source)

@@ -4,7 +4,7 @@ use Rattle.std.proofs.Common.{length, refl, ap, sym, subst, ◌∙◌, Ok, Optio
 use Rattle.std.specs.Prelude.{◌==◌, codes, IsTrue, nat_lt, nat_le, if◌then◌else◌}
 use Rattle.std.specs.List.{list_all}
 use Rattle.std.proofs.lemmas.Bool.Decides.{nat_tests}
-use Rattle.source_defs.specs.Digits.{marked_word, marked_byte, word_digits, byte_digits}
+use Rattle.source_defs.specs.Digits.{hex_word, hex_byte, word_digits, byte_digits}
 use Rattle.source_defs.specs.Layout.{laid_behind, settled, numbered}
 use Rattle.source_defs.specs.ListedLines.{listed, with_operands}
 use Rattle.source_defs.specs.Symbols.{Names, look_up, predefined}
@@ -16,7 +16,7 @@ use Rattle.gpl_defs.specs.Bytes.{bytes_of}
 use Rattle.gpl_source_defs.specs.declared.location.Location.{Location}
 use Rattle.gpl_source_defs.specs.Directives.{directive}
 use Rattle.gpl_source_defs.specs.Mnemonics.{name_of}
-use Rattle.gpl_source_defs.specs.Statements.{Statement, Instruction, Grom, Aorg, Byte, End, operation_statement, size_said}
+use Rattle.gpl_source_defs.specs.Statements.{Statement, Instruction, Grom, Aorg, Byte, End, operation_statement, declared_size}
 use Rattle.gpl_source_defs.specs.Locations.{Line, start, behind, location, place, address_of, origin_of}
 use Rattle.gpl_source_defs.specs.FirstChecks.{checked, check, line_of, names, is_full, is_bad, is_end}
 use Rattle.gpl_source_defs.specs.SecondChecks.{Bytes, outcome}
@@ -108,13 +108,13 @@ module _ {before : List Line} {earlier : List Settled} {at : Location} {held : I
       Fit name (field_of operands) → (operands ≡ None) ⊎ (0 < length (field_of operands)) →
       operation_statement (look_up predefined) (address_of at) name (field_of operands) ≡ Ok said →
       outcome (look_up predefined) at said ≡ Ok (Bytes bytes) → is_bad None said ≡ false →
-      moved (origin_of at said) at (size_said said) ≡ next → at.number + size_said said ≤ at.grom + 0x2000 →
+      moved (origin_of at said) at (declared_size said) ≡ next → at.number + declared_size said ≤ at.grom + 0x2000 →
       overlaps held at.number bytes ≡ false →
       Taken before number (listed (with_operands name operands)) (is_end said) next (placed held at.number bytes)
   taken name operands said bytes next fit some is second good there within free =
       let cut = cut_listed name operands fit some in
       let full : is_full at said ≡ false =
-      (let test : nat_lt (at.grom + GROM_SIZE) (at.number + size_said said) ≡ false = grind (arith, nat_tests) in test) in
+      (let test : nat_lt (at.grom + GROM_SIZE) (at.number + declared_size said) ≡ false = grind (arith, nat_tests) in test) in
       let line : Line = line_of at number (record { label = None; statement = said }) in
       record {
         line = line;
@@ -124,7 +124,7 @@ module _ {before : List Line} {earlier : List Settled} {at : Location} {held : I
         stands = record {
           names_are = stands.names_are;
           location_is = location_behind line before (origin_of at said) refl refl
-              ∙ (ap (λ here. moved (origin_of at said) here (size_said said)) stands.location_is ∙ there);
+              ∙ (ap (λ here. moved (origin_of at said) here (declared_size said)) stands.location_is ∙ there);
           settled_are =
               rw (
                 stands.settled_are,
@@ -155,46 +155,46 @@ module _ {before : List Line} {earlier : List Settled} {at : Location} {held : I
 
   -- a byte at its place
   pub byte_taken : (b : ℕ) → b < 256 → at.number + 1 ≤ at.grom + 0x2000 → overlaps held at.number (b ∷ []) ≡ false →
-      Taken before number (listed (codes "BYTE " ++ marked_byte b)) false (behind at 1) (placed held at.number (b ∷ []))
+      Taken before number (listed (codes "BYTE " ++ hex_byte b)) false (behind at 1) (placed held at.number (b ∷ []))
   unfolding outcome directive byte_digits
   byte_taken b lt within free =
       let few : nat_le b 0xFF ≡ true = grind (arith, nat_tests) in
-      taken (codes "BYTE") (Some (marked_byte b)) (Byte (marked_byte b ∷ [])) (b ∷ []) _
+      taken (codes "BYTE") (Some (hex_byte b)) (Byte (hex_byte b ∷ [])) (b ∷ []) _
       (number_fit _ _ (omega arith) (omega arith) refl (omega arith) (byte_passes plain_byte b refl refl)) (inr (omega arith))
-      (rw (one_text (marked_byte b) (omega arith) (byte_passes whole b refl refl)) refl)
+      (rw (one_text (hex_byte b) (omega arith) (byte_passes whole b refl refl)) refl)
       (rw (byte_value (look_up predefined) (address_of at) b lt, few) refl) refl refl within free
 
   -- a line that sets a location by a number
   origin_taken : (name : List ℕ) (said : Statement) (e : ℕ) (next : Location) → 0 < length name → length name ≤ 6 →
       list_all plain_byte name ≡ true →
-      operation_statement (look_up predefined) (address_of at) name (marked_word e) ≡ Ok said →
+      operation_statement (look_up predefined) (address_of at) name (hex_word e) ≡ Ok said →
       outcome (look_up predefined) at said ≡ Ok (Bytes []) → is_bad None said ≡ false →
-      moved (origin_of at said) at (size_said said) ≡ next → at.number + size_said said ≤ at.grom + 0x2000 →
-      Taken before number (listed (name ++ 0x20 ∷ marked_word e)) (is_end said) next held
+      moved (origin_of at said) at (declared_size said) ≡ next → at.number + declared_size said ≤ at.grom + 0x2000 →
+      Taken before number (listed (name ++ 0x20 ∷ hex_word e)) (is_end said) next held
   unfolding word_digits
   origin_taken name said e next some short plain is second good there within =
-      taken name (Some (marked_word e)) said [] next
+      taken name (Some (hex_word e)) said [] next
       (number_fit _ _ some short plain (omega arith) (word_passes plain_byte e refl refl)) (inr (omega arith)) is second good
       there within refl
 
   -- the line that sets a GROM
   pub grom_taken : (e : ℕ) → e < 65536 → e % 0x2000 ≡ 0 → at.number ≤ at.grom + 0x2000 →
-      Taken before number (listed (codes "GROM " ++ marked_word e)) false (record { grom = e; number = e }) held
+      Taken before number (listed (codes "GROM " ++ hex_word e)) false (record { grom = e; number = e }) held
   unfolding outcome directive word_digits
   grom_taken e lt even within =
       let aligned : (e % GROM_SIZE == 0) ≡ true = grind (arith, nat_tests) in
       origin_taken (codes "GROM") (Grom e) e _ (omega arith) (omega arith) refl
-      (rw (one_text (marked_word e) (omega arith) (word_passes whole e refl refl), word_value (look_up predefined) (address_of at) e lt) refl)
+      (rw (one_text (hex_word e) (omega arith) (word_passes whole e refl refl), word_value (look_up predefined) (address_of at) e lt) refl)
       refl (rw aligned refl) (here_again (record { grom = e; number = e })) (omega arith)
 
   -- the line that sets a place in the GROM
   pub aorg_taken : (e : ℕ) → e < 0x2000 → at.number ≤ at.grom + 0x2000 →
-      Taken before number (listed (codes "AORG " ++ marked_word e)) false (record { grom = at.grom; number = at.grom + e }) held
+      Taken before number (listed (codes "AORG " ++ hex_word e)) false (record { grom = at.grom; number = at.grom + e }) held
   unfolding outcome directive word_digits
   aorg_taken e lt within =
       let below : nat_lt e GROM_SIZE ≡ true = grind (arith, nat_tests) in
       origin_taken (codes "AORG") (Aorg e) e _ (omega arith) (omega arith) refl
-      (rw (one_text (marked_word e) (omega arith) (word_passes whole e refl refl), word_value (look_up predefined) (address_of at) e (omega arith)) refl)
+      (rw (one_text (hex_word e) (omega arith) (word_passes whole e refl refl), word_value (look_up predefined) (address_of at) e (omega arith)) refl)
       refl (rw below refl) (here_again (record { grom = at.grom; number = at.grom + e })) (omega arith)
 
   -- the last line

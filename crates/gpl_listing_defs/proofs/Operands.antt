@@ -4,7 +4,7 @@ use Rattle.std.proofs.Common.{length, length-append, refl, ◌∙◌, ap, Ok, Op
 use Rattle.std.specs.Prelude.{◌==◌, map, nat_le}
 use Rattle.std.specs.List.{list_all}
 use Rattle.std.proofs.lemmas.Bool.Decides.{nat_tests}
-use Rattle.source_defs.specs.Digits.{marked_word, marked_byte, word_digits, byte_digits}
+use Rattle.source_defs.specs.Digits.{hex_word, hex_byte, word_digits, byte_digits}
 use Rattle.source_defs.specs.Expression.{Value}
 use Rattle.source_defs.specs.Operands.{operand_texts}
 use Rattle.gpl_defs.specs.declared.scratchpad.TheConstants.{SCRATCHPAD}
@@ -36,27 +36,27 @@ use Rattle.listed_lines.proofs.LineTexts.{field_of}
 -- ---- an address with its index
 
 abbrev rest_of : ℕ → Option ℕ → List ℕ
-rest_of a index = marked_word a ++ index_text index
+rest_of a index = hex_word a ++ index_text index
 
 abbrev pub index_written : Option ℕ → Option (List ℕ)
 index_written None = None
-index_written (Some i) = Some (marked_word (SCRATCHPAD + i))
+index_written (Some i) = Some (hex_word (SCRATCHPAD + i))
 
 record RestBack (a : ℕ) (index : Option ℕ) : Type 0 where
-  address_is : address_text (rest_of a index) ≡ marked_word a
+  address_is : address_text (rest_of a index) ≡ hex_word a
   index_is : forms.index_text (rest_of a index) ≡ index_written index
 
 rest_back : (a : ℕ) (index : Option ℕ) → RestBack a index
 unfolding word_digits
 rest_back a None = record { address_is = rw (none_closed a) refl; index_is = rw (none_closed a) refl }
 rest_back a (Some i) =
-    let inner : List ℕ = 0x40 ∷ marked_word (SCRATCHPAD + i) in
+    let inner : List ℕ = 0x40 ∷ hex_word (SCRATCHPAD + i) in
     let quotes : list_all unquoted (rest_of a (Some i)) ≡ true =
-    all_both unquoted (marked_word a) (index_text (Some i)) (word_passes unquoted a refl refl)
-    (all_both unquoted (marked_word (SCRATCHPAD + i)) (0x29 ∷ []) (word_passes unquoted (SCRATCHPAD + i) refl refl) refl) in
+    all_both unquoted (hex_word a) (index_text (Some i)) (word_passes unquoted a refl refl)
+    (all_both unquoted (hex_word (SCRATCHPAD + i)) (0x29 ∷ []) (word_passes unquoted (SCRATCHPAD + i) refl refl) refl) in
     let own = word_passes (λ byte. not (byte == 0x28)) a refl refl in
-    let opens = opening_is (marked_word a) inner quotes own in
-    let closes = closes_is (marked_word a) inner quotes own in
+    let opens = opening_is (hex_word a) inner quotes own in
+    let closes = closes_is (hex_word a) inner quotes own in
     record { address_is = rw (closes, opens) refl; index_is = rw (closes, opens) refl }
 
 -- ---- printed operands
@@ -71,9 +71,9 @@ pub data Token : Type 0 where
 
 abbrev pub text : Token → List ℕ
 text (InMemory held) = operand_text held
-text (Word n) = marked_word n
-text (Byte n) = marked_byte n
-text (Register n) = 0x52 ∷ 0x40 ∷ marked_byte n
+text (Word n) = hex_word n
+text (Byte n) = hex_byte n
+text (Register n) = 0x52 ∷ 0x40 ∷ hex_byte n
 text (InGrom a index) = 0x47 ∷ 0x40 ∷ rest_of a index
 
 -- an operand in memory, by the texts of its address and its index
@@ -81,16 +81,16 @@ abbrev pub memory_of : GplOperand → Memory
 memory_of held = record {
   space = held.space;
   indirect = held.indirect;
-  address = marked_word (shown_address held.space held.indirect held.address);
+  address = hex_word (shown_address held.space held.indirect held.address);
   index = index_written held.index;
 }
 
 abbrev pub form : Token → Form
 form (InMemory held) = forms.InMemory (memory_of held)
-form (Word n) = forms.Alone (marked_word n)
-form (Byte n) = forms.Alone (marked_byte n)
-form (Register n) = forms.Register (marked_byte n)
-form (InGrom a index) = forms.InGrom (marked_word a) (index_written index)
+form (Word n) = forms.Alone (hex_word n)
+form (Byte n) = forms.Alone (hex_byte n)
+form (Register n) = forms.Register (hex_byte n)
+form (InGrom a index) = forms.InGrom (hex_word a) (index_written index)
 
 -- a test that each byte of an operand passes
 pub record Alphabet (p : ℕ → Bool) : Type 0 where
@@ -111,7 +111,7 @@ pub record TokenBack (token : Token) : Type 0 where
 
 memory_back : (space : Space) (indirect : Bool) (a : ℕ) (index : Option ℕ) →
     (form_of (prefix space indirect ++ rest_of a index)
-    ≡ forms.InMemory (record { space = space; indirect = indirect; address = marked_word a; index = index_written index }))
+    ≡ forms.InMemory (record { space = space; indirect = indirect; address = hex_word a; index = index_written index }))
     × (0 < length (prefix space indirect ++ rest_of a index)) × (length (prefix space indirect ++ rest_of a index) ≤ 15)
 unfolding form_of word_digits
 memory_back Cpu false a None = let r = rest_back a None in (rw (r.address_is, r.index_is) refl, omega arith, omega arith)
@@ -138,11 +138,11 @@ pub written_back : (token : Token) → written_form (text token) ≡ Ok (form to
 written_back token = let b = token_back token in written_text (text token) b.some ∙ ap Ok b.formed
 
 rest_all : (p : ℕ → Bool) → Alphabet p → (a : ℕ) (index : Option ℕ) → list_all p (rest_of a index) ≡ true
-rest_all p is a None = all_both p (marked_word a) [] (word_passes p a is.digits is.sign) refl
+rest_all p is a None = all_both p (hex_word a) [] (word_passes p a is.digits is.sign) refl
 rest_all p is a (Some i) =
-    all_both p (marked_word a) (index_text (Some i)) (word_passes p a is.digits is.sign)
+    all_both p (hex_word a) (index_text (Some i)) (word_passes p a is.digits is.sign)
     (rw (is.opens, is.at_sign)
-    (all_both p (marked_word (SCRATCHPAD + i)) (0x29 ∷ []) (word_passes p (SCRATCHPAD + i) is.digits is.sign) (rw is.closes refl)))
+    (all_both p (hex_word (SCRATCHPAD + i)) (0x29 ∷ []) (word_passes p (SCRATCHPAD + i) is.digits is.sign) (rw is.closes refl)))
 
 prefix_all : (p : ℕ → Bool) → Alphabet p → (space : Space) (indirect : Bool) → list_all p (prefix space indirect) ≡ true
 prefix_all p is Cpu false = rw is.at_sign refl
@@ -271,10 +271,10 @@ pub record OperandFits (held : GplOperand) : Type 0 where
   pub address : held.address < 65536
   pub index : IndexFits held.index
 
-pub word_value : (look : List ℕ → Option Value) (here n : ℕ) → n < 65536 → number look here (marked_word n) ≡ Ok n
+pub word_value : (look : List ℕ → Option Value) (here n : ℕ) → n < 65536 → number look here (hex_word n) ≡ Ok n
 word_value look here n lt = rw (word_tokens n lt) refl
 
-pub byte_value : (look : List ℕ → Option Value) (here n : ℕ) → n < 256 → number look here (marked_byte n) ≡ Ok n
+pub byte_value : (look : List ℕ → Option Value) (here n : ℕ) → n < 256 → number look here (hex_byte n) ≡ Ok n
 byte_value look here n lt = rw (byte_tokens n lt) refl
 
 held_back : (space : Space) (indirect : Bool) (address : ℕ) → address < 65536 →

@@ -1,7 +1,7 @@
 -- The listing of GROM as a GPL source.
 use Rattle.std.specs.Prelude.{ℕ, zero, suc, ◌+◌, ◌-◌, ◌*◌, ◌/◌, ◌%◌, ◌==◌, ◌&&◌, Bool, not, nat_le, min}
 use Rattle.std.specs.Prelude.{if◌then◌else◌, List, [], ◌∷◌, ◌++◌, length, map, slice_index, codes}
-use Rattle.source_defs.specs.Digits.{marked_word, marked_byte}
+use Rattle.source_defs.specs.Digits.{hex_word, hex_byte}
 use Rattle.source_defs.specs.ListedLines.{listing_line}
 use Rattle.gpl_defs.specs.declared.instruction.GplInstr.{GplInstr}
 use Rattle.gpl_defs.specs.declared.instruction.GplRead.{GplRead}
@@ -21,7 +21,7 @@ pub record Listed : Type 0 where
   pub size : ℕ
 
 abbrev pub byte_listed : List ℕ → ℕ → Listed
-byte_listed image at = record { text = codes "BYTE " ++ marked_byte (slice_index image at); size = 1 }
+byte_listed image at = record { text = codes "BYTE " ++ hex_byte (slice_index image at); size = 1 }
 
 abbrev pub instr_listed : GplInstr → ℕ → Listed
 instr_listed instr at = record { text = instr_text instr at; size = length (bytes_of instr) }
@@ -44,7 +44,7 @@ listed_at image at end = listed_by image at end (reading image at)
 -- Profile: a GROM is told by its first address, and the place in it by an offset.
 abbrev pub origin_texts : ℕ → List (List ℕ)
 origin_texts at =
-    (codes "GROM " ++ marked_word (at / GROM_SIZE * GROM_SIZE)) ∷ (codes "AORG " ++ marked_word (at % GROM_SIZE)) ∷ []
+    (codes "GROM " ++ hex_word (at / GROM_SIZE * GROM_SIZE)) ∷ (codes "AORG " ++ hex_word (at % GROM_SIZE)) ∷ []
 
 -- these stand again where a byte begins a GROM, unless it is the first of all
 abbrev pub origin_texts_at : ℕ → ℕ → List (List ℕ)

@@ -4,7 +4,7 @@
 -- address.
 use Rattle.std.specs.Prelude.{ℕ, ◌+◌, ◌%◌, Bool, true, false, List, [], ◌++◌, codes}
 use Rattle.std.specs.Prelude.{Option, Some, None}
-use Rattle.source_defs.specs.Digits.{marked_word, marked_byte}
+use Rattle.source_defs.specs.Digits.{hex_word, hex_byte}
 use Rattle.source_defs.specs.ListedLines.{two_texts, with_operands}
 use Rattle.gpl_defs.specs.declared.instruction.Space.{Space}
 use Rattle.gpl_defs.specs.declared.instruction.Space.TheVariants.{Cpu, Vdp}
@@ -43,17 +43,17 @@ shown_address Cpu indirect address = (address + SCRATCHPAD) % 0x10000
 
 abbrev pub index_text : Option ℕ → List ℕ
 index_text None = []
-index_text (Some index) = codes "(@" ++ (marked_word (SCRATCHPAD + index) ++ codes ")")
+index_text (Some index) = codes "(@" ++ (hex_word (SCRATCHPAD + index) ++ codes ")")
 
 unfoldable pub operand_text : GplOperand → List ℕ
 operand_text operand =
     prefix operand.space operand.indirect
-    ++ (marked_word (shown_address operand.space operand.indirect operand.address) ++ index_text operand.index)
+    ++ (hex_word (shown_address operand.space operand.indirect operand.address) ++ index_text operand.index)
 
 -- a value of words or of bytes
 abbrev pub value_text : Bool → ℕ → List ℕ
-value_text true value = marked_word value
-value_text false value = marked_byte value
+value_text true value = hex_word value
+value_text false value = hex_byte value
 
 abbrev pub source_text : Bool → GplSource → List ℕ
 source_text word (source.At operand) = operand_text operand
@@ -61,16 +61,16 @@ source_text word (source.Immediate value) = value_text word value
 
 abbrev pub length_text : MoveLength → List ℕ
 length_text (count.At operand) = operand_text operand
-length_text (count.Immediate number) = marked_word number
+length_text (count.Immediate number) = hex_word number
 
 abbrev pub target_text : MoveTarget → List ℕ
 target_text (target.At operand) = operand_text operand
-target_text (target.Register number) = codes "R@" ++ marked_byte number
+target_text (target.Register number) = codes "R@" ++ hex_byte number
 
 abbrev pub from_text : MoveSource → List ℕ
 from_text (from.At operand) = operand_text operand
-from_text (from.Grom address) = codes "G@" ++ marked_word address
-from_text (from.GromIndexed address index) = codes "G@" ++ (marked_word address ++ index_text (Some index))
+from_text (from.Grom address) = codes "G@" ++ hex_word address
+from_text (from.GromIndexed address index) = codes "G@" ++ (hex_word address ++ index_text (Some index))
 
 -- what an instruction is called
 abbrev pub mnemonic_of : GplInstr → Mnemonic
@@ -87,9 +87,9 @@ mnemonic_of (Move length target source) = named.Move
 -- Profile: MOVE has its length, then its target, then its source.
 abbrev pub operands_text : GplInstr → ℕ → Option (List ℕ)
 operands_text (Plain op) at = None
-operands_text (Byte op value) at = Some (marked_byte value)
-operands_text (Jump op to) at = Some (marked_word to)
-operands_text (Branch on offset) at = Some (marked_word (in_grom_of at offset))
+operands_text (Byte op value) at = Some (hex_byte value)
+operands_text (Jump op to) at = Some (hex_word to)
+operands_text (Branch on offset) at = Some (hex_word (in_grom_of at offset))
 operands_text (One op word operand) at = Some (operand_text operand)
 operands_text (Two op word dst src) at = Some (two_texts (operand_text dst) (source_text word src))
 operands_text (Move length to source) at =
@@ -103,4 +103,4 @@ instr_text instr at = with_operands (name_of (mnemonic_of instr)) (operands_text
 -- it is BYTE and the byte.
 abbrev pub read_text : GplRead → ℕ → List ℕ
 read_text (Instr instr next) at = instr_text instr at
-read_text (Refused code) at = codes "BYTE " ++ marked_byte code
+read_text (Refused code) at = codes "BYTE " ++ hex_byte code

@@ -8,7 +8,7 @@ use Rattle.asm_defs.specs.declared.causes.AsmCause.{AsmCause}
 use Rattle.asm_defs.specs.Locations.{Line}
 use Rattle.asm_defs.specs.FirstChecks.{check}
 use Rattle.asm_defs.specs.Modules.{module_behind, module_of, module_of_lines, module_of_source}
-use Rattle.asm_core.specs.Building.{HasTaken}
+use Rattle.asm_core.specs.Building.{HasAccepted}
 use Rattle.asm_core.specs.Finishing.{RefusesAt}
 use Rattle.asm_core.specs.declared.lines.AsmLines.{AsmLines}
 use Rattle.asm_core.specs.declared.error.AsmError.{AsmError}
@@ -57,7 +57,7 @@ module _ (more : List (List ℕ)) where
 -- the next line of the source
 module _ (left : List (List ℕ)) (text : List ℕ) (old : AsmLines) (has : HasLeft (text ∷ left) old) where
   -- it is taken
-  pub goes_on : (new : AsmLines) → HasTaken (has.texts ++ text ∷ []) new → HasLeft left new
+  pub goes_on : (new : AsmLines) → HasAccepted (has.texts ++ text ∷ []) new → HasLeft left new
   goes_on new taken = record {
     texts = has.texts ++ text ∷ [];
     taken = taken;
@@ -89,7 +89,7 @@ module _ (left : List (List ℕ)) (text : List ℕ) (old : AsmLines) (has : HasL
       refuses
 
 -- no line was taken
-pub none_taken : (builder : AsmLines) → HasTaken [] builder → HasLeft lines builder
+pub none_taken : (builder : AsmLines) → HasAccepted [] builder → HasLeft lines builder
 none_taken builder none = record { texts = []; taken = none; makes = ap module_of (sym source_lines); few = lit< tt }
 
 -- all were

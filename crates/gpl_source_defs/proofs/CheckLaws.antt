@@ -10,9 +10,9 @@ use Rattle.source_defs.proofs.RefusalLaws.{bound}
 use Rattle.gpl_source_defs.specs.declared.causes.GplCause.{GplCause}
 use Rattle.gpl_source_defs.specs.declared.causes.GplCause.TheVariants.{DuplicateLabel, GromFull, BadDirective}
 use Rattle.gpl_source_defs.specs.declared.location.Location.{Location}
-use Rattle.gpl_source_defs.specs.Statements.{Statement, Nothing, Instruction, Grom, Aorg, Equ, Bss, Data, Byte, Text, End, statement_at, size_said}
+use Rattle.gpl_source_defs.specs.Statements.{Statement, Nothing, Instruction, Grom, Aorg, Equ, Bss, Data, Byte, Text, End, statement_at, declared_size}
 use Rattle.gpl_source_defs.specs.Locations.{address_of, origin_of, behind, passes, IsInGrom}
-use Rattle.gpl_source_defs.specs.FirstChecks.{Checked, as_text, checked, is_bad, is_full, is_taken, said}
+use Rattle.gpl_source_defs.specs.FirstChecks.{Checked, as_text, checked, is_bad, is_full, is_taken, parsed}
 use Rattle.grom_defs.specs.declared.size.TheConstants.{GROM_SIZE}
 
 let_through : {A : Type 0} (against : Bool) (cause : GplCause) (value found : A) → unless against cause value ≡ Ok found → (against ≡ false) × (value ≡ found)
@@ -21,7 +21,7 @@ let_through false cause value found e = (refl, cc e)
 
 -- what is known of a line that was let through
 pub record IsLetThrough (known : Names) (here : Location) (text : List ℕ) (found : Checked) : Type 0 where
-  pub said : said known here text ≡ Ok found.statement
+  pub parsed : parsed known here text ≡ Ok found.statement
   pub fresh : is_taken known found.label ≡ false
   pub fits : is_full here found.statement ≡ false
   pub fine : is_bad found.label found.statement ≡ false
@@ -39,7 +39,7 @@ is_let_through known here text found e =
     let label : b.0 ≡ found.label = ap (λ (line : Checked). line.label) f.1 in
     let statement : c.0 ≡ found.statement = d'.1 ∙ ap (λ (line : Checked). line.statement) f.1 in
     record {
-      said = ap (λ answer. answer >>= λ parts. statement_at (look_up known) (address_of here) text parts.operation parts.operands) a.1 ∙ (c.1 ∙ ap Ok statement);
+      parsed = ap (λ answer. answer >>= λ parts. statement_at (look_up known) (address_of here) text parts.operation parts.operands) a.1 ∙ (c.1 ∙ ap Ok statement);
       fresh = subst (λ label. is_taken known label ≡ false) (b'.1 ∙ label) b'.0;
       fits = subst (λ statement. is_full here statement ≡ false) statement d'.0;
       fine = subst (λ (line : Checked). is_bad line.label line.statement ≡ false) f.1 f.0;
@@ -72,7 +72,7 @@ at_offset here offset is fine = record {
 }
 
 pub leads : (here : Location) (label : Option (List ℕ)) (statement : Statement) → IsInGrom here → IfSome (origin_of here statement) (λ origin. origin.grom ≤ 65535)
-    → is_full here statement ≡ false → is_bad label statement ≡ false → IsInGrom (behind (set_or (origin_of here statement) here) (size_said statement))
+    → is_full here statement ≡ false → is_bad label statement ≡ false → IsInGrom (behind (set_or (origin_of here statement) here) (declared_size statement))
 leads here None (Grom address) is le fits fine = at_start address le fine
 leads here (Some name) (Grom address) is le fits fine = at_start address le fine
 leads here None (Aorg offset) is le fits fine = at_offset here offset is fine

@@ -17,7 +17,7 @@ use Rattle.gpl_source_defs.specs.Values.{number, numbers, byte_of, bytes_of, ind
 use Rattle.gpl_source_defs.specs.Skeletons.{Source, At, Immediate, Route, Within, ToMemory, ToRegisters, Skeleton, Plain, Jump, Branch, One, Two, Move}
 use Rattle.gpl_source_defs.specs.Skeletons.{source_by_zero, length_by_zero, move_by_zero, instr_by_zero, size_of}
 use Rattle.gpl_source_defs.specs.Skeletons as skeletons
-use Rattle.gpl_source_defs.specs.Statements.{Statement, Nothing, Instruction, Grom, Aorg, Equ, Bss, Data, Text, End, size_said}
+use Rattle.gpl_source_defs.specs.Statements.{Statement, Nothing, Instruction, Grom, Aorg, Equ, Bss, Data, Text, End, declared_size}
 use Rattle.gpl_source_defs.specs.Statements as statements
 use Rattle.gpl_source_defs.specs.Locations.{address_of, branch_offset}
 use Rattle.gpl_source_defs.specs.SecondChecks.{Outcome, Bytes, Entry, immediate_of, register_of, value, source_value, length_value, moved, instruction, outcome}
@@ -148,7 +148,7 @@ module _ (look : List ℕ → Option Value) (at : Location) where
       let same : Bytes [] ≡ found = cc e in
       omega (arith, ap (λ outcome. length (bytes_in outcome)) same)
 
-  pub outcome_size : (statement : Statement) (found : Outcome) → outcome look at statement ≡ Ok found → length (bytes_in found) ≤ size_said statement
+  pub outcome_size : (statement : Statement) (found : Outcome) → outcome look at statement ≡ Ok found → length (bytes_in found) ≤ declared_size statement
   unfolding outcome
   outcome_size Nothing found e = none_placed found _ e
   outcome_size (Instruction skeleton) found e =

@@ -17,7 +17,7 @@ use Rattle.gpl_source_defs.specs.declared.causes.GplCause.{GplCause}
 use Rattle.gpl_source_defs.specs.declared.causes.GplCause.TheVariants as cause
 use Rattle.gpl_source_defs.specs.declared.causes.GplCause.TheVariants.{DuplicateLabel, GromFull, BadDirective}
 use Rattle.gpl_source_defs.specs.declared.location.Location.{Location}
-use Rattle.gpl_source_defs.specs.Statements.{Statement, Grom, Aorg, Equ, End, statement_at, size_said}
+use Rattle.gpl_source_defs.specs.Statements.{Statement, Grom, Aorg, Equ, End, statement_at, declared_size}
 use Rattle.gpl_source_defs.specs.Locations.{Line, location, address_of, origin_of, passes}
 use Rattle.grom_defs.specs.declared.size.TheConstants.{GROM_SIZE}
 
@@ -51,7 +51,7 @@ label_entry (Some name) number = (name, Absolute number) ∷ []
 
 -- Profile: no line leads past the last address of its GROM.
 abbrev pub is_full : Location → Statement → Bool
-is_full here statement = passes here (size_said statement)
+is_full here statement = passes here (declared_size statement)
 
 -- Profile: EQU has a label, a GROM starts at a multiple of >2000, and AORG sets one of its offsets.
 abbrev pub is_bad : Option (List ℕ) → Statement → Bool
@@ -70,8 +70,8 @@ pub record Checked : Type 0 where
   pub statement : Statement
 
 -- what a line says of which the names before and the location are known
-abbrev pub said : Names → Location → List ℕ → Result Statement GplCause
-said known here text = do
+abbrev pub parsed : Names → Location → List ℕ → Result Statement GplCause
+parsed known here text = do
   found ← as_text (fields text)
   statement_at (look_up known) (address_of here) text found.operation found.operands
 
@@ -90,7 +90,7 @@ line_of here number line =
       number = number;
       origin = origin_of here line.statement;
       gap = 0;
-      size = size_said line.statement;
+      size = declared_size line.statement;
       names = label_entry line.label (label_value here line.statement);
       statement = line.statement;
       last = is_end line.statement;

@@ -5,6 +5,6 @@ use Rattle.gpl_source_defs.specs.declared.causes.GplCause.{GplCause}
 use Rattle.gpl_source_defs.specs.declared.causes.GplCause.TheVariants.{Expr}
 
 -- a refusal that more names may lift
-abbrev pub is_open : GplCause → Bool
-is_open (Expr error) = expressions.is_open error
-is_open _ = false
+abbrev pub is_unresolved : GplCause → Bool
+is_unresolved (Expr error) = expressions.is_unresolved error
+is_unresolved _ = false

@@ -5,7 +5,7 @@ use Rattle.source_defs.specs.Refusals.{◌>>=◌}
 use Rattle.source_defs.specs.declared.causes.OperandError.{OperandError}
 use Rattle.source_defs.specs.declared.causes.OperandError.TheVariants.{Count, Form as WrongForm}
 use Rattle.source_defs.specs.Expression.{Value}
-use Rattle.source_defs.specs.OperandLists.{written, one_of}
+use Rattle.source_defs.specs.OperandLists.{written, one_operand}
 use Rattle.source_defs.specs.Operands.{operand_texts}
 use Rattle.gpl_defs.specs.declared.instruction.GplOperand.{GplOperand}
 use Rattle.gpl_defs.specs.declared.instruction.GplInstr.{GplInstr}
@@ -69,7 +69,7 @@ written_form text = do
 -- the form of the one operand
 abbrev pub one_form : List (List ℕ) → Result Form GplCause
 one_form texts = do
-  text ← as_operand (one_of texts)
+  text ← as_operand (one_operand texts)
   Ok (form_of text)
 
 -- the forms of two operands, and of three

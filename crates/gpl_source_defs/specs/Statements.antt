@@ -6,7 +6,7 @@ use Rattle.source_defs.specs.Refusals.{◌>>=◌}
 use Rattle.source_defs.specs.Lines.{part}
 use Rattle.source_defs.specs.Expression.{Value, characters}
 use Rattle.source_defs.specs.Operands.{operand_texts}
-use Rattle.source_defs.specs.OperandLists.{one_of, at_most_one_of, some_of}
+use Rattle.source_defs.specs.OperandLists.{one_operand, optional_operand, operand_list}
 use Rattle.source_defs.specs.QuotedTexts.{quoted}
 use Rattle.gpl_source_defs.specs.declared.causes.GplCause.{GplCause}
 use Rattle.gpl_source_defs.specs.declared.causes.GplCause.TheVariants.{UnknownOperation}
@@ -36,7 +36,7 @@ pub data Statement : Type 0 where
 module _ (look : List ℕ → Option Value) (here : ℕ) where
   abbrev pub number_of_one : List (List ℕ) → Result ℕ GplCause
   number_of_one texts = do
-    text ← as_operand (one_of texts)
+    text ← as_operand (one_operand texts)
     number look here text
 
   -- a directive with its operands
@@ -45,10 +45,10 @@ module _ (look : List ℕ → Option Value) (here : ℕ) where
   directive_statement named.Aorg texts = number_of_one texts >>= λ number. Ok (Aorg number)
   directive_statement named.Equ texts = number_of_one texts >>= λ number. Ok (Equ number)
   directive_statement named.Bss texts = number_of_one texts >>= λ number. Ok (Bss number)
-  directive_statement named.Data texts = as_operand (some_of texts) >>= λ texts. Ok (Data texts)
-  directive_statement named.Byte texts = as_operand (some_of texts) >>= λ texts. Ok (Byte texts)
-  directive_statement named.Text texts = as_operand (one_of texts >>= quoted) >>= λ text. Ok (Text text)
-  directive_statement named.End texts = as_operand (at_most_one_of texts) >>= λ text. Ok (End text)
+  directive_statement named.Data texts = as_operand (operand_list texts) >>= λ texts. Ok (Data texts)
+  directive_statement named.Byte texts = as_operand (operand_list texts) >>= λ texts. Ok (Byte texts)
+  directive_statement named.Text texts = as_operand (one_operand texts >>= quoted) >>= λ text. Ok (Text text)
+  directive_statement named.End texts = as_operand (optional_operand texts) >>= λ text. Ok (End text)
 
   abbrev pub instruction_statement : Option Mnemonic → List ℕ → Result Statement GplCause
   instruction_statement (Some found) field = skeleton look here found field >>= λ skeleton. Ok (Instruction skeleton)
@@ -69,10 +69,10 @@ module _ (look : List ℕ → Option Value) (here : ℕ) where
 
 -- How many bytes a line takes. Profile: DATA needs no even place.
 -- Editor/Assembler manual, "Initialize Word", "Initialize Byte", "Initialize Text", "Block Starting with Symbol".
-abbrev pub size_said : Statement → ℕ
-size_said (Instruction skeleton) = size_of skeleton
-size_said (Bss size) = size
-size_said (Data texts) = 2 * length texts
-size_said (Byte texts) = length texts
-size_said (Text quoted) = length (characters quoted)
-size_said _ = 0
+abbrev pub declared_size : Statement → ℕ
+declared_size (Instruction skeleton) = size_of skeleton
+declared_size (Bss size) = size
+declared_size (Data texts) = 2 * length texts
+declared_size (Byte texts) = length texts
+declared_size (Text quoted) = length (characters quoted)
+declared_size _ = 0

@@ -9,11 +9,11 @@ use Rattle.instruction_defs.specs.declared.causes.FormError.{FormError}
 use Rattle.instruction_defs.specs.declared.causes.FormError.TheVariants.{UnknownOperation, OperandCount, BadOperand}
 use Rattle.instruction_defs.specs.declared.mnemonic.Mnemonic.{Mnemonic}
 use Rattle.instruction_defs.specs.declared.mnemonic.Mnemonic.TheVariants.{Of, Fixed}
-use Rattle.instruction_defs.specs.declared.slot.Slot.{Slot}
-use Rattle.instruction_defs.specs.declared.slot.Slot.TheVariants.{General, Register, Count, Immediate}
-use Rattle.instruction_defs.specs.declared.slot.Slot.TheVariants.{Target, Displacement}
+use Rattle.instruction_defs.specs.declared.operand_kind.OperandKind.{OperandKind}
+use Rattle.instruction_defs.specs.declared.operand_kind.OperandKind.TheVariants.{General, Register, Count, Immediate}
+use Rattle.instruction_defs.specs.declared.operand_kind.OperandKind.TheVariants.{Target, Displacement}
 use Rattle.instruction_defs.specs.Operations.{mnemonic}
-use Rattle.instruction_defs.specs.Operands.{slots_of}
+use Rattle.instruction_defs.specs.Operands.{kinds_of}
 use Rattle.instruction_defs.specs.Forms.{Form, Plain, Indirect, Increment, Symbolic, Indexed, form_of, is_star, is_at}
 
 -- What the first checks leave of a line: a word that has a name of its own, or an operation with the forms of its
@@ -26,46 +26,46 @@ pub data Skeleton : Type 0 where
 abbrev pub is_mode_sign : ℕ → Bool
 is_mode_sign byte = is_star byte || is_at byte
 
-abbrev pub alone : List ℕ → Result Form FormError
-alone text = if is_mode_sign (slice_index text 0) then Err BadOperand else Ok (Plain text)
+abbrev pub form_without_mode : List ℕ → Result Form FormError
+form_without_mode text = if is_mode_sign (slice_index text 0) then Err BadOperand else Ok (Plain text)
 
-abbrev pub form_by : Slot → List ℕ → Result Form FormError
+abbrev pub form_by : OperandKind → List ℕ → Result Form FormError
 form_by General text = Ok (form_of text)
-form_by Register text = alone text
-form_by Count text = alone text
-form_by Immediate text = alone text
-form_by Target text = alone text
-form_by Displacement text = alone text
+form_by Register text = form_without_mode text
+form_by Count text = form_without_mode text
+form_by Immediate text = form_without_mode text
+form_by Target text = form_without_mode text
+form_by Displacement text = form_without_mode text
 
 -- Profile: an empty operand is refused for its form.
-abbrev pub form_in : Slot → List ℕ → Result Form FormError
-form_in slot [] = Err BadOperand
-form_in slot (byte ∷ bytes) = form_by slot (byte ∷ bytes)
+abbrev pub form_in : OperandKind → List ℕ → Result Form FormError
+form_in kind [] = Err BadOperand
+form_in kind (byte ∷ bytes) = form_by kind (byte ∷ bytes)
 
--- the forms of as many operands as there are slots, from the left
-abbrev pub forms_in : List Slot → List (List ℕ) → Result (List Form) FormError
+-- the forms of the operands of these kinds, one form a kind, from the left
+abbrev pub forms_in : List OperandKind → List (List ℕ) → Result (List Form) FormError
 forms_in [] [] = Ok []
 forms_in [] (text ∷ texts) = Err OperandCount
-forms_in (slot ∷ slots) [] = Err OperandCount
-forms_in (slot ∷ slots) (text ∷ texts) = do
-  form ← form_in slot text
-  forms ← forms_in slots texts
+forms_in (kind ∷ kinds) [] = Err OperandCount
+forms_in (kind ∷ kinds) (text ∷ texts) = do
+  form ← form_in kind text
+  forms ← forms_in kinds texts
   Ok (form ∷ forms)
 
-abbrev pub operand_forms : List Slot → List (List ℕ) → Result (List Form) FormError
-operand_forms slots texts = if length texts == length slots then forms_in slots texts else Err OperandCount
+abbrev pub operand_forms : List OperandKind → List (List ℕ) → Result (List Form) FormError
+operand_forms kinds texts = if length texts == length kinds then forms_in kinds texts else Err OperandCount
 
 -- the forms of the operands of a field
 -- Profile: an operation without operands ignores the rest of its line.
-abbrev pub forms_of : List Slot → List ℕ → Result (List Form) FormError
+abbrev pub forms_of : List OperandKind → List ℕ → Result (List Form) FormError
 forms_of [] field = Ok []
-forms_of (slot ∷ slots) field = operand_forms (slot ∷ slots) (operand_texts field)
+forms_of (kind ∷ kinds) field = operand_forms (kind ∷ kinds) (operand_texts field)
 
 abbrev pub skeleton_of : Option Mnemonic → List ℕ → Result Skeleton FormError
 skeleton_of None field = Err UnknownOperation
 skeleton_of (Some (Fixed word)) field = Ok (Word word)
 skeleton_of (Some (Of operation)) field = do
-  forms ← forms_of (slots_of operation) field
+  forms ← forms_of (kinds_of operation) field
   Ok (Instruction operation forms)
 
 -- The first checks, of an operation field and an operand field.
@@ -80,7 +80,7 @@ form_words (Increment text) = 0
 form_words (Symbolic text) = 1
 form_words (Indexed text index) = 1
 
-abbrev pub following : Slot → Form → ℕ
+abbrev pub following : OperandKind → Form → ℕ
 following General form = form_words form
 following Register form = 0
 following Count form = 0
@@ -88,15 +88,15 @@ following Immediate form = 1
 following Target form = 0
 following Displacement form = 0
 
-abbrev pub all_following : List Slot → List Form → ℕ
+abbrev pub all_following : List OperandKind → List Form → ℕ
 all_following [] forms = 0
-all_following (slot ∷ slots) [] = 0
-all_following (slot ∷ slots) (form ∷ forms) = following slot form + all_following slots forms
+all_following (kind ∷ kinds) [] = 0
+all_following (kind ∷ kinds) (form ∷ forms) = following kind form + all_following kinds forms
 
 -- how many bytes the words of a line take
 abbrev pub size_of : Skeleton → ℕ
 size_of (Word word) = 2
-size_of (Instruction operation forms) = 2 * (1 + all_following (slots_of operation) forms)
+size_of (Instruction operation forms) = 2 * (1 + all_following (kinds_of operation) forms)
 
 -- the size of an instruction line, or why the first checks refuse it
 abbrev pub line_size : List ℕ → List ℕ → Result ℕ FormError

@@ -7,10 +7,10 @@ use Rattle.instruction_defs.specs.declared.causes.FormError.TheVariants.{JumpToo
 use Rattle.instruction_defs.specs.declared.causes.FormError.TheVariants.{Expr, Memory}
 
 -- a refusal that more names may lift
-abbrev pub is_open : FormError → Bool
-is_open (Expr cause) = expressions.is_open cause
-is_open UnknownOperation = false
-is_open OperandCount = false
-is_open BadOperand = false
-is_open JumpTooFar = false
-is_open Memory = false
+abbrev pub is_unresolved : FormError → Bool
+is_unresolved (Expr cause) = expressions.is_unresolved cause
+is_unresolved UnknownOperation = false
+is_unresolved OperandCount = false
+is_unresolved BadOperand = false
+is_unresolved JumpTooFar = false
+is_unresolved Memory = false

@@ -13,9 +13,9 @@ use Rattle.tms_defs.specs.declared.instruction.Operation.{Operation}
 use Rattle.tms_defs.specs.declared.instruction.Operation.TheVariants as operation
 use Rattle.tms_defs.specs.declared.instruction.Instr.{Instr}
 use Rattle.tms_defs.specs.declared.instruction.Instr.TheVariants.{Two, Reg, Shift, One, Jump, Imm, Bare}
-use Rattle.instruction_defs.specs.declared.slot.Slot.{Slot}
-use Rattle.instruction_defs.specs.declared.slot.Slot.TheVariants.{General, Register, Count, Immediate}
-use Rattle.instruction_defs.specs.declared.slot.Slot.TheVariants.{Target, Displacement}
+use Rattle.instruction_defs.specs.declared.operand_kind.OperandKind.{OperandKind}
+use Rattle.instruction_defs.specs.declared.operand_kind.OperandKind.TheVariants.{General, Register, Count, Immediate}
+use Rattle.instruction_defs.specs.declared.operand_kind.OperandKind.TheVariants.{Target, Displacement}
 use Rattle.count_defs.specs.Counts.{one_if}
 
 -- The operation on a register takes a word that follows.
@@ -48,27 +48,27 @@ words_of (Bare op) = 1 + one_if (has_value op)
 
 -- The operands of an operation, in the order of the operand field.
 -- Editor/Assembler manual, "Assembly Language Instructions".
-abbrev pub reg_slots : RegOp → List Slot
-reg_slots COC = General ∷ Register ∷ []
-reg_slots CZC = General ∷ Register ∷ []
-reg_slots XOR = General ∷ Register ∷ []
-reg_slots XOP = General ∷ Count ∷ []
-reg_slots LDCR = General ∷ Count ∷ []
-reg_slots STCR = General ∷ Count ∷ []
-reg_slots MPY = General ∷ Register ∷ []
-reg_slots DIV = General ∷ Register ∷ []
+abbrev pub reg_kinds : RegOp → List OperandKind
+reg_kinds COC = General ∷ Register ∷ []
+reg_kinds CZC = General ∷ Register ∷ []
+reg_kinds XOR = General ∷ Register ∷ []
+reg_kinds XOP = General ∷ Count ∷ []
+reg_kinds LDCR = General ∷ Count ∷ []
+reg_kinds STCR = General ∷ Count ∷ []
+reg_kinds MPY = General ∷ Register ∷ []
+reg_kinds DIV = General ∷ Register ∷ []
 
-abbrev pub jump_slots : JumpOp → List Slot
-jump_slots SBO = Displacement ∷ []
-jump_slots SBZ = Displacement ∷ []
-jump_slots TB = Displacement ∷ []
-jump_slots op = Target ∷ []
+abbrev pub jump_kinds : JumpOp → List OperandKind
+jump_kinds SBO = Displacement ∷ []
+jump_kinds SBZ = Displacement ∷ []
+jump_kinds TB = Displacement ∷ []
+jump_kinds op = Target ∷ []
 
-abbrev pub slots_of : Operation → List Slot
-slots_of (operation.Two op byte) = General ∷ General ∷ []
-slots_of (operation.Reg op) = reg_slots op
-slots_of (operation.Shift op) = Register ∷ Count ∷ []
-slots_of (operation.One op) = General ∷ []
-slots_of (operation.Jump op) = jump_slots op
-slots_of (operation.Imm op) = if has_immediate op then Register ∷ Immediate ∷ [] else Register ∷ []
-slots_of (operation.Bare op) = if has_value op then Immediate ∷ [] else []
+abbrev pub kinds_of : Operation → List OperandKind
+kinds_of (operation.Two op byte) = General ∷ General ∷ []
+kinds_of (operation.Reg op) = reg_kinds op
+kinds_of (operation.Shift op) = Register ∷ Count ∷ []
+kinds_of (operation.One op) = General ∷ []
+kinds_of (operation.Jump op) = jump_kinds op
+kinds_of (operation.Imm op) = if has_immediate op then Register ∷ Immediate ∷ [] else Register ∷ []
+kinds_of (operation.Bare op) = if has_value op then Immediate ∷ [] else []

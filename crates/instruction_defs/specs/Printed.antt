@@ -5,7 +5,7 @@
 use Rattle.std.specs.Prelude.{ℕ, ℤ, pos, negsuc, suc, ◌+◌, ◌==◌, nat_le, if◌then◌else◌, List, ◌∷◌, ◌++◌, length}
 use Rattle.std.specs.Prelude.{slice_index, codes, Option, Some, None}
 use Rattle.std.specs.Fmt.{decimal}
-use Rattle.source_defs.specs.Digits.{marked_word}
+use Rattle.source_defs.specs.Digits.{hex_word}
 pub use Rattle.source_defs.specs.ListedLines.{two_texts, with_operands}
 use Rattle.tms_defs.specs.Words.{plus}
 use Rattle.tms_defs.specs.Instructions.{instr_at, operation_of}
@@ -32,8 +32,8 @@ signed_text (negsuc number) = 0x2D ∷ decimal (suc number)
 -- Editor/Assembler manual, "Addressing Modes".
 abbrev pub symbolic_text : ℕ → ℕ → List ℕ
 symbolic_text address register =
-    if register == 0 then 0x40 ∷ marked_word address
-    else 0x40 ∷ (marked_word address ++ (0x28 ∷ (register_text register ++ codes ")")))
+    if register == 0 then 0x40 ∷ hex_word address
+    else 0x40 ∷ (hex_word address ++ (0x28 ∷ (register_text register ++ codes ")")))
 
 -- An operand whose address, where it has one, is a word. Editor/Assembler manual, "Addressing Modes".
 unfoldable pub operand_text : Place → ℕ → List ℕ
@@ -55,7 +55,7 @@ abbrev pub target_text : JumpOp → ℕ → ℤ → List ℕ
 target_text SBO next disp = signed_text disp
 target_text SBZ next disp = signed_text disp
 target_text TB next disp = signed_text disp
-target_text op next disp = marked_word (jump_target next disp)
+target_text op next disp = hex_word (jump_target next disp)
 
 -- The operands of an instruction at an address, with the words from its first on; the words that follow stand in the
 -- order of the operands. None where it has no operand.
@@ -69,9 +69,9 @@ operands_text (Shift op count number) at words = Some (two_texts (register_text 
 operands_text (One op place) at words = Some (operand_text place (slice_index words 1))
 operands_text (Jump op disp) at words = Some (target_text op (plus at 2) disp)
 operands_text (Imm op number) at words =
-    Some (if has_immediate op then two_texts (register_text number) (marked_word (slice_index words 1))
+    Some (if has_immediate op then two_texts (register_text number) (hex_word (slice_index words 1))
     else register_text number)
-operands_text (Bare op) at words = if has_value op then Some (marked_word (slice_index words 1)) else None
+operands_text (Bare op) at words = if has_value op then Some (hex_word (slice_index words 1)) else None
 
 -- an instruction at an address, with the words from its first on
 abbrev pub instr_text : Instr → ℕ → List ℕ → List ℕ
@@ -84,7 +84,7 @@ pub record Printed : Type 0 where
 
 -- a word that is no instruction, or not all of one
 abbrev pub printed_word : ℕ → Printed
-printed_word word = record { text = codes "DATA " ++ marked_word word; count = 1 }
+printed_word word = record { text = codes "DATA " ++ hex_word word; count = 1 }
 
 abbrev pub printed_where : Option Instr → ℕ → List ℕ → Printed
 printed_where None at words = printed_word (slice_index words 0)

@@ -15,10 +15,10 @@ use Rattle.tms_defs.specs.declared.instruction.Instr.{Instr}
 use Rattle.tms_defs.specs.declared.instruction.Instr.TheVariants as instr
 use Rattle.instruction_defs.specs.declared.causes.FormError.{FormError}
 use Rattle.instruction_defs.specs.declared.causes.FormError.TheVariants.{BadOperand, JumpTooFar, Expr}
-use Rattle.instruction_defs.specs.declared.slot.Slot.{Slot}
-use Rattle.instruction_defs.specs.declared.slot.Slot.TheVariants.{General, Register, Count, Immediate}
-use Rattle.instruction_defs.specs.declared.slot.Slot.TheVariants.{Target, Displacement}
-use Rattle.instruction_defs.specs.Operands.{slots_of}
+use Rattle.instruction_defs.specs.declared.operand_kind.OperandKind.{OperandKind}
+use Rattle.instruction_defs.specs.declared.operand_kind.OperandKind.TheVariants.{General, Register, Count, Immediate}
+use Rattle.instruction_defs.specs.declared.operand_kind.OperandKind.TheVariants.{Target, Displacement}
+use Rattle.instruction_defs.specs.Operands.{kinds_of}
 use Rattle.instruction_defs.specs.Forms.{Form, Plain, Indirect, Increment, Symbolic, Indexed}
 use Rattle.instruction_defs.specs.FirstChecks.{Skeleton, Word, Instruction}
 
@@ -83,7 +83,7 @@ module _ (look : List ℕ → Option Value) (here : Value) where
     register ← number_of index
     Ok (AtIndexed address register)
 
-  abbrev pub valued : Slot → Form → Result Operand FormError
+  abbrev pub valued : OperandKind → Form → Result Operand FormError
   valued General form = placed form
   valued Register form = do
     number ← number_of (text_in form)
@@ -102,12 +102,12 @@ module _ (look : List ℕ → Option Value) (here : Value) where
     target ← as_form_error (target_in here value)
     Ok (To target)
 
-  abbrev pub all_valued : List Slot → List Form → Result (List Operand) FormError
+  abbrev pub all_valued : List OperandKind → List Form → Result (List Operand) FormError
   all_valued [] forms = Ok []
-  all_valued (slot ∷ slots) [] = Ok []
-  all_valued (slot ∷ slots) (form ∷ forms) = do
-    operand ← valued slot form
-    operands ← all_valued slots forms
+  all_valued (kind ∷ kinds) [] = Ok []
+  all_valued (kind ∷ kinds) (form ∷ forms) = do
+    operand ← valued kind form
+    operands ← all_valued kinds forms
     Ok (operand ∷ operands)
 
 -- a value's number, without its kind
@@ -142,30 +142,30 @@ is_displacement number = nat_lt number 128 || nat_le 0xFF80 number
 
 -- An operand whose values are in their ranges: a place, with the word that follows, where one does; a register or a
 -- count; a displacement; or a word that follows.
-pub data Ready : Type 0 where
-  Located : Place → Option Value → Ready
-  Counted : ℕ → Ready
-  Displaced : ℤ → Ready
-  Followed : Value → Ready
+pub data EncodedOperand : Type 0 where
+  Located : Place → Option Value → EncodedOperand
+  Counted : ℕ → EncodedOperand
+  Displaced : ℤ → EncodedOperand
+  Followed : Value → EncodedOperand
 
-abbrev pub by_register : ℕ → ℕ → Result Ready FormError
+abbrev pub by_register : ℕ → ℕ → Result EncodedOperand FormError
 by_register mode number = do
   register ← below_sixteen number
   Ok (Located (record { mode = mode; reg = register }) None)
 
-abbrev pub displaced : Option ℤ → Result Ready FormError
+abbrev pub displaced : Option ℤ → Result EncodedOperand FormError
 displaced (Some disp) = Ok (Displaced disp)
 displaced None = Err JumpTooFar
 
-abbrev pub indexed : Value → ℕ → Result Ready FormError
+abbrev pub indexed : Value → ℕ → Result EncodedOperand FormError
 indexed value number =
     if is_index number then Ok (Located (record { mode = 2; reg = number }) (Some value)) else Err BadOperand
 
-abbrev pub bit : ℕ → Result Ready FormError
+abbrev pub bit : ℕ → Result EncodedOperand FormError
 bit number = if is_displacement number then Ok (Displaced (cast_signed w16 number)) else Err BadOperand
 
 -- An operand of the line at a place, held against its range.
-abbrev pub ranged : Value → Operand → Result Ready FormError
+abbrev pub ranged : Value → Operand → Result EncodedOperand FormError
 ranged here (InRegister number) = by_register 0 number
 ranged here (ByRegister number) = by_register 1 number
 ranged here (AutoIncrement number) = by_register 3 number
@@ -178,7 +178,7 @@ ranged here (Bit number) = bit number
 ranged here (To target) = displaced (displacement_to (place_number here + 2) target)
 ranged here (Following value) = Ok (Followed value)
 
-abbrev pub all_ranged : Value → List Operand → Result (List Ready) FormError
+abbrev pub all_ranged : Value → List Operand → Result (List EncodedOperand) FormError
 all_ranged here [] = Ok []
 all_ranged here (operand ∷ operands) = do
   ready ← ranged here operand
@@ -186,35 +186,35 @@ all_ranged here (operand ∷ operands) = do
   Ok (ready ∷ readies)
 
 -- the parts of an instruction, by its operands in their order
-abbrev pub place_in : Ready → Place
+abbrev pub place_in : EncodedOperand → Place
 place_in (Located place following) = place
 place_in (Counted number) = record { mode = 0; reg = 0 }
 place_in (Displaced disp) = record { mode = 0; reg = 0 }
 place_in (Followed value) = record { mode = 0; reg = 0 }
 
-abbrev pub count_in : Ready → ℕ
+abbrev pub count_in : EncodedOperand → ℕ
 count_in (Located place following) = 0
 count_in (Counted number) = number
 count_in (Displaced disp) = 0
 count_in (Followed value) = 0
 
-abbrev pub displacement_in : Ready → ℤ
+abbrev pub displacement_in : EncodedOperand → ℤ
 displacement_in (Located place following) = pos 0
 displacement_in (Counted number) = pos 0
 displacement_in (Displaced disp) = disp
 displacement_in (Followed value) = pos 0
 
-abbrev pub first_of : List Ready → Ready
+abbrev pub first_of : List EncodedOperand → EncodedOperand
 first_of [] = Counted 0
 first_of (ready ∷ readies) = ready
 
-abbrev pub second_of : List Ready → Ready
+abbrev pub second_of : List EncodedOperand → EncodedOperand
 second_of [] = Counted 0
 second_of (ready ∷ readies) = first_of readies
 
 -- Editor/Assembler manual, "Assembly Language Instructions": a source stands before its destination, and a register
 -- before a count.
-abbrev pub instruction_of : Operation → List Ready → Instr
+abbrev pub instruction_of : Operation → List EncodedOperand → Instr
 instruction_of (Two op byte) readies = instr.Two op byte (place_in (second_of readies)) (place_in (first_of readies))
 instruction_of (Reg op) readies = instr.Reg op (count_in (second_of readies)) (place_in (first_of readies))
 instruction_of (Shift op) readies = instr.Shift op (count_in (second_of readies)) (count_in (first_of readies))
@@ -224,14 +224,14 @@ instruction_of (Imm op) readies = instr.Imm op (count_in (first_of readies))
 instruction_of (Bare op) readies = instr.Bare op
 
 -- the words that follow, in the order of the operands
-abbrev pub following_in : Ready → List Value
+abbrev pub following_in : EncodedOperand → List Value
 following_in (Located place None) = []
 following_in (Located place (Some value)) = value ∷ []
 following_in (Counted number) = []
 following_in (Displaced disp) = []
 following_in (Followed value) = value ∷ []
 
-abbrev pub all_following : List Ready → List Value
+abbrev pub all_following : List EncodedOperand → List Value
 all_following [] = []
 all_following (ready ∷ readies) = following_in ready ++ all_following readies
 
@@ -239,6 +239,6 @@ all_following (ready ∷ readies) = following_in ready ++ all_following readies
 unfoldable pub second_checks : (List ℕ → Option Value) → Value → Skeleton → Result (List Value) FormError
 second_checks look here (Word word) = Ok (Absolute word ∷ [])
 second_checks look here (Instruction operation forms) = do
-  operands ← all_valued look here (slots_of operation) forms
+  operands ← all_valued look here (kinds_of operation) forms
   readies ← all_ranged here operands
   Ok (Absolute (word_of (instruction_of operation readies)) ∷ all_following readies)

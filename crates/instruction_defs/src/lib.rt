@@ -4,8 +4,8 @@
 
 mod causes;
 mod mnemonic;
-mod slot;
+mod operand_kind;
 
 pub use crate::causes::FormError;
 pub use crate::mnemonic::Mnemonic;
-pub use crate::slot::Slot;
+pub use crate::operand_kind::OperandKind;

@@ -6,13 +6,13 @@ use Rattle.console_defs.specs.Machine.{MachineState}
 use Rattle.interp_defs.specs.Match.{IsFetched}
 use Rattle.sim_view.specs.View.{View, view, view_of}
 use Rattle.sim_view.specs.Exits.{Exits}
-use Rattle.sim_operands.specs.Subroutines.{grom_at, sought}
+use Rattle.sim_operands.specs.Subroutines.{grom_at, after_seek}
 
 fetched_at : (v : View) → IsFetched (grom_at v.grom.image v.r.r6)
 fetched_at v = ap (slice_index v.grom.image) (sym (previous-next v.r.r6))
 
 -- the byte that was sought has been fetched ahead
-pub sought_is_fetched : (x y : MachineState) (before after : ℕ) → Exits x y before after (sought (view x)) →
+pub sought_is_fetched : (x y : MachineState) (before after : ℕ) → Exits x y before after (after_seek (view x)) →
     IsFetched y.cpu.memory.grom
 unfolding view_of
 sought_is_fetched x y before after e = subst IsFetched (sym (ap (λ (v : View). v.grom) e.shows)) (fetched_at (view x))

@@ -13,7 +13,7 @@ use Rattle.asm_defs.specs.declared.causes.AsmCause.{AsmCause}
 use Rattle.asm_defs.specs.declared.location.Location.{Location}
 use Rattle.asm_defs.specs.Statements.{Statement, as_text, statement_in, Nothing, Instruction, Aorg, Equ, Data}
 use Rattle.asm_defs.specs.Locations.{Line, behind, location}
-use Rattle.asm_defs.specs.FirstChecks.{Checked, Said, any_known, label_in, moved, checked, check, known_of}
+use Rattle.asm_defs.specs.FirstChecks.{Checked, ParsedLine, any_known, label_in, moved, checked, check, known_of}
 use Rattle.asm_defs.specs.FirstChecks.{line_of, location_behind, names, refs, defs, refs_in, defs_in, is_end}
 use Rattle.asm_defs.specs.FirstChecks.{label_entry, external_entries}
 use Rattle.asm_defs.specs.FirstChecks.{is_too_far, is_bad, as_expr, move}
@@ -23,7 +23,7 @@ use Rattle.asm_defs.proofs.CheckLaws.{bound}
 use Rattle.line_laws.specs.KnownLines.{KnownLine, nothing_before, known_line, known_lines, names_in, all_names}
 use Rattle.line_laws.specs.KnownLines.{names_behind, look_in, are_new, is_plain, is_plain_statement, are_plain}
 use Rattle.line_laws.specs.KnownLines.{end_of}
-use Rattle.line_laws.proofs.Before.{is_free, said_same, moved_same}
+use Rattle.line_laws.proofs.EarlierLines.{is_free, said_same, moved_same}
 use Rattle.line_laws.proofs.Small.{both, append_none}
 
 -- what a line that is known by itself is made of
@@ -62,7 +62,7 @@ let_through true cause value found e = cc e
 let_through false cause value found e = cc e
 
 -- the first checks keep the label and what is said
-pub said_kept : (at : Location) (line : Said) (found : Checked) → moved (nothing_before at) line ≡ Ok found → (line.label ≡ found.label) × (line.statement ≡ found.statement)
+pub said_kept : (at : Location) (line : ParsedLine) (found : Checked) → moved (nothing_before at) line ≡ Ok found → (line.label ≡ found.label) × (line.statement ≡ found.statement)
 unfolding moved
 said_kept at line found e =
     let before = nothing_before at in

@@ -1,5 +1,5 @@
 pub mod Small
-pub mod Before
+pub mod EarlierLines
 pub mod Laying
 pub mod Placing
 pub mod Settling

@@ -28,7 +28,7 @@ use Rattle.asm_defs.specs.Modules.{settle, with_room, module_by, module_behind, 
 use Rattle.asm_defs.specs.Modules.{unused, definition_in}
 use Rattle.line_laws.specs.KnownLines.{KnownLine, known_line, all_names, all_words, names_behind, are_new, are_close}
 use Rattle.line_laws.specs.Laws.{looks, AreKnown, HasWords, KnownLinesHaveTheirWords}
-use Rattle.line_laws.proofs.Before.{is_free}
+use Rattle.line_laws.proofs.EarlierLines.{is_free}
 use Rattle.line_laws.proofs.Laying.{StandFor, laid_list, AreLaid, are_laid, check_behind}
 use Rattle.line_laws.proofs.Placing.{HoldWords, few_words, content_of}
 use Rattle.line_laws.proofs.Settling.{as_settled, settled_list, settle_is, AreSettled, are_settled, settled_step}

@@ -18,7 +18,7 @@ use Rattle.asm_defs.specs.declared.location.Part.{Part}
 use Rattle.asm_defs.specs.declared.location.Part.TheVariants as part
 use Rattle.asm_defs.specs.Locations.{behind}
 use Rattle.asm_defs.specs.Statements.{Statement, Nothing, Instruction, Aorg, Equ, Data, as_text, statement_in}
-use Rattle.asm_defs.specs.FirstChecks.{Before, Checked, moved, label_entry, location_behind}
+use Rattle.asm_defs.specs.FirstChecks.{EarlierLines, Checked, moved, label_entry, location_behind}
 use Rattle.asm_defs.specs.SecondChecks as outcome
 use Rattle.asm_defs.specs.SecondChecks.{Outcome, outcome}
 
@@ -29,7 +29,7 @@ pub record KnownLine : Type 0 where
   pub outcome : Outcome
 
 -- of the lines before, the location alone
-abbrev pub nothing_before : Location → Before
+abbrev pub nothing_before : Location → EarlierLines
 nothing_before location = record { names = empty; location = location; reached = 0; defs = []; refs = [] }
 
 -- A line by itself at a location, by what each name stands for: its fields, what it says, where it leads, and what

@@ -11,34 +11,34 @@ use Rattle.instruction_defs.specs.FirstChecks.{first_checks}
 use Rattle.instruction_defs.specs.SecondChecks.{second_checks}
 use Rattle.asm_defs.specs.Directives.{directive}
 use Rattle.asm_defs.specs.Statements.{statement_in}
-use Rattle.asm_defs.specs.FirstChecks.{said, moved}
+use Rattle.asm_defs.specs.FirstChecks.{parsed, moved}
 use Rattle.asm_defs.specs.SecondChecks.{outcome}
 use Rattle.line_table.proofs.Blocks.{Block}
 
 pub lines_000 : Block 0 40 0 15
-unfolding mnemonic form_of first_checks second_checks token_at tokens_from in_quotes operands_from fields registers directive statement_in said moved outcome
+unfolding mnemonic form_of first_checks second_checks token_at tokens_from in_quotes operands_from fields registers directive statement_in parsed moved outcome
 lines_000 = refl
 
 pub lines_040 : Block 40 40 15 2
-unfolding mnemonic form_of first_checks second_checks token_at tokens_from in_quotes operands_from fields registers directive statement_in said moved outcome
+unfolding mnemonic form_of first_checks second_checks token_at tokens_from in_quotes operands_from fields registers directive statement_in parsed moved outcome
 lines_040 = refl
 
 pub lines_080 : Block 80 40 17 0
-unfolding mnemonic form_of first_checks second_checks token_at tokens_from in_quotes operands_from fields registers directive statement_in said moved outcome
+unfolding mnemonic form_of first_checks second_checks token_at tokens_from in_quotes operands_from fields registers directive statement_in parsed moved outcome
 lines_080 = refl
 
 pub lines_120 : Block 120 40 17 2
-unfolding mnemonic form_of first_checks second_checks token_at tokens_from in_quotes operands_from fields registers directive statement_in said moved outcome
+unfolding mnemonic form_of first_checks second_checks token_at tokens_from in_quotes operands_from fields registers directive statement_in parsed moved outcome
 lines_120 = refl
 
 pub lines_160 : Block 160 40 19 10
-unfolding mnemonic form_of first_checks second_checks token_at tokens_from in_quotes operands_from fields registers directive statement_in said moved outcome
+unfolding mnemonic form_of first_checks second_checks token_at tokens_from in_quotes operands_from fields registers directive statement_in parsed moved outcome
 lines_160 = refl
 
 pub lines_200 : Block 200 40 29 11
-unfolding mnemonic form_of first_checks second_checks token_at tokens_from in_quotes operands_from fields registers directive statement_in said moved outcome
+unfolding mnemonic form_of first_checks second_checks token_at tokens_from in_quotes operands_from fields registers directive statement_in parsed moved outcome
 lines_200 = refl
 
 pub lines_240 : Block 240 40 40 10
-unfolding mnemonic form_of first_checks second_checks token_at tokens_from in_quotes operands_from fields registers directive statement_in said moved outcome
+unfolding mnemonic form_of first_checks second_checks token_at tokens_from in_quotes operands_from fields registers directive statement_in parsed moved outcome
 lines_240 = refl

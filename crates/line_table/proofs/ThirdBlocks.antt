@@ -11,42 +11,42 @@ use Rattle.instruction_defs.specs.FirstChecks.{first_checks}
 use Rattle.instruction_defs.specs.SecondChecks.{second_checks}
 use Rattle.asm_defs.specs.Directives.{directive}
 use Rattle.asm_defs.specs.Statements.{statement_in}
-use Rattle.asm_defs.specs.FirstChecks.{said, moved}
+use Rattle.asm_defs.specs.FirstChecks.{parsed, moved}
 use Rattle.asm_defs.specs.SecondChecks.{outcome}
 use Rattle.line_table.proofs.Blocks.{Block}
 
 pub lines_560 : Block 560 40 122 8
-unfolding mnemonic form_of first_checks second_checks token_at tokens_from in_quotes operands_from fields registers directive statement_in said moved outcome
+unfolding mnemonic form_of first_checks second_checks token_at tokens_from in_quotes operands_from fields registers directive statement_in parsed moved outcome
 lines_560 = refl
 
 pub lines_600 : Block 600 40 130 8
-unfolding mnemonic form_of first_checks second_checks token_at tokens_from in_quotes operands_from fields registers directive statement_in said moved outcome
+unfolding mnemonic form_of first_checks second_checks token_at tokens_from in_quotes operands_from fields registers directive statement_in parsed moved outcome
 lines_600 = refl
 
 pub lines_640 : Block 640 40 138 6
-unfolding mnemonic form_of first_checks second_checks token_at tokens_from in_quotes operands_from fields registers directive statement_in said moved outcome
+unfolding mnemonic form_of first_checks second_checks token_at tokens_from in_quotes operands_from fields registers directive statement_in parsed moved outcome
 lines_640 = refl
 
 pub lines_680 : Block 680 40 144 11
-unfolding mnemonic form_of first_checks second_checks token_at tokens_from in_quotes operands_from fields registers directive statement_in said moved outcome
+unfolding mnemonic form_of first_checks second_checks token_at tokens_from in_quotes operands_from fields registers directive statement_in parsed moved outcome
 lines_680 = refl
 
 pub lines_720 : Block 720 40 155 6
-unfolding mnemonic form_of first_checks second_checks token_at tokens_from in_quotes operands_from fields registers directive statement_in said moved outcome
+unfolding mnemonic form_of first_checks second_checks token_at tokens_from in_quotes operands_from fields registers directive statement_in parsed moved outcome
 lines_720 = refl
 
 pub lines_760 : Block 760 40 161 5
-unfolding mnemonic form_of first_checks second_checks token_at tokens_from in_quotes operands_from fields registers directive statement_in said moved outcome
+unfolding mnemonic form_of first_checks second_checks token_at tokens_from in_quotes operands_from fields registers directive statement_in parsed moved outcome
 lines_760 = refl
 
 pub lines_800 : Block 800 40 166 11
-unfolding mnemonic form_of first_checks second_checks token_at tokens_from in_quotes operands_from fields registers directive statement_in said moved outcome
+unfolding mnemonic form_of first_checks second_checks token_at tokens_from in_quotes operands_from fields registers directive statement_in parsed moved outcome
 lines_800 = refl
 
 pub lines_840 : Block 840 40 177 9
-unfolding mnemonic form_of first_checks second_checks token_at tokens_from in_quotes operands_from fields registers directive statement_in said moved outcome
+unfolding mnemonic form_of first_checks second_checks token_at tokens_from in_quotes operands_from fields registers directive statement_in parsed moved outcome
 lines_840 = refl
 
 pub lines_880 : Block 880 13 186 2
-unfolding mnemonic form_of first_checks second_checks token_at tokens_from in_quotes operands_from fields registers directive statement_in said moved outcome
+unfolding mnemonic form_of first_checks second_checks token_at tokens_from in_quotes operands_from fields registers directive statement_in parsed moved outcome
 lines_880 = refl

@@ -7,7 +7,7 @@ use Rattle.std.proofs.lemmas.Bool.{agree_below, agree_below_at}
 use Rattle.std.proofs.lemmas.List.{length-map}
 use Rattle.std.proofs.lemmas.Bool.Decides.{nat_tests}
 use Rattle.source_defs.specs.Numbers.{hexadecimal_digit, is_hexadecimal_digit, digit_value, value_after}
-use Rattle.source_defs.specs.Digits.{byte_digits, word_digits, marked_byte, marked_word}
+use Rattle.source_defs.specs.Digits.{byte_digits, word_digits, hex_byte, hex_word}
 use Rattle.source_defs.specs.Parentheses.{has_parentheses}
 use Rattle.source_defs.specs.Tokens.{Number, token_to, token_at, tokens_from, tokens}
 use Rattle.listed_lines.proofs.Scans.{not_true, At, to_end, part_is, scanned}
@@ -35,16 +35,16 @@ all_pass p (d ∷ numbers) e = rw (digit_passes p d e) (all_pass p numbers e)
 abbrev of_word : ℕ → List ℕ
 of_word n = n / 4096 ∷ n / 256 ∷ n / 16 ∷ n ∷ []
 
-pub word_passes : (p : ℕ → Bool) (n : ℕ) → digits_pass p ≡ true → p 0x3E ≡ true → list_all p (marked_word n) ≡ true
+pub word_passes : (p : ℕ → Bool) (n : ℕ) → digits_pass p ≡ true → p 0x3E ≡ true → list_all p (hex_word n) ≡ true
 unfolding word_digits
 word_passes p n e f = rw f (all_pass p (of_word n) e)
 
-pub byte_passes : (p : ℕ → Bool) (n : ℕ) → digits_pass p ≡ true → p 0x3E ≡ true → list_all p (marked_byte n) ≡ true
+pub byte_passes : (p : ℕ → Bool) (n : ℕ) → digits_pass p ≡ true → p 0x3E ≡ true → list_all p (hex_byte n) ≡ true
 unfolding byte_digits
 byte_passes p n e f = rw f (all_pass p (n / 16 ∷ n ∷ []) e)
 
 -- a number ends in no parenthesis
-pub none_closed : (n : ℕ) → has_parentheses (marked_word n) ≡ false
+pub none_closed : (n : ℕ) → has_parentheses (hex_word n) ≡ false
 unfolding word_digits
 none_closed n = rw (not_true _ (digit_passes (λ byte. not (byte == 0x29)) n refl)) refl
 
@@ -72,14 +72,14 @@ sign_tokens d numbers few =
     let end : 1 + length digits ≡ length (0x3E ∷ digits) = omega arith in
     rw (ends, some, part_is digits [] left, one, few, all_pass is_hexadecimal_digit (d ∷ numbers) refl, end, none_left (length digits) (0x3E ∷ digits), start) refl
 
-pub word_tokens : (n : ℕ) → n < 65536 → tokens (marked_word n) ≡ Ok (token_to (Number n) 0 5 ∷ [])
+pub word_tokens : (n : ℕ) → n < 65536 → tokens (hex_word n) ≡ Ok (token_to (Number n) 0 5 ∷ [])
 unfolding word_digits
 word_tokens n lt =
     let value : value_after 16 0 (digits_of (of_word n)) ≡ n =
     rw (digit_back (n / 4096), digit_back (n / 256), digit_back (n / 16), digit_back n) (omega arith) in
     sign_tokens (n / 4096) (n / 256 ∷ n / 16 ∷ n ∷ []) (omega arith) ∙ ap (λ n. Ok (token_to (Number n) 0 5 ∷ [])) value
 
-pub byte_tokens : (n : ℕ) → n < 256 → tokens (marked_byte n) ≡ Ok (token_to (Number n) 0 3 ∷ [])
+pub byte_tokens : (n : ℕ) → n < 256 → tokens (hex_byte n) ≡ Ok (token_to (Number n) 0 3 ∷ [])
 unfolding byte_digits
 byte_tokens n lt =
     let value : value_after 16 0 (digits_of (n / 16 ∷ n ∷ [])) ≡ n = rw (digit_back (n / 16), digit_back n) (omega arith) in

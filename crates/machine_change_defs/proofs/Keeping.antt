@@ -35,7 +35,7 @@ use Rattle.tms_defs.specs.forms.One.{one}
 use Rattle.tms_defs.specs.forms.Jump.{jump_target, jump_where, condition}
 use Rattle.tms_defs.specs.forms.Imm.{immediate, imm}
 use Rattle.tms_defs.specs.forms.Bare.{bare}
-use Rattle.tms_defs.specs.Step.{executed, executed_where, execution, is_stopping, step, step_end}
+use Rattle.tms_defs.specs.Step.{executed, executed_where, execution, is_unsupported, step, step_end}
 
 given : {X : Type 0} (a b : X) → Gives a ≡ Gives b → a ≡ b
 given a b e = cc
@@ -207,7 +207,7 @@ module _ (M : Type 0) (access : Accesses M) (P : M → Type 0) (bytes : Bool)
   do_instr x h (instr.Bare o) f = do_bare x h o
 
   do_where : (x : Cpu M) → P x.memory → (i : Option Instr) → Allowed bytes i → Kept (executed_where M access i x)
-  do_where x h (Some i) f = pick (is_stopping i) (λ e. rw e none) (λ e. rw e (do_instr x h i f))
+  do_where x h (Some i) f = pick (is_unsupported i) (λ e. rw e none) (λ e. rw e (do_instr x h i f))
   do_where x h None f = none
 
   -- an instruction that is allowed keeps it
@@ -257,7 +257,7 @@ module _ (M : Type 0) (access : Accesses M) where
   jumped_by x None d = none
 
   jumped : (x : Cpu M) (o : JumpOp) (d : ℤ) → Holds (Same x) (executed_where M access (Some (instr.Jump o d)) x)
-  jumped x o d = pick (is_stopping (instr.Jump o d)) (λ e. rw e none) (λ e. rw e (jumped_by x (condition o x.status) d))
+  jumped x o d = pick (is_unsupported (instr.Jump o d)) (λ e. rw e none) (λ e. rw e (jumped_by x (condition o x.status) d))
 
   abbrev pub IsJump : ℕ → Type 0
   IsJump word = (o : JumpOp) × (d : ℤ) × (instr_at word ≡ Some (instr.Jump o d))

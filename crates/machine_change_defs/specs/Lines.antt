@@ -1,7 +1,7 @@
 -- The lines of a run of the machine: a line for each instruction, and the expansion memory after it.
 use Rattle.std.specs.Prelude.{ℕ, suc, ◌+◌, List, [], ◌∷◌, ◌++◌, codes, map}
 use Rattle.std.specs.List.{range_with_len}
-use Rattle.source_defs.specs.Digits.{word_digits, marked_word}
+use Rattle.source_defs.specs.Digits.{word_digits, hex_word}
 use Rattle.tms_defs.specs.Accesses.{Answer, Gives, AtPort, NoInstruction}
 use Rattle.tms_defs.specs.Operand.{Cpu}
 use Rattle.tms_defs.specs.Status.{status_word}
@@ -31,7 +31,7 @@ code_words memory at =
 -- Profile: program counter, workspace pointer and status.
 unfoldable pub processor_text : Cpu Memory → List ℕ
 processor_text cpu =
-    marked_word cpu.pc ++ (codes " WP" ++ (word_digits cpu.wp ++ (codes " ST" ++ word_digits (status_word cpu.status))))
+    hex_word cpu.pc ++ (codes " WP" ++ (word_digits cpu.wp ++ (codes " ST" ++ word_digits (status_word cpu.status))))
 
 -- the text of the instruction at the program counter
 unfoldable pub instruction_text : Cpu Memory → List ℕ

@@ -2,7 +2,7 @@
 use Rattle.std.specs.Prelude.{ℕ, ◌+◌, Bool, true, false, List, [], ◌∷◌, ◌++◌, codes, Option, Some, None}
 use Rattle.std.specs.List.{flat_map}
 use Rattle.std.specs.Fmt.{decimal}
-use Rattle.source_defs.specs.Digits.{word_digits, marked_word, byte_digits}
+use Rattle.source_defs.specs.Digits.{word_digits, hex_word, byte_digits}
 use Rattle.report_defs.specs.Trace.{cell_place, register_place}
 use Rattle.change_defs.specs.Changes.{Change}
 use Rattle.change_defs.specs.Text.{placed_change}
@@ -18,9 +18,9 @@ register_text c = codes " R" ++ (decimal c.number ++ (codes "=" ++ (byte_digits 
 -- Profile: memory is shown by its addresses, video memory by V and the address, its registers by W and the digit.
 abbrev pub place_text : Area → ℕ → List ℕ
 place_text Scratchpad at = cell_place at
-place_text LowExpansion at = marked_word (0x2000 + at)
-place_text HighExpansion at = marked_word (0xA000 + at)
-place_text Video at = codes "V" ++ marked_word at
+place_text LowExpansion at = hex_word (0x2000 + at)
+place_text HighExpansion at = hex_word (0xA000 + at)
+place_text Video at = codes "V" ++ hex_word at
 place_text Registers at = codes "W" ++ register_place at
 
 -- a change, of which the one before ended at a place

@@ -4,7 +4,7 @@ ghost use Rattle.std.specs.Prelude.{◌≡◌, length};
 ghost use Rattle.bench_io.specs.Written.{Written};
 ghost use Rattle.machine_change_defs.specs.Lines as spec;
 
-use bench_io::{Failed, Sink, put_piece};
+use bench_io::{Failed, Sink, put_chunk};
 use console_bus::Bus;
 use report_lines::put_rows;
 
@@ -27,7 +27,7 @@ fn put_low<O: Sink>(bytes: &[u8], out: &mut O) -> Result<(), Failed>
     requires { length bytes.now ≡ 8192 }
     ensures { Written result (O.state out.old) (O.state out.new) (spec.low_lines bytes.now) }
 {
-    put_piece(out, b"low\n")?;
+    put_chunk(out, b"low\n")?;
     put_rows(0x2000, bytes, out)
 }
 
@@ -37,6 +37,6 @@ fn put_high<O: Sink>(bytes: &[u8], out: &mut O) -> Result<(), Failed>
     requires { length bytes.now ≡ 24576 }
     ensures { Written result (O.state out.old) (O.state out.new) (spec.high_lines bytes.now) }
 {
-    put_piece(out, b"high\n")?;
+    put_chunk(out, b"high\n")?;
     put_rows(0xA000, bytes, out)
 }

@@ -8,7 +8,7 @@ use crate::changes::append_changes;
 use crate::front::step_front;
 use crate::reach::reach_of;
 use crate::seen::Seen;
-use bench_io::{Failed, Sink, put_piece};
+use bench_io::{Failed, Sink, put_chunk};
 use console_defs::RunEnd;
 use step_changes::LongLine;
 use tms_defs::StepEnd;
@@ -41,7 +41,7 @@ pub fn show_run<O: Sink>(
         match machine.step() {
             StepEnd::Done(word) => {
                 append_changes(line, reach_of(word), wp, seen, machine.bus());
-                put_piece(out, line.bytes())?;
+                put_chunk(out, line.bytes())?;
                 if word == SELF_JUMP {
                     return Ok(RunEnd::SelfJump);
                 }

@@ -2,7 +2,7 @@
 
 ghost use Rattle.std.specs.Prelude.{◌≡◌, ◌≤◌, ◌<◌, ◌+◌, ◌++◌, ◌∷◌, [], length, drop, codes};
 ghost use Rattle.arrayvec.specs.ArrayVec.{array_vec_len};
-ghost use Rattle.source_defs.specs.Digits.{marked_word};
+ghost use Rattle.source_defs.specs.Digits.{hex_word};
 ghost use Rattle.report_defs.specs.ObjectFaults as spec;
 ghost use Rattle.memory_listing.specs.Told.{IsTold, link_told};
 
@@ -40,7 +40,7 @@ fn tag_cause_text(cause: TagCause) -> Line
 #[tactic(auto, using(std::proofs::Common::append_assoc))]
 fn checksum_text(found: u16, computed: u16) -> Line
     ensures text { result.items
-        ≡ codes "checksum " ++ (marked_word found ++ (codes ", computed " ++ marked_word computed)) }
+        ≡ codes "checksum " ++ (hex_word found ++ (codes ", computed " ++ hex_word computed)) }
     ensures short { array_vec_len result ≤ 64 }
 {
     let mut line = text_of(b"checksum ");
@@ -97,7 +97,7 @@ fn name_line(words: &[u8], name: &[u8]) -> Line
 #[tactic(auto, using(std::proofs::Common::append_assoc))]
 fn word_line(words: &[u8], address: u16) -> Line
     requires { length words.now ≤ 32 }
-    ensures { result.items ≡ spec.said_of words.now (marked_word address) }
+    ensures { result.items ≡ spec.said_of words.now (hex_word address) }
 {
     let mut line = text_of(words);
     append_word(&mut line, address);

@@ -7,7 +7,7 @@ ghost use Rattle.link_loader.specs.View.{defined_linked};
 
 use crate::names::put_names;
 use crate::rows::put_words;
-use bench_io::{Failed, Sink, put_piece};
+use bench_io::{Failed, Sink, put_chunk};
 use link_loader::Linked;
 use report_lines::{Line, append, append_word};
 
@@ -15,7 +15,7 @@ use report_lines::{Line, append, append_word};
 pub fn put_memory<O: Sink>(linked: &Linked, out: &mut O) -> Result<(), Failed>
     ensures { Written result (O.state out.old) (O.state out.new) (spec.linked_lines (defined_linked linked.now)) }
 {
-    put_piece(out, entry_line(linked.entry()).as_slice())?;
+    put_chunk(out, entry_line(linked.entry()).as_slice())?;
     put_names(linked.names().as_slice(), out)?;
     put_words(linked, out)
 }

@@ -5,7 +5,7 @@ ghost use Rattle.bench_io.specs.Written.{Written};
 ghost use Rattle.report_defs.specs.MemoryListing as spec;
 
 use asm_text::Name;
-use bench_io::{Failed, Sink, put_piece};
+use bench_io::{Failed, Sink, put_chunk};
 use report_lines::{Line, append, append_word};
 
 /// Writes the lines of names with their values.
@@ -13,7 +13,7 @@ pub(crate) fn put_names<O: Sink>(names: &[(Name, u16)], out: &mut O) -> Result<(
     ensures { Written result (O.state out.old) (O.state out.new) (map spec.name_line names.now) }
 {
     for named in names {
-        put_piece(out, name_line(&named.0, named.1).as_slice())?;
+        put_chunk(out, name_line(&named.0, named.1).as_slice())?;
     }
     Ok(())
 }

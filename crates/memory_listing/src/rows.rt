@@ -9,7 +9,7 @@ ghost use Rattle.report_defs.specs.MemoryListing as spec;
 ghost use Rattle.link_loader.specs.View.{defined_linked};
 
 use asm_text::word_digits;
-use bench_io::{Failed, Sink, put_piece};
+use bench_io::{Failed, Sink, put_chunk};
 use link_loader::Linked;
 use report_lines::{Line, append, append_word};
 
@@ -29,7 +29,7 @@ pub(crate) fn put_words<O: Sink>(linked: &Linked, out: &mut O) -> Result<(), Fai
             let (at, _) = linked.pair(index);
             belonging = following(linked, MORE_WORDS, u32::from(at) + 2, index + 1);
             let end = index + 1 + belonging;
-            put_piece(out, words_line(linked, index, end).as_slice())?;
+            put_chunk(out, words_line(linked, index, end).as_slice())?;
         }
     }
     Ok(())

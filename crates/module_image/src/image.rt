@@ -42,7 +42,7 @@ impl Image {
             Places references earlier line at contents.now result self.old self.new }
     {
         let overlaps = self.has_any(at, contents.len());
-        self.lay(at, contents);
+        self.fill_reserved(at, contents);
         if self.relocatable.words + self.absolute.words > MOST_WORDS as u32 {
             return Err(AsmCause::Overflow);
         }
@@ -53,7 +53,7 @@ impl Image {
     }
 
     /// Lays bytes from a place on. Nothing is laid in the part of dummy lines.
-    pub fn lay(&mut self, at: Location, contents: &[Content])
+    pub fn fill_reserved(&mut self, at: Location, contents: &[Content])
         requires { at.number + length contents.now ≤ 65536 }
         ensures { IsLaid at contents.now self.old self.new }
     {

@@ -11,7 +11,7 @@ use Rattle.object_defs.specs.declared.form.TextForm.TheVariants.{Plain}
 use Rattle.object_defs.specs.Modules.{all_name_characters, is_module_name}
 use Rattle.source_defs.specs.Digits.{word_digits}
 use Rattle.object_defs.specs.Digits.{padded}
-use Rattle.object_defs.specs.Fields.{digits_at, number_at, module_name_at, symbol_at, all_blank, without_blanks}
+use Rattle.object_defs.specs.Fields.{digits_at, number_at, module_name_at, symbol_at, all_blank, trim_trailing_blanks}
 use Rattle.object_defs.proofs.Conjunctions.{and_left, and_right}
 
 digit_is : (v : ℕ) → v < 16 → is_hexadecimal_digit (hexadecimal_digit v) ≡ true
@@ -42,14 +42,14 @@ blanks : (k : ℕ) → all_blank (replicate k 0x20) ≡ true
 blanks zero = refl
 blanks (suc k) = blanks k
 
-no_blanks : (k : ℕ) → without_blanks (replicate k 0x20) ≡ []
-unfolding without_blanks
+no_blanks : (k : ℕ) → trim_trailing_blanks (replicate k 0x20) ≡ []
+unfolding trim_trailing_blanks
 no_blanks zero = refl
 no_blanks (suc k) = rw (blanks k) refl
 
 -- a name without the blanks that were put behind it
-name_again : (name : List ℕ) (k : ℕ) → all_printed name ≡ true → without_blanks (name ++ replicate k 0x20) ≡ name
-unfolding without_blanks
+name_again : (name : List ℕ) (k : ℕ) → all_printed name ≡ true → trim_trailing_blanks (name ++ replicate k 0x20) ≡ name
+unfolding trim_trailing_blanks
 name_again [] k h = no_blanks k
 name_again (c ∷ name) k h = let other : is_blank c ≡ false = printed_no_blank c (and_left (is_printed c) (all_printed name) h) in rw (other, name_again name k (and_right (is_printed c) (all_printed name) h)) refl
 
@@ -71,7 +71,7 @@ symbol_again tag n name rest h =
     let behind : drop 4 (word_digits n ++ (padded 6 name ++ rest)) ≡ padded 6 name ++ rest = drop_at (word_digits n) _ 4 (digits_length n) in
     let size = kept_length name h in
     let field : take 6 (padded 6 name ++ rest) ≡ padded 6 name = take_at (padded 6 name) rest 6 size in
-    let kept : without_blanks (padded 6 name) ≡ name = name_again name (6 - length name) printed in
+    let kept : trim_trailing_blanks (padded 6 name) ≡ name = name_again name (6 - length name) printed in
     rw (behind, field, size, kept, h) refl
 
 pub module_name_again : (tag n : ℕ) (name rest : List ℕ) → is_module_name name ≡ true → module_name_at Plain tag (word_digits n ++ (name ++ rest)) ≡ Ok name

@@ -52,16 +52,16 @@ abbrev pub all_blank : List ℕ → Bool
 all_blank bytes = list_all is_blank bytes
 
 -- the characters without the blanks at their end
-unfoldable pub without_blanks : List ℕ → List ℕ
-without_blanks [] = []
-without_blanks (byte ∷ bytes) = if all_blank (byte ∷ bytes) then [] else byte ∷ without_blanks bytes
+unfoldable pub trim_trailing_blanks : List ℕ → List ℕ
+trim_trailing_blanks [] = []
+trim_trailing_blanks (byte ∷ bytes) = if all_blank (byte ∷ bytes) then [] else byte ∷ trim_trailing_blanks bytes
 
 -- a name in a field of six characters, of which the line may have fewer
 -- Profile: without the blanks at its end it is one to six characters from >21 to >7E, or else the tag is refused.
 abbrev pub symbol_in : ℕ → List ℕ → Result (List ℕ) TagCause
 symbol_in tag field =
-    if nat_lt (length field) 6 && all_printed (without_blanks field) then Err ShortField
-    else if is_kept_name (without_blanks field) then Ok (without_blanks field)
+    if nat_lt (length field) 6 && all_printed (trim_trailing_blanks field) then Err ShortField
+    else if is_kept_name (trim_trailing_blanks field) then Ok (trim_trailing_blanks field)
     else Err (BadTag tag)
 
 -- the six characters behind the number

@@ -128,7 +128,7 @@ pub(crate) fn symbol_at(form: TextForm, tag: u8, fields: &[u8]) -> Result<Name, 
     ensures { result ≡ spec.symbol_at form tag fields.now }
 {
     let field = front(behind(fields, number_size(form)), 6);
-    let name = without_blanks(field);
+    let name = trim_trailing_blanks(field);
     if field.len() < 6 && all_printed(name) {
         return Err(TagCause::ShortField);
     }
@@ -143,8 +143,8 @@ fn all_printed(bytes: &[u8]) -> bool
 
 /// The bytes without the blanks at their end.
 #[tactic(auto, using(crate::proofs::Blanks::trimming))]
-fn without_blanks(field: &[u8]) -> &[u8]
-    ensures { result.now ≡ spec.without_blanks field.now }
+fn trim_trailing_blanks(field: &[u8]) -> &[u8]
+    ensures { result.now ≡ spec.trim_trailing_blanks field.now }
 {
     let mut end = field.len();
     while end > 0 && is_blank(field[end - 1]) {

@@ -15,7 +15,7 @@ use Rattle.report_defs.specs.Program.{program_status}
 use Rattle.report_defs.specs.Trace.{ShowsChanges, step_lines, changes_text}
 use Rattle.report_defs.specs.Report.{Report, Whole, Faulty, largest_input, AcceptedReport, OnInput}
 use Rattle.report_defs.specs.Report.{ReportsProgram, ShowsSteps, EnteredReport, ProgramReport, run_lines, shown_lines}
-use Rattle.report_defs.specs.Laws.{Begins, FrontsBeginReports}
+use Rattle.report_defs.specs.Laws.{Begins, PrefixesBeginReports}
 use Rattle.report_defs.proofs.OneReport.{one_bytes}
 
 -- the lines of the steps begin the report of the run
@@ -54,7 +54,7 @@ accepted Accepted input report within on = by (nat_lt largest_input (length inpu
     by true is on = absurd (grind (arith, nat_tests))
     by false is on = on
 
-pub fronts_begin_reports : FrontsBeginReports
+pub fronts_begin_reports : PrefixesBeginReports
 fronts_begin_reports (Trace limit) input front report p q =
     begins_program changes_text limit (program_of_source input) front report p.1 (accepted (AcceptedReport (Trace limit)) input report p.0 q)
 fronts_begin_reports _ input front report p q = absurd p

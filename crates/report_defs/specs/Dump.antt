@@ -10,7 +10,7 @@ use Rattle.console_defs.specs.Memory.{Memory, word_read}
 use Rattle.tms_defs.specs.Operand.{Cpu}
 use Rattle.tms_defs.specs.Status.{status_word}
 use Rattle.console_defs.specs.Machine.{MachineState, has_workspace}
-use Rattle.source_defs.specs.Digits.{marked_word}
+use Rattle.source_defs.specs.Digits.{hex_word}
 use Rattle.report_defs.specs.Rows.{spaced_bytes, rows_lines}
 
 -- Profile: a dump begins with the scratchpad, in rows from >8300.
@@ -26,11 +26,11 @@ vdp_lines vdp = codes "vdp\n" ∷ (rows_lines 0 vdp.memory ++ vdp_registers_line
 
 -- Profile: then the counter of the GROMs.
 unfoldable pub grom_line : GromState → List ℕ
-grom_line grom = codes "grom " ++ (marked_word grom.counter ++ codes "\n")
+grom_line grom = codes "grom " ++ (hex_word grom.counter ++ codes "\n")
 
 -- a word behind a label
 unfoldable pub labelled_word : List ℕ → ℕ → List ℕ
-labelled_word label word = label ++ marked_word word
+labelled_word label word = label ++ hex_word word
 
 -- Profile: then the count of executed instructions, program counter, workspace pointer and status.
 unfoldable pub count_line : MachineState → List ℕ
@@ -41,7 +41,7 @@ count_line machine =
     ++ (labelled_word (codes " ST ") (status_word machine.cpu.status) ++ codes "\n"))))
 
 abbrev pub shown_word : Answer ℕ → List ℕ
-shown_word (Gives word) = 0x20 ∷ marked_word word
+shown_word (Gives word) = 0x20 ∷ hex_word word
 shown_word (AtPort address) = []
 shown_word NoInstruction = []
 

@@ -9,7 +9,7 @@ use Rattle.link_defs.specs.LinkedMemory.{LinkedMemory}
 use Rattle.load_defs.specs.Loaded.{IsLoadedMachine}
 use Rattle.report_defs.specs.declared.status.Status.{Status}
 use Rattle.report_defs.specs.declared.status.Status.TheVariants as status
-use Rattle.source_defs.specs.Digits.{marked_word}
+use Rattle.source_defs.specs.Digits.{hex_word}
 use Rattle.report_defs.specs.Dump.{dump_lines}
 
 -- Profile: linked memory is loaded into a machine that begins at the entry with its workspace at >83E0. The word at
@@ -30,8 +30,8 @@ pub record Executes (limit : ℕ) (linked : LinkedMemory) (ending : RunEnd) (lef
 abbrev pub end_line : RunEnd → List ℕ
 end_line Limit = codes "end limit\n"
 end_line SelfJump = codes "end self jump\n"
-end_line (Refused address) = codes "end refused " ++ (marked_word address ++ codes "\n")
-end_line (Port address) = codes "end port " ++ (marked_word address ++ codes "\n")
+end_line (Refused address) = codes "end refused " ++ (hex_word address ++ codes "\n")
+end_line (Port address) = codes "end port " ++ (hex_word address ++ codes "\n")
 end_line Reached = codes "end reached\n"
 
 -- Profile: a machine that stopped at a word or at a port has a status of its own.

@@ -21,7 +21,7 @@ use Rattle.report_defs.specs.GromListing.{image_listing}
 use Rattle.report_defs.specs.ObjectFaults.{link_line}
 use Rattle.report_defs.specs.ObjectInput.{told}
 use Rattle.report_defs.specs.Report.{Report, Whole, Faulty, Rejected, RejectedAfter, asm_report, link_report, one_piece}
-use Rattle.report_defs.specs.Report.{largest_input, ReportOn, FrontOn}
+use Rattle.report_defs.specs.Report.{largest_input, ReportOn, PrefixOn}
 use Rattle.report_defs.specs.ProgramCommands.{AsmFiles, ProgramCommand, OverFiles, Plain}
 use Rattle.report_defs.specs.FileReports.{ReportWith}
 
@@ -47,10 +47,10 @@ Begins (Rejected line) report = report ≡ Rejected line
 Begins (RejectedAfter pieces line) report = report ≡ RejectedAfter pieces line
 
 -- the law, which is proved: what is written before the end of a report is known begins the report
-abbrev pub FrontsBeginReports : Type 0
-FrontsBeginReports =
+abbrev pub PrefixesBeginReports : Type 0
+PrefixesBeginReports =
     (command : Command) (input : List ℕ) (front report : Report)
-    → FrontOn command input front → ReportOn command input report → Begins front report
+    → PrefixOn command input front → ReportOn command input report → Begins front report
 
 -- the text that gdis lists of bytes from an address on
 abbrev pub listed_text : ℕ → List ℕ → List ℕ

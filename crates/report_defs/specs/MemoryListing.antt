@@ -2,15 +2,15 @@
 use Rattle.std.specs.Prelude.{ℕ, zero, suc, ◌+◌, ◌==◌, if◌then◌else◌, List, [], ◌∷◌, ◌++◌, take, map, codes}
 use Rattle.std.specs.List.{flat_map}
 use Rattle.std.specs.FinMap.{entries}
-use Rattle.source_defs.specs.Digits.{word_digits, marked_word}
+use Rattle.source_defs.specs.Digits.{word_digits, hex_word}
 use Rattle.link_defs.specs.LinkedMemory.{LinkedMemory}
 
 -- Profile: a listing of memory begins with the entry, and then has each name with its value, in order.
 abbrev pub entry_line : ℕ → List ℕ
-entry_line entry = codes "entry " ++ (marked_word entry ++ codes "\n")
+entry_line entry = codes "entry " ++ (hex_word entry ++ codes "\n")
 
 abbrev pub name_line : List ℕ × ℕ → List ℕ
-name_line named = named.0 ++ (0x20 ∷ (marked_word named.1 ++ codes "\n"))
+name_line named = named.0 ++ (0x20 ∷ (hex_word named.1 ++ codes "\n"))
 
 -- up to how many words in front stand at an address and at those that follow it
 abbrev pub following : ℕ → ℕ → List (ℕ × ℕ) → ℕ
@@ -25,7 +25,7 @@ word_text word = 0x20 ∷ word_digits word.1
 -- a row: the address of its first word, and its words
 abbrev pub words_line : List (ℕ × ℕ) → List ℕ
 words_line [] = []
-words_line (word ∷ words) = marked_word word.0 ++ (flat_map word_text (word ∷ words) ++ codes "\n")
+words_line (word ∷ words) = hex_word word.0 ++ (flat_map word_text (word ∷ words) ++ codes "\n")
 
 -- Profile: then stand the words in order of address, up to eight a row; a new row begins where eight stand or the next
 -- address does not follow. The first of the words may belong to the row before them, and have none of their own.

@@ -2,7 +2,7 @@
 --
 -- Profile: each cause has a text of its own, with its name, its address or its numbers.
 use Rattle.std.specs.Prelude.{ℕ, ◌/◌, ◌%◌, nat_lt, if◌then◌else◌, List, ◌∷◌, ◌++◌, drop, codes}
-use Rattle.source_defs.specs.Digits.{word_digits, marked_word}
+use Rattle.source_defs.specs.Digits.{word_digits, hex_word}
 use Rattle.source_defs.specs.Refusals.{Refusal}
 use Rattle.object_defs.specs.declared.causes.TagCause.{TagCause}
 use Rattle.object_defs.specs.declared.causes.TagCause.TheVariants.{BadTag, BadDigit, ShortField, Checksum, NoEnd}
@@ -16,7 +16,7 @@ tag_cause_text (BadTag tag) = codes "bad tag"
 tag_cause_text BadDigit = codes "bad digit"
 tag_cause_text ShortField = codes "short field"
 tag_cause_text (Checksum found computed) =
-    codes "checksum " ++ (marked_word found ++ (codes ", computed " ++ marked_word computed))
+    codes "checksum " ++ (hex_word found ++ (codes ", computed " ++ hex_word computed))
 tag_cause_text NoEnd = codes "no end"
 tag_cause_text TooMany = codes "too many"
 
@@ -31,7 +31,7 @@ leading_zeros number =
 -- Profile: an address has at least four digits.
 abbrev pub marked_address : ℕ → List ℕ
 marked_address address =
-    if nat_lt address 65536 then marked_word address
+    if nat_lt address 65536 then hex_word address
     else 0x3E ∷ (drop (leading_zeros (address / 65536)) (word_digits (address / 65536))
     ++ word_digits (address % 65536))
 
@@ -42,8 +42,8 @@ said_of words what = words ++ (what ++ codes "\n")
 abbrev pub link_line : LinkCause → List ℕ
 link_line (DuplicateDef name) = said_of (codes "duplicate def ") name
 link_line (OutOfMemoryRange address) = said_of (codes "outside memory ") (marked_address address)
-link_line (Overlap address) = said_of (codes "overlap at ") (marked_word address)
-link_line (ChainOutside address) = said_of (codes "chain outside ") (marked_word address)
-link_line (ChainCycle address) = said_of (codes "chain cycle ") (marked_word address)
+link_line (Overlap address) = said_of (codes "overlap at ") (hex_word address)
+link_line (ChainOutside address) = said_of (codes "chain outside ") (hex_word address)
+link_line (ChainCycle address) = said_of (codes "chain cycle ") (hex_word address)
 link_line (Unresolved name) = said_of (codes "unresolved ") name
 link_line NoEntry = codes "no entry\n"

@@ -1,7 +1,7 @@
 -- What `run` and `trace` report in the end: a GPL program that the interpreter runs.
 use Rattle.std.specs.Prelude.{ℕ, ◌+◌, List, [], ◌∷◌, ◌++◌, codes, drop, slice_index, Option, Some, None}
 use Rattle.console_defs.specs.Machine.{MachineState}
-use Rattle.source_defs.specs.Digits.{marked_word, byte_digits}
+use Rattle.source_defs.specs.Digits.{hex_word, byte_digits}
 use Rattle.gpl_step_defs.specs.declared.cells.TheConstants.{VISIBLE_CELLS, STATUS, VALUE_STACK, RETURN_STACK}
 use Rattle.gpl_step_defs.specs.declared.reason.Reason.{Reason}
 use Rattle.gpl_step_defs.specs.declared.reason.Reason.TheVariants.{Exit}
@@ -18,7 +18,7 @@ stop_text Exit = codes "exit at "
 stop_text reason = codes "stop " ++ (0x30 + number_of reason) ∷ codes " at "
 
 unfoldable pub stop_line : Reason → ℕ → List ℕ
-stop_line reason address = stop_text reason ++ (marked_word address ++ codes "\n")
+stop_line reason address = stop_text reason ++ (hex_word address ++ codes "\n")
 
 abbrev pub stop_lines : Option Reason → ℕ → List (List ℕ)
 stop_lines None address = []
@@ -31,7 +31,7 @@ cell_text cells cell = byte_digits (slice_index cells cell)
 -- Profile: a state is shown by the address of the next instruction, the status and the pointers of the two stacks.
 unfoldable pub state_text : GplState → List ℕ
 state_text s =
-    marked_word s.pc
+    hex_word s.pc
     ++ (codes " S"
     ++ (cell_text s.cells STATUS
     ++ (codes " D" ++ (cell_text s.cells VALUE_STACK ++ (codes " R" ++ cell_text s.cells RETURN_STACK)))))

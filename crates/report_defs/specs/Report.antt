@@ -188,7 +188,7 @@ ReportOn command = OnInput (AcceptedReport command)
 
 -- What is written before the end of a report is known, of an input that is not too large: `trace` writes the line of
 -- each step once it is made. Such lines are a front of the report.
-abbrev pub FrontOn : Command → List ℕ → Report → Type 0
-FrontOn (Trace limit) input front =
+abbrev pub PrefixOn : Command → List ℕ → Report → Type 0
+PrefixOn (Trace limit) input front =
     (length input ≤ largest_input) × ProgramReport (ShowsSteps changes_text limit) (program_of_source input) front
-FrontOn command input front = ⊥
+PrefixOn command input front = ⊥

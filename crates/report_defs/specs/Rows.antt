@@ -2,7 +2,7 @@
 use Rattle.std.specs.Prelude.{ℕ, ◌+◌, ◌-◌, ◌*◌, ◌/◌, Bool, not, ◌&&◌, nat_lt, if◌then◌else◌, List, [], ◌∷◌}
 use Rattle.std.specs.Prelude.{◌++◌, length, slice_range, codes}
 use Rattle.std.specs.List.{flat_map, range_with_len}
-use Rattle.source_defs.specs.Digits.{byte_digits, marked_word}
+use Rattle.source_defs.specs.Digits.{byte_digits, hex_word}
 use Rattle.list_defs.specs.Lists.{rows_equal}
 
 -- the row of 16 bytes with a number, from 0
@@ -15,7 +15,7 @@ spaced_bytes bytes = flat_map (λ byte. 0x20 ∷ byte_digits byte) bytes
 
 -- Profile: a row is shown by its address and its bytes.
 abbrev pub row_line : ℕ → List ℕ → List ℕ
-row_line address bytes = marked_word address ++ (spaced_bytes bytes ++ codes "\n")
+row_line address bytes = hex_word address ++ (spaced_bytes bytes ++ codes "\n")
 
 -- a row that equals the row before it
 abbrev pub is_repeated : List ℕ → ℕ → Bool

@@ -4,7 +4,7 @@ use Rattle.std.specs.Prelude.{ℕ, ◌+◌, ◌-◌, List, [], ◌∷◌, ◌++�
 use Rattle.std.specs.Prelude.{Option, Some, None}
 use Rattle.std.specs.List.{range_with_len}
 use Rattle.std.specs.Fmt.{decimal}
-use Rattle.source_defs.specs.Digits.{marked_word, byte_digits}
+use Rattle.source_defs.specs.Digits.{hex_word, byte_digits}
 use Rattle.gpl_defs.specs.Reading.{reading}
 use Rattle.gpl_listing_defs.specs.Texts.{read_text}
 use Rattle.gpl_step_defs.specs.State.{GplState}
@@ -33,7 +33,7 @@ changed_text label place before after =
 
 -- Profile: visible cells are shown by their addresses, as those of video memory are, and registers by their digits.
 abbrev pub cell_place : ℕ → List ℕ
-cell_place at = marked_word (0x8300 + at)
+cell_place at = hex_word (0x8300 + at)
 
 abbrev pub register_place : ℕ → List ℕ
 register_place at = (0x30 + at) ∷ []
@@ -51,7 +51,7 @@ seen_state s = record { cells = s.cells; vdp = s.vdp; registers = s.registers }
 unfoldable pub changes_text : SeenState → SeenState → List ℕ
 changes_text before after =
     changed_text (codes " C") cell_place before.cells after.cells
-    ++ (changed_text (codes " V") marked_word before.vdp after.vdp
+    ++ (changed_text (codes " V") hex_word before.vdp after.vdp
     ++ changed_text (codes " W") register_place before.registers after.registers)
 
 -- how a line shows what a step changed, by what was seen before and after the step

@@ -1,7 +1,7 @@
 -- The report of `watch`.
 use Rattle.std.specs.Prelude.{◌≡◌, ℕ, List, ◌∷◌, ◌++◌, codes, Option, Some, None}
 use Rattle.std.specs.Fmt.{decimal}
-use Rattle.source_defs.specs.Digits.{marked_word, byte_digits}
+use Rattle.source_defs.specs.Digits.{hex_word, byte_digits}
 use Rattle.console_defs.specs.Machine.{MachineState}
 use Rattle.gpl_defs.specs.Image.{Image, AreBytesOf}
 use Rattle.gpl_step_defs.specs.State.{GplState, start}
@@ -18,7 +18,7 @@ use Rattle.report_defs.specs.Report.{Report, Whole}
 -- Profile: what changed is told by its lowest address and its new byte, and an address that was reached by `pc`.
 abbrev pub change_text : Option (ℕ × ℕ) → List ℕ
 change_text None = codes "pc"
-change_text (Some change) = marked_word change.0 ++ (0x3D ∷ byte_digits change.1)
+change_text (Some change) = hex_word change.0 ++ (0x3D ∷ byte_digits change.1)
 
 -- Profile: the number of the step, the address of its instruction, and the number of the item.
 abbrev pub hit_line : ℕ → ℕ → ℕ → Option (ℕ × ℕ) → List ℕ
@@ -26,7 +26,7 @@ hit_line step from item change =
     codes "hit "
     ++ (decimal step
     ++ (codes " at "
-    ++ (marked_word from ++ (codes " item " ++ (decimal item ++ (0x20 ∷ (change_text change ++ codes "\n")))))))
+    ++ (hex_word from ++ (codes " item " ++ (decimal item ++ (0x20 ∷ (change_text change ++ codes "\n")))))))
 
 unfoldable pub no_hit_line : List ℕ
 no_hit_line = codes "no hit\n"

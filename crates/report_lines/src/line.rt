@@ -3,7 +3,7 @@
 ghost use Rattle.std.specs.Prelude.{◌≡◌, ◌≤◌, ◌<◌, ◌+◌, ◌*◌, ◌∷◌, ◌++◌, length};
 ghost use Rattle.std.specs.Fmt.{decimal};
 ghost use Rattle.arrayvec.specs.ArrayVec.{array_vec_len};
-ghost use Rattle.source_defs.specs.Digits.{byte_digits, marked_word};
+ghost use Rattle.source_defs.specs.Digits.{byte_digits, hex_word};
 ghost use Rattle.report_defs.specs.Rows.{spaced_bytes};
 
 use arrayvec::ArrayVec;
@@ -26,7 +26,7 @@ pub fn append(line: &mut Line, bytes: &[u8])
 #[tactic(auto, using(std::proofs::Common::append_assoc))]
 pub fn append_word(line: &mut Line, word: u16)
     requires { array_vec_len line.old + 5 ≤ 192 }
-    ensures bytes { line.new.items ≡ line.old.items ++ marked_word word }
+    ensures bytes { line.new.items ≡ line.old.items ++ hex_word word }
     ensures len { array_vec_len line.new ≡ array_vec_len line.old + 5 }
 {
     line.push(b'>');

@@ -5,7 +5,7 @@ ghost use Rattle.report_defs.specs.Rows as rows;
 ghost use Rattle.bench_io.specs.Written.{Written};
 
 use crate::line::{Line, append_spaced, append_word};
-use bench_io::{Failed, Sink, put_piece};
+use bench_io::{Failed, Sink, put_chunk};
 use lane_scan::rows_equal;
 
 /// Writes bytes in rows of 16, of which the first stands at an address; a run of rows that equal the row before them is
@@ -32,12 +32,12 @@ fn put_row<O: Sink>(first: u16, bytes: &[u8], number: usize, out: &mut O) -> Res
 {
     if !is_repeated(bytes, number) {
         let line = row_line(first + (16 * number) as u16, row(bytes, number));
-        return put_piece(out, line.as_slice());
+        return put_chunk(out, line.as_slice());
     }
     if is_repeated(bytes, number - 1) {
         return Ok(());
     }
-    put_piece(out, b"*\n")
+    put_chunk(out, b"*\n")
 }
 
 /// A row by its address and its bytes.

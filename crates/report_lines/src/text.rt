@@ -5,7 +5,7 @@ ghost use Rattle.bench_io.specs.Written.{Written};
 ghost use Rattle.report_defs.specs.TextLines as spec;
 
 use asm_text::is_line_feed;
-use bench_io::{Failed, Sink, put_piece};
+use bench_io::{Failed, Sink, put_chunk};
 
 /// Writes a text by one call for each of its lines, with its line feed.
 pub fn put_text<O: Sink>(text: &[u8], out: &mut O) -> Result<(), Failed>
@@ -14,7 +14,7 @@ pub fn put_text<O: Sink>(text: &[u8], out: &mut O) -> Result<(), Failed>
     let mut rest = text;
     while !rest.is_empty() {
         let (line, others) = split_line(rest);
-        put_piece(out, line)?;
+        put_chunk(out, line)?;
         rest = others;
     }
     Ok(())

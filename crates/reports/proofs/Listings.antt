@@ -5,7 +5,7 @@ use Rattle.std.specs.Prelude.{codes}
 use Rattle.bench_io.specs.Stream.{SinkState}
 use Rattle.bench_io.specs.Written.{Wrote, Missed}
 use Rattle.bench_io.proofs.Writing.{wrote_none, wrote_more, missed_more, missed_early}
-use Rattle.source_defs.specs.Digits.{marked_byte}
+use Rattle.source_defs.specs.Digits.{hex_byte}
 use Rattle.tms_defs.specs.Words.{join}
 use Rattle.instruction_defs.specs.Printed.{printed}
 use Rattle.instruction_defs.proofs.Windows.{count_within}
@@ -153,7 +153,7 @@ odd_none [] even = refl
 odd_none (a ∷ []) even = absurd (omega arith)
 odd_none (a ∷ b ∷ rest) even = odd_none rest (omega arith)
 
-pub odd_last : (bytes : List ℕ) → length bytes % 2 ≡ 1 → odd_byte_lines bytes ≡ listing_line (codes "BYTE " ++ marked_byte (get_or bytes (length bytes - 1) 0)) ∷ []
+pub odd_last : (bytes : List ℕ) → length bytes % 2 ≡ 1 → odd_byte_lines bytes ≡ listing_line (codes "BYTE " ++ hex_byte (get_or bytes (length bytes - 1) 0)) ∷ []
 odd_last [] odd = absurd (omega arith)
 odd_last (a ∷ []) odd = refl
 odd_last (a ∷ b ∷ rest) odd =

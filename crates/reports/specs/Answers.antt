@@ -17,22 +17,22 @@ use Rattle.report_defs.specs.ObjectFaults.{tag_line}
 use Rattle.report_defs.specs.Report.{Report, Faulty, Rejected}
 use Rattle.report_defs.specs.SourceFaults.{asm_line, gpl_line}
 use Rattle.reports.specs.declared.report.Report as made
-use Rattle.reports.specs.declared.unreported.Unreported.{Unreported}
-use Rattle.reports.specs.declared.unreported.Unreported.TheVariants.{Refused, Fault, ReadFault, Memory}
+use Rattle.reports.specs.declared.command_error.CommandError.{CommandError}
+use Rattle.reports.specs.declared.command_error.CommandError.TheVariants.{Refused, Fault, ReadFault, Memory}
 use Rattle.reports.specs.Made.{defined_report}
 use Rattle.reports.specs.Outputs.{Outputs, EndsWith}
 
 -- A refusal is a report too, which standard error gets. Of input that failed and of want of memory there is none, only
 -- the status.
-abbrev pub error_answer : Unreported → Result Report Status
+abbrev pub error_answer : CommandError → Result Report Status
 error_answer (Refused line) = Ok (Rejected line.items)
 error_answer (Fault fault) = Ok (Faulty fault)
 error_answer ReadFault = Err status.ReadFault
 error_answer Memory = Err status.Memory
 
-abbrev pub answer : Result made.Report Unreported → Result Report Status
+abbrev pub answer : Result made.Report CommandError → Result Report Status
 answer (Ok report) = Ok (defined_report report)
-answer (Err unreported) = error_answer unreported
+answer (Err command_error) = error_answer command_error
 
 -- the report is such a one, and where there is none its status has such a cause
 abbrev pub Reported : (Report → Type 0) → (Status → Type 0) → Result Report Status → Type 0

@@ -1,11 +1,11 @@
 //! How a run of the machine is written.
 
 ghost use Rattle.std.specs.Prelude.{◌≡◌, ◌≤◌, [], ◌++◌, length, codes};
-ghost use Rattle.source_defs.specs.Digits.{marked_word};
+ghost use Rattle.source_defs.specs.Digits.{hex_word};
 ghost use Rattle.bench_io.specs.Written.{Written};
 ghost use Rattle.report_defs.specs.Exec as spec;
 
-use bench_io::{Failed, Sink, put_piece};
+use bench_io::{Failed, Sink, put_chunk};
 use console_defs::RunEnd;
 use report_defs::Status;
 use report_lines::{Line, append, append_word};
@@ -20,7 +20,7 @@ use trace_dump::dump;
 pub fn put_execution<O: Sink>(out: &mut O, ending: RunEnd, machine: &Machine) -> Result<(), Failed>
     ensures { Written result (O.state out.old) (O.state out.new) (spec.exec_lines ending machine.now) }
 {
-    put_piece(out, end_line(ending).as_slice())?;
+    put_chunk(out, end_line(ending).as_slice())?;
     dump(machine, out)
 }
 
@@ -44,7 +44,7 @@ fn end_line(ending: RunEnd) -> Line
 fn append_stop(line: &mut Line, words: &[u8], address: u16)
     requires empty { line.old.items ≡ [] }
     requires short { length words.now ≤ 20 }
-    ensures { line.new.items ≡ words.now ++ (marked_word address ++ codes "\n") }
+    ensures { line.new.items ≡ words.now ++ (hex_word address ++ codes "\n") }
 {
     append(line, words);
     append_word(line, address);

@@ -2,6 +2,7 @@
 //! a trace are written before, each once its step is made.
 #![tactic(auto)]
 
+mod command_error;
 mod execution;
 mod faults;
 mod hit;
@@ -9,12 +10,11 @@ mod listing;
 mod listing_lines;
 mod outcome;
 mod report;
-mod unreported;
 mod watched;
 
+pub use crate::command_error::{CommandError, tell};
 pub use crate::execution::{end_status, put_execution};
 pub use crate::listing::Listing;
 pub use crate::outcome::finish;
 pub use crate::report::Report;
-pub use crate::unreported::{Unreported, tell};
 pub use crate::watched::Watched;

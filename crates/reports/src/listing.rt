@@ -5,7 +5,7 @@ ghost use Rattle.bench_io.specs.Written.{Written};
 ghost use Rattle.word_listings.specs.Listing as spec;
 
 use crate::listing_lines::{origin_line, put_instructions, put_odd_byte};
-use bench_io::{Failed, Sink, put_piece};
+use bench_io::{Failed, Sink, put_chunk};
 
 /// Raw bytes that stand in memory from an address on, and end at >FFFF or before.
 #[derive(Drop)]
@@ -24,9 +24,9 @@ impl Listing {
             (spec.memory_listing self.now.at self.now.bytes.items) }
     {
         let bytes = self.bytes.as_slice();
-        put_piece(out, origin_line(self.at).as_slice())?;
+        put_chunk(out, origin_line(self.at).as_slice())?;
         put_instructions(self.at, bytes, out)?;
         put_odd_byte(bytes, out)?;
-        put_piece(out, b"       END\n")
+        put_chunk(out, b"       END\n")
     }
 }

@@ -1,14 +1,14 @@
 //! The lines of a listing of memory.
 
 ghost use Rattle.std.specs.Prelude.{◌≡◌, ◌<◌, ◌≤◌, ◌+◌, ◌*◌, ◌++◌, length, take, slice_index, codes};
-ghost use Rattle.source_defs.specs.Digits.{marked_byte, marked_word};
+ghost use Rattle.source_defs.specs.Digits.{hex_byte, hex_word};
 ghost use Rattle.instruction_defs.specs.Printed.{printed};
 ghost use Rattle.bench_io.specs.Written.{Written};
 ghost use Rattle.word_listings.specs.Listing as spec;
 
 use asm_forms::print_instr;
 use asm_text::byte_digits;
-use bench_io::{Failed, Sink, put_piece};
+use bench_io::{Failed, Sink, put_chunk};
 use report_lines::{Line, append, append_word};
 
 /// The blanks in front of an operation.
@@ -17,7 +17,7 @@ const MARGIN: &[u8] = b"       ";
 /// The line that says where the first byte stands.
 #[tactic(auto, using(std::proofs::Common::append_assoc))]
 pub(crate) fn origin_line(at: u16) -> Line
-    ensures { result.items ≡ spec.listing_line (codes "AORG " ++ marked_word at) }
+    ensures { result.items ≡ spec.listing_line (codes "AORG " ++ hex_word at) }
 {
     let mut line = Line::new();
     append(&mut line, b"       AORG ");
@@ -37,7 +37,7 @@ pub(crate) fn put_instructions<O: Sink>(at: u16, bytes: &[u8], out: &mut O) -> R
     let mut place = 0;
     while place + 1 < bytes.len() {
         let count = make_front_line(&mut line, &bytes[place..], at + place as u16);
-        put_piece(out, line.as_slice())?;
+        put_chunk(out, line.as_slice())?;
         place += 2 * usize::from(count);
     }
     Ok(())
@@ -78,13 +78,13 @@ pub(crate) fn put_odd_byte<O: Sink>(bytes: &[u8], out: &mut O) -> Result<(), Fai
     if bytes.len() % 2 == 0 {
         return Ok(());
     }
-    put_piece(out, byte_line(bytes[bytes.len() - 1]).as_slice())
+    put_chunk(out, byte_line(bytes[bytes.len() - 1]).as_slice())
 }
 
 /// The line of a byte that is no word.
 #[tactic(auto, using(std::proofs::Common::append_assoc))]
 fn byte_line(byte: u8) -> Line
-    ensures { result.items ≡ spec.listing_line (codes "BYTE " ++ marked_byte byte) }
+    ensures { result.items ≡ spec.listing_line (codes "BYTE " ++ hex_byte byte) }
 {
     let mut line = Line::new();
     append(&mut line, b"       BYTE >");

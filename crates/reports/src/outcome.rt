@@ -2,8 +2,8 @@
 
 ghost use Rattle.reports.specs.Answers.{answer, Ends};
 
+use crate::command_error::CommandError;
 use crate::report::Report;
-use crate::unreported::Unreported;
 use bench_io::Sink;
 use report_defs::Status;
 
@@ -11,7 +11,7 @@ use report_defs::Status;
 /// failed or memory was wanting. It gives the status that the program ends with, which is a write fault where the
 /// output failed. It takes no memory.
 pub fn finish<O: Sink, E: Sink>(
-    made: &Result<Report, Unreported>,
+    made: &Result<Report, CommandError>,
     out: &mut O,
     err: &mut E,
 ) -> Status
@@ -24,6 +24,6 @@ pub fn finish<O: Sink, E: Sink>(
 {
     match made {
         Ok(report) => report.finish(out),
-        Err(unreported) => unreported.finish(err),
+        Err(command_error) => command_error.finish(err),
     }
 }

@@ -13,7 +13,7 @@ ghost use Rattle.reports.specs.Outputs.{EndsWith};
 use crate::execution::{end_status, put_execution};
 use crate::listing::Listing;
 use crate::watched::{Watched, put_watched};
-use bench_io::{Failed, Sink, put_piece};
+use bench_io::{Failed, Sink, put_chunk};
 use console_defs::RunEnd;
 use demo_program::put_summary;
 use gpl_disasm::disassemble;
@@ -114,7 +114,7 @@ fn put_image<O: Sink>(out: &mut O, bytes: &[u8]) -> Result<(), Failed>
     if bytes.is_empty() {
         return Ok(());
     }
-    put_piece(out, bytes)
+    put_chunk(out, bytes)
 }
 
 /// Writes the listing of an image.

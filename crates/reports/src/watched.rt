@@ -5,7 +5,7 @@ ghost use Rattle.bench_io.specs.Written.{Written};
 ghost use Rattle.reports.specs.Watched.{end_lines, found_line, watched_lines, watched_status};
 
 use crate::hit::{hit_line, no_hit_line};
-use bench_io::{Failed, Sink, put_piece};
+use bench_io::{Failed, Sink, put_chunk};
 use gpl_run::Session;
 use report_defs::Status;
 use trace_dump::{program_status, put_state, put_stop};
@@ -52,8 +52,8 @@ fn put_found<O: Sink>(found: Found, out: &mut O) -> Result<(), Failed>
             from,
             item,
             change,
-        } => { put_piece(out, hit_line(step, from, item, change).as_slice()) }
-        Found::None => put_piece(out, no_hit_line()),
+        } => { put_chunk(out, hit_line(step, from, item, change).as_slice()) }
+        Found::None => put_chunk(out, no_hit_line()),
     }
 }
 

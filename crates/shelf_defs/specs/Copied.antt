@@ -9,7 +9,7 @@ use Rattle.std.specs.Prelude.{Option, Some, None}
 use Rattle.source_defs.specs.Layout.{line_texts}
 use Rattle.asm_defs.specs.declared.causes.AsmCause.{AsmCause}
 use Rattle.shelf_defs.specs.Files.{Files, Contents, of_files}
-use Rattle.shelf_defs.specs.CopyLines.{Asked, Itself, File, Bad, asked, ends_source}
+use Rattle.shelf_defs.specs.CopyLines.{LineKind, Itself, File, Bad, asked, ends_source}
 
 -- where a line stands: in a file, or in the source itself; and its number there, from 1
 pub record Place : Type 0 where
@@ -88,7 +88,7 @@ own_line place copies text =
 
 -- by what the COPY line at a place comes to, behind so many others, that copies a file of this name
 module _ (copy : Place → ℕ → List ℕ → Copied) where
-  abbrev pub asked_line : Asked → Place → ℕ → List ℕ → Copied
+  abbrev pub asked_line : LineKind → Place → ℕ → List ℕ → Copied
   asked_line Itself place copies text = own_line place copies text
   asked_line (File name) place copies text = copy place copies name
   asked_line Bad place copies text = refused copies (At place BadCopy)

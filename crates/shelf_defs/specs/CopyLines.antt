@@ -13,15 +13,15 @@ use Rattle.source_defs.specs.Fields.{Fields, fields}
 use Rattle.source_defs.specs.Lines.{part}
 use Rattle.source_defs.specs.Names.{is_word}
 use Rattle.asm_defs.specs.declared.causes.AsmCause.{AsmCause}
-use Rattle.asm_defs.specs.Statements.{Statement, said_of}
+use Rattle.asm_defs.specs.Statements.{Statement, parse_line}
 use Rattle.asm_defs.specs.FirstChecks.{is_end}
 use Rattle.shelf_defs.specs.Files.{is_file_name}
 
 -- What a line asks for: itself, the lines of a file, or a file in a way that is none.
-pub data Asked : Type 0 where
-  Itself : Asked
-  File : List ℕ → Asked
-  Bad : Asked
+pub data LineKind : Type 0 where
+  Itself : LineKind
+  File : List ℕ → LineKind
+  Bad : LineKind
 
 -- a double quote
 abbrev pub is_double_quote : ℕ → Bool
@@ -42,26 +42,26 @@ quoted_name operand =
     if stands_in_quotes operand && is_file_name (between_quotes operand) then Some (between_quotes operand) else None
 
 -- what a line with the operation COPY asks for, by its label and the name in its operand field
-abbrev pub asked_for : Option (List ℕ) → Option (List ℕ) → Asked
+abbrev pub asked_for : Option (List ℕ) → Option (List ℕ) → LineKind
 asked_for None (Some name) = File name
 asked_for None None = Bad
 asked_for (Some label) name = Bad
 
 -- what a line with these fields asks for, by its operation
-abbrev pub asked_by : List ℕ → Fields → Option Span → Asked
-asked_by line found None = Itself
-asked_by line found (Some operation) =
+abbrev pub line_kind : List ℕ → Fields → Option Span → LineKind
+line_kind line found None = Itself
+line_kind line found (Some operation) =
     if is_word (part line operation) (codes "COPY")
     then asked_for found.label (quoted_name (part line found.operands))
     else Itself
 
 -- a line without fields stands for itself: the first checks refuse it
-abbrev pub asked_in : List ℕ → Result Fields TextError → Asked
-asked_in line (Ok found) = asked_by line found found.operation
+abbrev pub asked_in : List ℕ → Result Fields TextError → LineKind
+asked_in line (Ok found) = line_kind line found found.operation
 asked_in line (Err error) = Itself
 
 -- what a line asks for
-unfoldable pub asked : List ℕ → Asked
+unfoldable pub asked : List ℕ → LineKind
 asked line = asked_in line (fields line)
 
 -- a line ends its source where it says END
@@ -70,4 +70,4 @@ says_end (Ok statement) = is_end statement
 says_end (Err cause) = false
 
 unfoldable pub ends_source : List ℕ → Bool
-ends_source line = says_end (said_of line)
+ends_source line = says_end (parse_line line)

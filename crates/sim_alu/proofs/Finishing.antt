@@ -1,6 +1,6 @@
 -- The result of a row is stored, and then its status.
 use Rattle.std.proofs.Common.{ℕ, ⊎_elim, ◌∙◌, ◌≡◌, ap, arith, List, refl, Result, slice_set, Some, subst, sym, true}
-use Rattle.sim_rows.proofs.Common.{Changed, ChangedFrom, Changes, Comes, comes, comes_as, comes_on, comes_then, EndsRow, even, Exits, Goes, gone_on}
+use Rattle.sim_rows.proofs.Common.{ShowsChanges, ChangedFrom, Changes, ReachesWithin, comes, comes_as, comes_on, comes_then, EndsRow, even, Exits, Goes, gone_on}
 use Rattle.sim_rows.proofs.Common.{GplOperation, GSTEP, high, idle_again, is_view, join, MachineState, most_of_alu_row, most_of_store, PortsAreIdle, Reason}
 use Rattle.sim_rows.proofs.Common.{row_width, RunsRow, SeesFinished, SeesResult, SHOW, Stands, STATB, STATUS, STO, store_then, stored_idle, StoresResult}
 use Rattle.sim_rows.proofs.Common.{StoresValue, Storing, unchanged, View, view, with_status, with_value}
@@ -16,8 +16,8 @@ use Rattle.sim_alu.proofs.Making
 high_is : (status : ℕ) → high (join status 0) ≡ status
 high_is status = omega arith
 
-status_stored : (c : Changes) (status : ℕ) (v : View) → Changed c v → v.r.r12 ≡ join status 0 →
-    Goes (piece.store_status v) 1 SHOW (Changed (with_status status c))
+status_stored : (c : Changes) (status : ℕ) (v : View) → ShowsChanges c v → v.r.r12 ≡ join status 0 →
+    Goes (piece.store_status v) 1 SHOW (ShowsChanges (with_status status c))
 status_stored c status v h e =
     record {
       within = omega arith;
@@ -36,8 +36,8 @@ pub with_status_stored : (x y z q : MachineState) (t u w p : ℕ) → (view x).r
     EndsRow z q w p → StoresWithStatus x q t p
 with_status_stored x y z q t u w p link d e f c width place number status h r12 =
     let done : Changes = with_value width place number c in
-    let a : Comes most_of_store x y t u STATB (ChangedFrom done (view x)) =
-    subst (λ (n : ℕ). Comes most_of_store x y t u n (ChangedFrom done (view x))) (ap even link)
+    let a : ReachesWithin most_of_store x y t u STATB (ChangedFrom done (view x)) =
+    subst (λ (n : ℕ). ReachesWithin most_of_store x y t u n (ChangedFrom done (view x))) (ap even link)
     (store_then c width place number x y t u h d) in
     let b = comes_then 15 1 a e (status_stored done status (view y) a.holds.changed (a.holds.keeps.r12 ∙ r12)) refl in
     comes_on 16 28 b (f (with_status status done) b.holds) refl
@@ -62,7 +62,7 @@ module _ (op : GplOperation) (x y z : MachineState) (t u w : ℕ) (f : is_alu (S
   by_sto at d s place source o a operands =
       let v : View = view x in
       let c : Changes = unchanged (gone_on s) in
-      let P : Result Changes Reason → Type 0 = λ r. Comes 50 x z t w GSTEP (SeesResult r) in
+      let P : Result Changes Reason → Type 0 = λ r. ReachesWithin 50 x z t w GSTEP (SeesResult r) in
       ⊎_elim
       (λ (m : Plain op s place source (result_piece op v)).
       let a1 = comes {Q = Storing c (row_width s) place m.number} e (record { within = m.within; to_is = m.to; holds = m.storing }) in
@@ -75,7 +75,7 @@ module _ (op : GplOperation) (x y z : MachineState) (t u w : ℕ) (f : is_alu (S
   by_store away d s place source o a operands =
       let v : View = view x in
       let c : Changes = unchanged (gone_on s) in
-      let P : Result Changes Reason → Type 0 = λ r. Comes 50 x z t w GSTEP (SeesResult r) in
+      let P : Result Changes Reason → Type 0 = λ r. ReachesWithin 50 x z t w GSTEP (SeesResult r) in
       ⊎_elim
       (λ (m : Plain op s place source (result_piece op v)). absurd (away (e.stands.pc ∙ m.to)))
       (λ (m : Flagged op s place source (result_piece op v)).

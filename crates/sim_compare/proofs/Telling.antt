@@ -1,9 +1,9 @@
 -- What a comparison tells, and how it ends.
 use Rattle.std.proofs.Common.{ℕ, ◌+◌, ◌<◌, ◌==◌, ◌∙◌, ◌≡◌, ◌≤◌, ap, arith, bit_and, Bool, false, int_lt, List, nat_lt, not, Ok, Option, refl, slice_index}
 use Rattle.std.proofs.Common.{slice_set, Some, subst, sym, true}
-use Rattle.sim_rows.proofs.Common.{Byte, bytes_by, CEQ, CGE, CGT, CH, CHE, CLOG, Comes, comes, comes_then, CTRUE, CZ, Exits, Goes, goes_in, gone_on}
+use Rattle.sim_rows.proofs.Common.{Byte, bytes_by, CEQ, CGE, CGT, CH, CHE, CLOG, ReachesWithin, comes, comes_then, CTRUE, CZ, Exits, Goes, goes_in, gone_on}
 use Rattle.sim_rows.proofs.Common.{GplOperation, GplState, GSTEP, in_register, is_end, IsView, loaded_of, MachineState, modulus, next_of, One, ones_cleared}
-use Rattle.sim_rows.proofs.Common.{ones_set, operation_in, Place, reads_destination, row_result, row_width, RunsRow, Sees, SeesFinished, SeesResult, signed}
+use Rattle.sim_rows.proofs.Common.{ones_set, operation_in, Place, reads_destination, row_result, row_width, RunsRow, ShowsState, SeesFinished, SeesResult, signed}
 use Rattle.sim_rows.proofs.Common.{Source, ST, Stands, Two, unchanged, value_at, View, view, Width, width_in, with_condition, Word}
 use Rattle.sim_compare.specs.Pieces.{end_of, told}
 use Rattle.sim_compare.specs.Family.{compared, comparison, ending, is_comparison, IsTold}
@@ -34,7 +34,7 @@ is_told x b stands = subst (λ (c : Bool). Stands x (end_of c)) (sym (which_end 
 abbrev status_set : (ℕ → ℕ) → List ℕ → List ℕ
 status_set f cells = slice_set cells 0x7C (f (slice_index cells 0x7C))
 
-ends_with : (s : GplState) (next : ℕ) (b : Bool) (w : View) → Sees s next w → Goes (ending b w) 3 GSTEP
+ends_with : (s : GplState) (next : ℕ) (b : Bool) (w : View) → ShowsState s next w → Goes (ending b w) 3 GSTEP
     (SeesFinished (with_condition b (unchanged (record s { pc = next }))))
 ends_with s next true w h = goes_in (omega arith)
     (record { cells = ap (status_set (λ n. ones_set n 0x20)) h.cells; vdp = h.vdp; registers = h.registers; held = h.held; grom = h.grom })
@@ -42,8 +42,8 @@ ends_with s next false w h = goes_in (omega arith)
     (record { cells = ap (status_set (λ n. ones_cleared Byte n 0x20)) h.cells; vdp = h.vdp; registers = h.registers; held = h.held; grom = h.grom })
 
 -- From what is told to the end of the step.
-pub tells : (most : ℕ) (s : GplState) (next : ℕ) (b : Bool) {x a y : MachineState} {t u v : ℕ} → Comes most x a t u (end_of b) (Sees s next) →
-    Exits a y u v (ending (a.cpu.pc == CTRUE) (view a)) → Comes (most + 3) x y t v GSTEP (SeesFinished (with_condition b (unchanged (record s { pc = next }))))
+pub tells : (most : ℕ) (s : GplState) (next : ℕ) (b : Bool) {x a y : MachineState} {t u v : ℕ} → ReachesWithin most x a t u (end_of b) (ShowsState s next) →
+    Exits a y u v (ending (a.cpu.pc == CTRUE) (view a)) → ReachesWithin (most + 3) x y t v GSTEP (SeesFinished (with_condition b (unchanged (record s { pc = next }))))
 tells most s next b {x = x} {a = a} {y = y} {t = t} {u = u} {v = v} c e =
     let Q : Bool → Type 0 = λ h. Exits a y u v (ending h (view a)) in
     comes_then most 3 c (subst Q (which_end a b c.stands) e) (ends_with s next b (view a) c.holds) (goes_on b)
@@ -138,12 +138,12 @@ runs op e {x = x} {a = a} {y = y} {t = t} {u = u} {v = v} bounds first second s 
     let x_fits = number_fits width value (subst (λ (n : ℕ). n < 65536) nine (bounds.r 9)) in
     let y_fits = number_fits width source.number (subst (λ (n : ℕ). n < 65536) row.value (bounds.r 6)) in
     let b = flag_is op e w width value source.number nine row.value x_fits y_fits in
-    let same : Goes (comparison op w) 3 (end_of (flag op w)) (Sees s (next_of s)) = let g = compares op e w in
-    record { within = g.within; to_is = g.to_is; holds = subst (Sees s (next_of s)) (sym g.holds) row.holds.sees } in
-    let c : Comes 3 x a t u (end_of (compared op width value source.number)) (Sees s (next_of s)) =
-    subst (λ (h : Bool). Comes 3 x a t u (end_of h) (Sees s (next_of s))) b (comes first same) in
+    let same : Goes (comparison op w) 3 (end_of (flag op w)) (ShowsState s (next_of s)) = let g = compares op e w in
+    record { within = g.within; to_is = g.to_is; holds = subst (ShowsState s (next_of s)) (sym g.holds) row.holds.sees } in
+    let c : ReachesWithin 3 x a t u (end_of (compared op width value source.number)) (ShowsState s (next_of s)) =
+    subst (λ (h : Bool). ReachesWithin 3 x a t u (end_of h) (ShowsState s (next_of s))) b (comes first same) in
     let done = tells 3 s (next_of s) (compared op width value source.number) c second in
-    subst (λ r. Comes 6 x y t v GSTEP (SeesResult r)) (sym (result_is op e s place source)) done
+    subst (λ r. ReachesWithin 6 x y t v GSTEP (SeesResult r)) (sym (result_is op e s place source)) done
 
 pub comparison_told : (op : GplOperation) → is_comparison (Some op) ≡ true → {x a : MachineState} {t u : ℕ} → Exits x a t u (comparison op (view x)) → IsTold a
 comparison_told op e {x = x} {a = a} first = is_told a (flag op (view x)) (comes first (compares op e (view x))).stands

@@ -1,9 +1,9 @@
 -- The tests of the status, from their dispatch to the end of the step.
 use Rattle.std.proofs.Common.{ℕ, ◌<◌, ◌==◌, ◌∙◌, ◌≡◌, ap, arith, Bool, false, List, Ok, Option, refl, Result, slice_index, Some, subst, true}
-use Rattle.sim_rows.proofs.Common.{after, AtDispatch, behind_code, bound, bound_at, bound_by, CARRY, Changes, code_byte, Comes, comes, CTRUE, executed, Exits}
+use Rattle.sim_rows.proofs.Common.{after, AtDispatch, behind_code, bound, bound_at, bound_by, CARRY, Changes, code_byte, ReachesWithin, comes, CTRUE, executed, Exits}
 use Rattle.sim_rows.proofs.Common.{finished, Goes, GplOperation, GplRead, GplState, GT, H, is_end, is_set, is_view, IsView, join, last_out, low, MachineState}
-use Rattle.sim_rows.proofs.Common.{matches, most_to_dispatch, operation_at, operation_entry, operation_in, operation_seen, OVF, Plain, PlainOp, reaches}
-use Rattle.sim_rows.proofs.Common.{read_by, reading, Reason, Sees, shifted, SLA, state_at_dispatch, status_of, step, Stepped, Turned, turned_by, unchanged}
+use Rattle.sim_rows.proofs.Common.{matches, most_to_dispatch, operation_at, operation_entry, operation_in, operation_in_view, OVF, Plain, PlainOp, reaches}
+use Rattle.sim_rows.proofs.Common.{read_by, reading, Reason, ShowsState, shifted, SLA, state_at_dispatch, status_of, step, Stepped, Turned, turned_by, unchanged}
 use Rattle.sim_rows.proofs.Common.{View, view, with_tested}
 use Rattle.sim_compare.specs.Pieces.{end_of}
 use Rattle.sim_compare.specs.Family.{ending, is_test, IsTold, test, tested}
@@ -58,34 +58,34 @@ bound_is s o e is =
 
 -- ---- the pieces
 
-sees_still : (s : GplState) (next n : ℕ) (v : View) → Sees s next v → Sees s next (record v { r = record v.r { r4 = n } })
+sees_still : (s : GplState) (next n : ℕ) (v : View) → ShowsState s next v → ShowsState s next (record v { r = record v.r { r4 = n } })
 sees_still s next n v h = record { cells = h.cells; vdp = h.vdp; registers = h.registers; held = h.held; grom = h.grom }
 
 abbrev word_in : View → ℕ
 word_in v = join (slice_index v.cells 0x7C) (low v.r.r4)
 
 -- the bit that is shifted out is the state's
-shows : (places bit : ℕ) (s : GplState) (next : ℕ) (v : View) → Sees s next v → last_out SLA (word_in v) places ≡ is_set (slice_index v.cells 0x7C) bit →
-    Goes (pieces.test_bit places v) 4 (end_of (is_set (status_of s) bit)) (Sees s next)
+shows : (places bit : ℕ) (s : GplState) (next : ℕ) (v : View) → ShowsState s next v → last_out SLA (word_in v) places ≡ is_set (slice_index v.cells 0x7C) bit →
+    Goes (pieces.test_bit places v) 4 (end_of (is_set (status_of s) bit)) (ShowsState s next)
 shows places bit s next v h is =
     let b = is ∙ ap (λ (cells : List ℕ). is_set (slice_index cells 0x7C) bit) h.cells in
-    let g : Goes (pieces.test_bit places v) 4 (end_of (last_out SLA (word_in v) places)) (Sees s next) =
+    let g : Goes (pieces.test_bit places v) 4 (end_of (last_out SLA (word_in v) places)) (ShowsState s next) =
     told_goes 3 4 4 (last_out SLA (word_in v) places) (record v { r = record v.r { r4 = shifted SLA (word_in v) places } }) (omega arith) (omega arith)
     (sees_still s next (shifted SLA (word_in v) places) v h) in
-    subst (λ (c : Bool). Goes (pieces.test_bit places v) 4 (end_of c) (Sees s next)) b g
+    subst (λ (c : Bool). Goes (pieces.test_bit places v) 4 (end_of c) (ShowsState s next)) b g
 
 less_fits : (n : ℕ) → low n < 256
 less_fits n = omega arith
 
-tests : (o : Option GplOperation) → is_test o ≡ true → (s : GplState) (next : ℕ) (v : View) → Sees s next v → IsView v →
-    Goes (test o v) 4 (end_of (is_set (status_of s) (tested o))) (Sees s next)
+tests : (o : Option GplOperation) → is_test o ≡ true → (s : GplState) (next : ℕ) (v : View) → ShowsState s next v → IsView v →
+    Goes (test o v) 4 (end_of (is_set (status_of s) (tested o))) (ShowsState s next)
 tests (Some (Plain H)) e s next v h i = shows 1 0x80 s next v h (bit_out_1 (slice_index v.cells 0x7C) (low v.r.r4) (i.cells 0x7C) (less_fits v.r.r4))
 tests (Some (Plain GT)) e s next v h i = shows 2 0x40 s next v h (bit_out_2 (slice_index v.cells 0x7C) (low v.r.r4) (i.cells 0x7C) (less_fits v.r.r4))
 tests (Some (Plain CARRY)) e s next v h i = shows 4 0x10 s next v h (bit_out_4 (slice_index v.cells 0x7C) (low v.r.r4) (i.cells 0x7C) (less_fits v.r.r4))
 tests (Some (Plain OVF)) e s next v h i = shows 5 0x08 s next v h (bit_out_5 (slice_index v.cells 0x7C) (low v.r.r4) (i.cells 0x7C) (less_fits v.r.r4))
 tests _ e s next v h i = absurd (cc)
 
-module _ {x a : MachineState} {t u : ℕ} (name : PlainOp) (is : operation_seen (view x) ≡ Some (Plain name))
+module _ {x a : MachineState} {t u : ℕ} (name : PlainOp) (is : operation_in_view (view x) ≡ Some (Plain name))
     (at : AtDispatch is_test x) (first : Exits x a t u (test (Some (Plain name)) (view x))) where
   abbrev s : GplState
   s = state_at_dispatch (view x)
@@ -99,7 +99,7 @@ module _ {x a : MachineState} {t u : ℕ} (name : PlainOp) (is : operation_seen 
   abbrev flag : Bool
   flag = is_set (status_of s) (tested o)
 
-  at_flag : Comes 4 x a t u (end_of flag) (Sees s (behind_code s))
+  at_flag : ReachesWithin 4 x a t u (end_of flag) (ShowsState s (behind_code s))
   at_flag = comes first (tests o e s (behind_code s) (view x) at.dispatched.sees (is_view x at.stands.machine))
 
   pub test_told : IsTold a

@@ -2,7 +2,7 @@
 
 ghost use Rattle.std.specs.Prelude.{◌≡◌, Some, true};
 ghost use Rattle.sim_rows.specs.Prelude.{AtDispatch, AtEntry, Exits, most_to_dispatch, operation_entry};
-ghost use Rattle.sim_rows.specs.Prelude.{operation_seen, Plain, row_entry, RunsRow, Stands, state_at_dispatch};
+ghost use Rattle.sim_rows.specs.Prelude.{operation_in_view, Plain, row_entry, RunsRow, Stands, state_at_dispatch};
 ghost use Rattle.sim_rows.specs.Prelude.{Turned, view};
 ghost use Rattle.sim_compare.specs.Family.{comparison, is_compare, is_comparison, is_test, test};
 
@@ -14,7 +14,7 @@ use crate::pieces::{
 };
 use sim_rows::gpl::{GplOperation, OneName, PlainOp, TwoName};
 use sim_rows::processor::{Machine, Steps};
-use sim_rows::{Reason, Turn, operation_told, start_row};
+use sim_rows::{Reason, Turn, current_operation, start_row};
 use std::sync::ledger::Ledger;
 
 /// Runs the piece of a comparison.
@@ -62,7 +62,7 @@ fn test_status<L: Ledger>(machine: &mut Machine, steps: &mut Steps<L>, name: Pla
 /// Runs a test from its dispatch to the end of the step.
 fn run_test<L: Ledger>(machine: &mut Machine, steps: &mut Steps<L>, name: PlainOp) -> Turn
     requires at { AtDispatch is_test machine.old }
-    requires told { operation_seen (view machine.old) ≡ Some (Plain name) }
+    requires told { operation_in_view (view machine.old) ≡ Some (Plain name) }
     ensures { Turned (state_at_dispatch (view machine.old)) most_to_dispatch
         machine.old machine.new steps.old steps.new result }
 {
@@ -90,7 +90,7 @@ pub fn run_compare<L: Ledger>(machine: &mut Machine, steps: &mut Steps<L>) -> Tu
     ensures { Turned (state_at_dispatch (view machine.old)) most_to_dispatch
         machine.old machine.new steps.old steps.new result }
 {
-    match operation_told(machine) {
+    match current_operation(machine) {
         Some(GplOperation::Plain(name)) => run_test(machine, steps, name),
         Some(GplOperation::One(_)) => run_compare_row(machine, steps),
         Some(GplOperation::Two(_)) => run_compare_row(machine, steps),

@@ -3,7 +3,7 @@ use Rattle.std.proofs.Common.{ℕ, ◌%◌, ◌+◌, ◌-◌, ◌<◌, ◌==◌,
 use Rattle.std.proofs.Common.{subst, suc, sym, true}
 use Rattle.std.proofs.lemmas.Bool.{eqb-false, eqb-true, le-ltb, lt-ltb}
 use Rattle.std.proofs.Math.Nat.{pos_of_ne-zero}
-use Rattle.sim_rows.proofs.Common.{byte_from, byte_in, Changes, Comes, comes_as, COPY, Cpu, difference_of, From, FromGrom, FromMemory, GplState, grom_at}
+use Rattle.sim_rows.proofs.Common.{byte_from, byte_in, Changes, ReachesWithin, comes_as, COPY, Cpu, difference_of, From, FromGrom, FromMemory, GplState, grom_at}
 use Rattle.sim_rows.proofs.Common.{GromState, idle_grom, idle_told, idle_video, is_view, IsFetched, LoadsFrom, MachineState, marked_by, most_of_byte, next_at}
 use Rattle.sim_rows.proofs.Common.{next_from, next_in_grom, next_to, number_of_space, pick, Place, place_in, place_is, previous-next, previous_in_grom, Space}
 use Rattle.sim_rows.proofs.Common.{space_small, state_of, sum_of, To, ToMemory, ToRegisters, unchanged, Vdp, View, view, with_byte_in, with_byte_to, Word}
@@ -154,7 +154,7 @@ all_made c from to v k = by from k.stands_from
 -- ---- on the machine
 
 module _ {x y : MachineState} {t u : ℕ} (h : AtCopy x) (here : x.cpu.pc ≡ COPY) (some : ByRoutines (view x))
-    (goes : Comes most_of_byte x y t u y.cpu.pc (Counted (view x))) (there : y.cpu.pc ≡ (if (view y).r.r12 == 0 then COPYE else COPY)) where
+    (goes : ReachesWithin most_of_byte x y t u y.cpu.pc (Counted (view x))) (there : y.cpu.pc ≡ (if (view y).r.r12 == 0 then COPYE else COPY)) where
   abbrev v : View
   v = view x
 

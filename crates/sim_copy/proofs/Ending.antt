@@ -1,7 +1,7 @@
 -- The copy as a whole, and its end.
 use Rattle.std.proofs.Common.{ℕ, ◌*◌, ◌+◌, ◌<◌, ◌==◌, ◌∙◌, ◌≡◌, ◌≤◌, ap, arith, Bool, false, if◌then◌else◌, refl, subst, sym, true}
 use Rattle.std.proofs.lemmas.Bool.{ne_eqb}
-use Rattle.sim_rows.proofs.Common.{Changed, Changes, Comes, comes, comes_as, comes_on, comes_then, copied, EndsRow, Exit, Exits, From, GromState, idle_again}
+use Rattle.sim_rows.proofs.Common.{ShowsChanges, Changes, ReachesWithin, comes, comes_as, comes_on, comes_then, copied, EndsRow, Exit, Exits, From, GromState, idle_again}
 use Rattle.sim_rows.proofs.Common.{idle_grom, idle_told, idle_video, is_end, is_view, IsFetched, MachineState, MOVEB, PortsAreIdle, RESUME, SeesFinished, SHOW}
 use Rattle.sim_rows.proofs.Common.{Stands, To, View, view, with_pc}
 use Rattle.sim_jumps.specs.Jumps.{ResumesRow}
@@ -36,20 +36,20 @@ module _ {x a : MachineState} {t t1 : ℕ} (h : AtCopy x) (e : Exits x a t t1 (p
   pub idle_ended : PortsAreIdle a.cpu.memory
   idle_ended = idle_again x.cpu.memory a.cpu.memory (ap (λ (u : View). u.vdp) e.shows) (ap (λ (u : View). u.grom) e.shows) h.idle
 
-  led : (to : ℕ) → behind v.r.r5 ≡ to → Comes 3 x a t t1 to (λ u. u ≡ v)
+  led : (to : ℕ) → behind v.r.r5 ≡ to → ReachesWithin 3 x a t t1 to (λ u. u ≡ v)
   led to is = comes e (record { within = few (v.r.r5 == 2); to_is = is; holds = refl })
 
   module _ (y : MachineState) (t2 : ℕ) where
     pub ends_memory : a.cpu.pc ≡ SHOW → EndsRow a y t1 t2 → EndsCopy x y t t2
     ends_memory here row c (FromPlace near k) =
-        let changed : Changed c (view a) = subst (λ (u : View). Changed c u) (sym e.shows) k in
+        let changed : ShowsChanges c (view a) = subst (λ (u : View). ShowsChanges c u) (sym e.shows) k in
         comes_as 34 (SeesFinished c) (comes_on 3 28 (led SHOW (near_end v.r.r5 near)) (row c changed) refl) (omega arith) (λ w q. q)
     ends_memory here row c (OutOfGrom space back next k) = absurd (let p = e.stands.pc in let r = ap behind space in omega arith)
 
     pub ends_grom : (a.cpu.pc ≡ SHOW → ⊥) → ResumesRow a y t1 t2 → EndsCopy x y t t2
     ends_grom elsewhere row c (FromPlace near k) = absurd (elsewhere (e.stands.pc ∙ near_end v.r.r5 near))
     ends_grom elsewhere row c (OutOfGrom space back next k) =
-        let changed : Changed (with_pc next c) (view a) = subst (λ (u : View). Changed (with_pc next c) u) (sym e.shows) k in
+        let changed : ShowsChanges (with_pc next c) (view a) = subst (λ (u : View). ShowsChanges (with_pc next c) u) (sym e.shows) k in
         comes_on 3 31 (led RESUME (ap behind space)) (row c next changed (ap (λ (u : View). u.r.r14) e.shows ∙ back)) refl
 
 -- ---- the beginning, of two pieces
@@ -65,7 +65,7 @@ module _ {x y : MachineState} {s t : ℕ} (a : Exits x y s t (pieces.begin_copy 
       else first
 
   abbrev GoesTo : MachineState → ℕ → Exit → Type 0
-  GoesTo z u e = Comes e.count x z s u e.to (λ v. v ≡ e.left)
+  GoesTo z u e = ReachesWithin e.count x z s u e.to (λ v. v ≡ e.left)
 
   alone : GoesTo y t first
   alone = comes a (record { within = omega arith; to_is = refl; holds = refl })

@@ -1,6 +1,6 @@
 pub mod Paths
 pub mod Places
-pub mod Ways
+pub mod CopyPaths
 pub mod Routines
 pub mod Counting
 pub mod Turns

@@ -2,7 +2,7 @@
 use Rattle.std.proofs.Common.{[], ℕ, ◌+◌, ◌-◌, ◌<◌, ◌==◌, ◌∷◌, ◌≡◌, arith, Bool, false, if◌then◌else◌, List, nat_lt, refl, subst, sym, true}
 pub use Rattle.sim_rows.proofs.Common.{piece}
 use Rattle.sim_rows.proofs.Common.{CHARACTER, COPY, COPYN, COPYS, difference_of, Exit, exit, Leads, leads, LOAD, MOVEB, not_limit, Part, part_then, pick, Rest}
-use Rattle.sim_rows.proofs.Common.{RESUME, set_video_to, SHOW, spot_cell, STORE, sum_of, View, Word}
+use Rattle.sim_rows.proofs.Common.{RESUME, with_video_address, SHOW, spot_cell, STORE, sum_of, View, Word}
 use Rattle.sim_rows.specs.native_interp.declared.addresses.TheConstants.{COPYCC, COPYCV, COPYE, COPYGC, COPYGV, COPYVC, MOVEP, SETR, SETW, SETWA}
 use Rattle.sim_copy.specs.Bytes.{MayGo, Points}
 use Rattle.sim_copy.specs.Pieces.{CellsToCells, CellsToVideo, first_cell, GromToCells, GromToVideo, VideoToCells}
@@ -94,10 +94,10 @@ target_told : (v : View) → (v.r.r5 == 1) ≡ false → Part target_ends 6 v SE
 target_told v c = record { by = λ f. rw c refl }
 
 target_cells : (v : View) → (v.r.r5 == 0) ≡ true →
-    Rest target_ends 6 10 v SETWA (exit 11 COPYCV (pieces.from_cells (record v { vdp = set_video_to v.r.r4 v.vdp })))
+    Rest target_ends 6 10 v SETWA (exit 11 COPYCV (pieces.from_cells (record v { vdp = with_video_address v.r.r4 v.vdp })))
 target_cells v c = record { by = λ f. rw c refl }
 
-target_grom : (v : View) → (v.r.r5 == 0) ≡ false → Rest target_ends 6 10 v SETWA (exit 10 COPYGV (record v { vdp = set_video_to v.r.r4 v.vdp }))
+target_grom : (v : View) → (v.r.r5 == 0) ≡ false → Rest target_ends 6 10 v SETWA (exit 10 COPYGV (record v { vdp = with_video_address v.r.r4 v.vdp }))
 target_grom v c = record { by = λ f. rw c refl }
 
 pub set_target : (v : View) → Leads target_ends v SETW (pieces.set_target v)

@@ -5,12 +5,12 @@ use Rattle.sim_copy.specs.Copying.{Copying}
 use Rattle.sim_copy.specs.Bytes.{AllCopied, AtByte, AtEnd, AtHead, ByRoutines, charged, Copied, CopiesAt, CopyingAt, CopyingByRoutines, CopyingOnWay, MayGo}
 use Rattle.sim_copy.specs.Bytes.{OnWay, Points}
 use Rattle.sim_rows.specs.sim_operands.Pieces.{one_if}
-use Rattle.sim_copy.specs.Pieces.{CellsToCells, CellsToVideo, GromToCells, GromToVideo, head_of, VideoToCells, Way}
+use Rattle.sim_copy.specs.Pieces.{CellsToCells, CellsToVideo, GromToCells, GromToVideo, head_of, VideoToCells, CopyPath}
 use Rattle.sim_rows.specs.native_interp.declared.addresses.TheConstants.{COPYCC, COPYCV, COPYE, COPYGC, COPYGV, COPYVC}
 
 -- ---- the way of a place
 
-abbrev way_at : ℕ → Option Way
+abbrev way_at : ℕ → Option CopyPath
 way_at place =
     if place == COPYCC then Some CellsToCells
     else if place == COPYVC then Some VideoToCells
@@ -19,38 +19,38 @@ way_at place =
     else if place == COPYGV then Some GromToVideo
     else None
 
-pub each : (P : Way → Type 0) → P CellsToCells → P VideoToCells → P GromToCells → P CellsToVideo → P GromToVideo → (way : Way) → P way
+pub each : (P : CopyPath → Type 0) → P CellsToCells → P VideoToCells → P GromToCells → P CellsToVideo → P GromToVideo → (way : CopyPath) → P way
 each P a b c d e CellsToCells = a
 each P a b c d e VideoToCells = b
 each P a b c d e GromToCells = c
 each P a b c d e CellsToVideo = d
 each P a b c d e GromToVideo = e
 
-way_at_head : (way : Way) → way_at (head_of way) ≡ Some way
+way_at_head : (way : CopyPath) → way_at (head_of way) ≡ Some way
 way_at_head = each (λ way. way_at (head_of way) ≡ Some way) refl refl refl refl refl
 
-some_is : (a b : Way) → Some a ≡ Some b → a ≡ b
+some_is : (a b : CopyPath) → Some a ≡ Some b → a ≡ b
 some_is a b e = cc
 
-none_is : (a : Way) → Some a ≡ None → ⊥
+none_is : (a : CopyPath) → Some a ≡ None → ⊥
 none_is a e = cc
 
-one_way : (p : ℕ) (a b : Way) → p ≡ head_of a → p ≡ head_of b → a ≡ b
+one_way : (p : ℕ) (a b : CopyPath) → p ≡ head_of a → p ≡ head_of b → a ≡ b
 one_way p a b e f = some_is a b (sym (way_at_head a) ∙ ap way_at (sym e ∙ f) ∙ way_at_head b)
 
-no_way : (p : ℕ) (way : Way) → way_at p ≡ None → p ≡ head_of way → ⊥
+no_way : (p : ℕ) (way : CopyPath) → way_at p ≡ None → p ≡ head_of way → ⊥
 no_way p way n e = none_is way (sym (way_at_head way) ∙ ap way_at (sym e) ∙ n)
 
 module _ {p : ℕ} {v : View} where
-  pub may_go : CopiesAt p v → (way : Way) → p ≡ head_of way → MayGo way v
+  pub may_go : CopiesAt p v → (way : CopyPath) → p ≡ head_of way → MayGo way v
   may_go (AtByte e k) way f = absurd (no_way p way (ap way_at e) f)
-  may_go (AtHead a e k) way f = subst (λ (w : Way). MayGo w v) (one_way p a way e f) k
+  may_go (AtHead a e k) way f = subst (λ (w : CopyPath). MayGo w v) (one_way p a way e f) k
   may_go (AtEnd e z) way f = absurd (no_way p way (ap way_at e) f)
 
-  pub on_way : {c : Changes} {from : From} {to : To} {bytes : ℕ} → CopyingAt p c from to bytes v → (way : Way) → p ≡ head_of way → OnWay way c from to bytes v
+  pub on_way : {c : Changes} {from : From} {to : To} {bytes : ℕ} → CopyingAt p c from to bytes v → (way : CopyPath) → p ≡ head_of way → OnWay way c from to bytes v
   on_way (CopyingByRoutines e k) way f = absurd (no_way p way (ap way_at e) f)
   on_way {c = c} {from = from} {to = to} {bytes = bytes} (CopyingOnWay a e k) way f =
-      subst (λ (w : Way). OnWay w c from to bytes v) (one_way p a way e f) k
+      subst (λ (w : CopyPath). OnWay w c from to bytes v) (one_way p a way e f) k
   on_way (AllCopied e z k) way f = absurd (no_way p way (ap way_at e) f)
 
   pub copying_by_routines : {c : Changes} {from : From} {to : To} {bytes : ℕ} → CopyingAt p c from to bytes v → p ≡ COPY → Copying c from to bytes v
@@ -65,13 +65,13 @@ module _ {p : ℕ} {v : View} where
 
 -- ---- how many bytes are left
 
-pub some_left : (way : Way) (v : View) → MayGo way v → 0 < v.r.r12
+pub some_left : (way : CopyPath) (v : View) → MayGo way v → 0 < v.r.r12
 some_left way v =
     each (λ way. MayGo way v → 0 < v.r.r12) (λ k. k.0.some) (λ (k : Points v.r.r7 v.r.r12). k.some) (λ (k : Points v.r.r7 v.r.r12). k.some)
     (λ (k : Points v.r.r2 v.r.r12). k.some) (λ k. k) way
 
 -- a byte is left, and it does not go on a way
-pub at_byte : (p : ℕ) (v : View) → CopiesAt p v → 0 < v.r.r12 → ((way : Way) → p ≡ head_of way → ⊥) → (p ≡ COPY) × ByRoutines v
+pub at_byte : (p : ℕ) (v : View) → CopiesAt p v → 0 < v.r.r12 → ((way : CopyPath) → p ≡ head_of way → ⊥) → (p ≡ COPY) × ByRoutines v
 at_byte p v (AtByte e k) some f = (e, k)
 at_byte p v (AtHead way e k) some f = absurd (f way e)
 at_byte p v (AtEnd e z) some f = absurd (omega arith)
@@ -82,7 +82,7 @@ at_end p v (AtByte e k) z = absurd (let s = k.some in omega arith)
 at_end p v (AtHead way e k) z = absurd (let s = some_left way v k in omega arith)
 at_end p v (AtEnd e n) z = e
 
-head_runs : (way : Way) → is_end (head_of way) ≡ false
+head_runs : (way : CopyPath) → is_end (head_of way) ≡ false
 head_runs = each (λ way. is_end (head_of way) ≡ false) refl refl refl refl refl
 
 pub runs_on : (p : ℕ) (v : View) → CopiesAt p v → is_end p ≡ false

@@ -1,7 +1,7 @@
 -- A byte that LOAD and STORE copy.
 use Rattle.std.proofs.Common.{ℕ, ◌<◌, ◌==◌, ◌∙◌, ◌≡◌, ap, arith, Bool, false, if◌then◌else◌, List, nat_lt, not, refl, subst, sym}
 use Rattle.std.proofs.lemmas.Bool.{ltb-false, ltb-true}
-use Rattle.sim_rows.proofs.Common.{byte_from, Changes, Comes, comes, comes_as, comes_on, comes_then, COPY, COPYN, COPYS, Cpu, difference_of, Exits, From}
+use Rattle.sim_rows.proofs.Common.{byte_from, Changes, ReachesWithin, comes, comes_as, comes_on, comes_then, COPY, COPYN, COPYS, Cpu, difference_of, Exits, From}
 use Rattle.sim_rows.proofs.Common.{FromGrom, FromMemory, GplState, grom_at, GromState, high, idle_again, idle_grom, idle_told, idle_video, in_register}
 use Rattle.sim_rows.proofs.Common.{IsFetched, IsVisible, join, LOAD, Loaded, LoadsStream, LoadsValue, MachineState, marked_by, Memory, most_of_byte}
 use Rattle.sim_rows.proofs.Common.{most_of_load, most_of_store, next_at, next_in_grom, of_register, pick, Place, place_in, PortsAreIdle, return_of, Space}
@@ -95,11 +95,11 @@ stream_read v w one e =
 
 loads : (a b : MachineState) (t u : ℕ) → (view a).r.r3 ≡ 1 → IsFetched a.cpu.memory.grom → ((view a).r.r5 < 2 → LoadsValue a b t u) →
     (1 < (view a).r.r5 → IsFetched a.cpu.memory.grom → LoadsStream a b t u)
-    → Comes most_of_load a b t u (return_of (view a)) (ReadFrom (view a) (source_in (view a)))
+    → ReachesWithin most_of_load a b t u (return_of (view a)) (ReadFrom (view a) (source_in (view a)))
 loads a b t u one fetched near far =
     let v : View = view a in
     let place : Place = place_in v.r.r5 v.r.r2 in
-    let to : Bool → Type 0 = λ c. Comes most_of_load a b t u (return_of v) (ReadFrom v (if c then FromMemory place else FromGrom (next_at v))) in
+    let to : Bool → Type 0 = λ c. ReachesWithin most_of_load a b t u (return_of v) (ReadFrom v (if c then FromMemory place else FromGrom (next_at v))) in
     pick (nat_lt v.r.r5 2)
     (λ c. subst to (sym c) (comes_as 15 (ReadFrom v (FromMemory place)) (near (ltb-true v.r.r5 2 c)) (omega arith) (λ w l. value_read v w place one l)))
     (λ c. let above : 1 < v.r.r5 = let le = ltb-false v.r.r5 2 c in omega arith in
@@ -117,14 +117,14 @@ abbrev pub stored_in : View → Changes
 stored_in v = with_byte_to (target_in v) (high v.r.r9) (unchanged (state_of v))
 
 stores : (a b : MachineState) (t u : ℕ) → (view a).r.r3 ≡ 1 → (1 < (view a).r.r8 → (view a).r.r7 < 8) → ((view a).r.r8 < 2 → StoresValue a b t u) →
-    (1 < (view a).r.r8 → (view a).r.r7 < 8 → StoresRegister a b t u) → Comes most_of_store a b t u (return_of (view a)) (Stored (view a) (stored_in (view a)))
+    (1 < (view a).r.r8 → (view a).r.r7 < 8 → StoresRegister a b t u) → ReachesWithin most_of_store a b t u (return_of (view a)) (Stored (view a) (stored_in (view a)))
 stores a b t u one there near far =
     let v : View = view a in
     let place : Place = place_in v.r.r8 v.r.r7 in
     let number : ℕ = high v.r.r9 in
-    let to : Bool → Type 0 = λ c. Comes most_of_store a b t u (return_of v)
+    let to : Bool → Type 0 = λ c. ReachesWithin most_of_store a b t u (return_of v)
     (Stored v (with_byte_to (if c then ToMemory place else ToRegisters v.r.r7) number (unchanged (state_of v)))) in
-    let by : ℕ → Type 0 = λ n. Comes most_of_store a b t u (return_of v)
+    let by : ℕ → Type 0 = λ n. ReachesWithin most_of_store a b t u (return_of v)
     (Stored v (with_value (width_in n) place (of_register (width_in n) v.r.r9) (unchanged (state_of v)))) in
     pick (nat_lt v.r.r8 2)
     (λ c. subst to (sym c) (subst by one (near (ltb-true v.r.r8 2 c))))
@@ -177,8 +177,8 @@ module _ {x a : MachineState} {t t1 : ℕ} (h : AtCopy x) (left : ByRoutines (vi
 
   module _ {b : MachineState} {t2 : ℕ} (near : (view a).r.r5 < 2 → LoadsValue a b t1 t2) (far : 1 < (view a).r.r5 → IsFetched a.cpu.memory.grom →
       LoadsStream a b t1 t2) where
-    loaded : Comes most_of_load a b t1 t2 COPYS (ReadFrom (view a) (source_in (view a)))
-    loaded = subst (λ (p : ℕ). Comes most_of_load a b t1 t2 p (ReadFrom (view a) (source_in (view a)))) (ap return_of e.shows)
+    loaded : ReachesWithin most_of_load a b t1 t2 COPYS (ReadFrom (view a) (source_in (view a)))
+    loaded = subst (λ (p : ℕ). ReachesWithin most_of_load a b t1 t2 p (ReadFrom (view a) (source_in (view a)))) (ap return_of e.shows)
         (loads a b t1 t2 one_asked fetched_asked near far)
 
     pub stands_read : Stands b COPYS
@@ -226,8 +226,8 @@ module _ {x a : MachineState} {t t1 : ℕ} (h : AtCopy x) (left : ByRoutines (vi
 
       module _ {k : MachineState} {t4 : ℕ} (value : (view d).r.r8 < 2 → StoresValue d k t3 t4) (register : 1 < (view d).r.r8 →
           (view d).r.r7 < 8 → StoresRegister d k t3 t4) where
-        stored : Comes most_of_store d k t3 t4 COPYN (Stored (view d) (stored_in (view d)))
-        stored = subst (λ (p : ℕ). Comes most_of_store d k t3 t4 p (Stored (view d) (stored_in (view d)))) (ap return_of seen_d)
+        stored : ReachesWithin most_of_store d k t3 t4 COPYN (Stored (view d) (stored_in (view d)))
+        stored = subst (λ (p : ℕ). ReachesWithin most_of_store d k t3 t4 p (Stored (view d) (stored_in (view d)))) (ap return_of seen_d)
             (stores d k t3 t4 one_storing there value register)
 
         pub stands_stored : Stands k COPYN
@@ -267,11 +267,11 @@ module _ {x a : MachineState} {t t1 : ℕ} (h : AtCopy x) (left : ByRoutines (vi
                 is = seen_y;
               }
 
-          pub goes : Comes most_of_byte x y t t5 y.cpu.pc (Counted v)
+          pub goes : ReachesWithin most_of_byte x y t t5 y.cpu.pc (Counted v)
           goes =
-              let c1 : Comes 1 x a t t1 LOAD (λ u. u ≡ asked v) = comes e (record { within = omega arith; to_is = refl; holds = refl }) in
+              let c1 : ReachesWithin 1 x a t t1 LOAD (λ u. u ≡ asked v) = comes e (record { within = omega arith; to_is = refl; holds = refl }) in
               let c2 = comes_on 1 15 c1 loaded refl in
-              let c3 : Comes 18 x d t t3 STORE (λ u. u ≡ (pieces.store_byte (view b)).left) =
+              let c3 : ReachesWithin 18 x d t t3 STORE (λ u. u ≡ (pieces.store_byte (view b)).left) =
               comes_then 16 2 c2 e3 (record { within = omega arith; to_is = refl; holds = refl }) refl in
               let c4 = comes_on 18 15 c3 stored refl in
               comes_then 33 4 c4 e5 (record { within = omega arith; to_is = sym e5.stands.pc; holds = subst (Counted v) e5.shows counted }) refl

@@ -5,7 +5,7 @@ use Rattle.std.proofs.lemmas.Bool.{eqb-false, eqb-true, le-ltb, ltb-true}
 use Rattle.std.proofs.Math.Nat.{pos_of_ne-zero}
 use Rattle.sim_rows.proofs.Common.{Changes, CHARACTER, copied, COPY, Cpu, difference_of, Exit, exit, From, FromGrom, FromMemory, grom_at, GromState, high}
 use Rattle.sim_rows.proofs.Common.{IsFetched, IsView, join, low, marked_by, next_at, next_in_vdp, no_other, NoOperation, pair_kind, PairKind, pick, place_in}
-use Rattle.sim_rows.proofs.Common.{ReadSetup, RegisterWrite, set_video_to, sum_of, To, ToMemory, ToRegisters, Vdp, VdpState, View, Word, WriteSetup}
+use Rattle.sim_rows.proofs.Common.{ReadSetup, RegisterWrite, with_video_address, sum_of, To, ToMemory, ToRegisters, Vdp, VdpState, View, Word, WriteSetup}
 use Rattle.sim_copy.specs.Copying.{Copying, StandsFrom, StandsTo}
 use Rattle.sim_copy.proofs.Counting.{all_made, source_is, target_is}
 use Rattle.sim_copy.proofs.Marks.{cells_mark, video_mark}
@@ -14,7 +14,7 @@ use Rattle.sim_copy.proofs.Routines.{source_in, target_in}
 use Rattle.sim_copy.specs.Bytes.{AllCopied, AtByte, AtEnd, AtHead, charged, CopiesAt, CopyingAt, CopyingByRoutines, CopyingOnWay, from_on, GoesBack}
 use Rattle.sim_copy.specs.Bytes.{in_memory, MayGo, Points, seen, seen_on, to_memory, to_on}
 use Rattle.sim_copy.specs.Pieces.{by_routines, CellsToCells, CellsToVideo, first_cell, from_cells, GromToCells, GromToVideo, head_of, is_marked, pointed_at}
-use Rattle.sim_copy.specs.Pieces.{set_source, start_copy, target_set, video_at, VideoToCells, Way}
+use Rattle.sim_copy.specs.Pieces.{set_source, start_copy, target_set, video_at, VideoToCells, CopyPath}
 use Rattle.sim_rows.specs.sim_operands.Pieces.{one_if}
 use Rattle.sim_rows.specs.native_interp.declared.addresses.TheConstants.{COPYCC, COPYCV, COPYE, COPYGC, COPYGV, COPYVC}
 
@@ -39,10 +39,10 @@ cut : (address : ℕ) → address < 65536 → video_at address ≡ address % 163
 cut address k = omega arith
 
 reads_at : (vdp : VdpState) (at : ℕ) → vdp.held ≡ None → at < 16384 →
-    set_video_to at vdp ≡ record vdp { address = next_in_vdp at; fetched = slice_index vdp.memory at }
+    with_video_address at vdp ≡ record vdp { address = next_in_vdp at; fetched = slice_index vdp.memory at }
 reads_at vdp at h k = rw (h, read_kind at k, read_pair at k) refl
 
-writes_at : (vdp : VdpState) (at : ℕ) → vdp.held ≡ None → at < 16384 → set_video_to (sum_of Word at 0x4000) vdp ≡ record vdp { address = at }
+writes_at : (vdp : VdpState) (at : ℕ) → vdp.held ≡ None → at < 16384 → with_video_address (sum_of Word at 0x4000) vdp ≡ record vdp { address = at }
 writes_at vdp at h k = rw (h, write_kind at k, write_pair at k) refl
 
 -- ---- what is seen
@@ -69,7 +69,7 @@ pub record Starts (v : View) (e : Exit) : Type 0 where
   pub left : e.left.r.r12 ≡ v.r.r12
   pub copying : (c : Changes) → (from : From) → (to : To) → (bytes : ℕ) → Copying c from to bytes v → CopyingAt e.to c from to bytes e.left
 
-head_charged : (way : Way) → charged (head_of way) ≡ 11
+head_charged : (way : CopyPath) → charged (head_of way) ≡ 11
 head_charged = each (λ way. charged (head_of way) ≡ 11) refl refl refl refl refl
 
 module _ (v : View) (i : IsView v) (held : v.vdp.held ≡ None) (fetched : IsFetched v.grom) (some : 0 < v.r.r12) where
@@ -90,7 +90,7 @@ module _ (v : View) (i : IsView v) (held : v.vdp.held ≡ None) (fetched : IsFet
       (ap (λ (u : View). u.vdp.held) same ∙ held) (ap (λ (u : View). u.grom) same ∙ grom) f g (ap (λ (u : View). u.r.r12) same ∙ k.left) m a b
 
   -- a copy that has come to its way
-  on_way : (way : Way) (count : ℕ) (w : View) (source : ℕ) → count ≤ 18 → MayGo way w → Same w → source_in v ≡ from_on way source →
+  on_way : (way : CopyPath) (count : ℕ) (w : View) (source : ℕ) → count ≤ 18 → MayGo way w → Same w → source_in v ≡ from_on way source →
       target_in v ≡ to_on way v.r.r7 →
       ((c : Changes) → (bytes : ℕ) → Copying c (from_on way source) (to_on way v.r.r7) bytes v → GoesBack c (from_on way source) w
       × (w ≡ seen_on way w c bytes (marked_by (copied bytes (from_on way source) (to_on way v.r.r7) c).shows 0) source v.r.r7)) →
@@ -180,7 +180,7 @@ module _ (v : View) (i : IsView v) (held : v.vdp.held ≡ None) (fetched : IsFet
         let w : View = (set_source (pointed_at v)).left in
         let at : ℕ = v.r.r2 % 16384 in
         let set : w.vdp ≡ record v.vdp { address = next_in_vdp at; fetched = slice_index v.vdp.memory at } =
-        ap (λ n. set_video_to n v.vdp) (cut v.r.r2 (i.r 2)) ∙ reads_at v.vdp at held (omega arith) in
+        ap (λ n. with_video_address n v.vdp) (cut v.r.r2 (i.r 2)) ∙ reads_at v.vdp at held (omega arith) in
         let same = ap (λ (d : VdpState). record w { vdp = d }) (set ∙ ap kept (sym set)) in
         on_way VideoToCells (12 + marking + 5) w v.r.r2 (let m = one_at_most (is_marked v) in omega arith) to_pointer same (source_video e)
         (target_cells target)
@@ -202,7 +202,7 @@ module _ (v : View) (i : IsView v) (held : v.vdp.held ≡ None) (fetched : IsFet
 
   module _ (target : v.r.r8 ≡ 1) where
     set : (target_set v).vdp ≡ record v.vdp { address = v.r.r7 % 16384 }
-    set = ap (λ n. set_video_to (sum_of Word n 0x4000) v.vdp) (cut v.r.r7 (i.r 7)) ∙ writes_at v.vdp (v.r.r7 % 16384) held (omega arith)
+    set = ap (λ n. with_video_address (sum_of Word n 0x4000) v.vdp) (cut v.r.r7 (i.r 7)) ∙ writes_at v.vdp (v.r.r7 % 16384) held (omega arith)
 
     address_set : (target_set v).vdp.address ≡ v.r.r7 % 16384
     address_set = ap (λ (d : VdpState). d.address) set

@@ -1,6 +1,6 @@
 -- The bytes of the copy, one after the other.
 use Rattle.std.proofs.Common.{ℕ, ◌*◌, ◌+◌, ◌<◌, ◌∙◌, ◌≡◌, ◌≤◌, ap, arith, refl, subst, suc, sym, zero}
-use Rattle.sim_rows.proofs.Common.{begins, byte_from, Changes, Comes, comes_on, copied, From, MachineState, next_from, next_to, To, view, with_byte_to}
+use Rattle.sim_rows.proofs.Common.{begins, byte_from, Changes, ReachesWithin, comes_on, copied, From, MachineState, next_from, next_to, To, view, with_byte_to}
 use Rattle.sim_copy.proofs.Places.{all_copied, at_end, runs_on}
 use Rattle.sim_copy.specs.Bytes.{AtCopy, charged, Copied, CopiesByte, CopiesRest, CopyingAt}
 use Rattle.sim_rows.specs.native_interp.declared.addresses.TheConstants.{COPYE}
@@ -19,7 +19,7 @@ pub record Turns (made : ℕ) (x z : MachineState) (t u : ℕ) : Type 0 where
   pub at : AtCopy z
   pub left : (view z).r.r12 + made ≡ (view x).r.r12
   pub most : ℕ
-  pub comes : Comes most x z t u z.cpu.pc (λ v. Unit {0})
+  pub comes : ReachesWithin most x z t u z.cpu.pc (λ v. Unit {0})
   pub within : most + charged x.cpu.pc ≤ 37 * made + charged z.cpu.pc
   pub rest : (c : Changes) → (from : From) → (to : To) → (bytes : ℕ) → CopyingAt x.cpu.pc c from to bytes (view x) → (view x).r.r12 ≡ bytes
       → Rest (copied bytes from to c) z
@@ -77,7 +77,7 @@ module _ (x z : MachineState) (t u : ℕ) (h : Turns (view x).r.r12 x z t u) whe
   pub copies_rest : CopiesRest x z t u
   copies_rest = record {
     most = h.most;
-    comes = subst (λ (p : ℕ). Comes h.most x z t u p (λ v. Unit {0})) there h.comes;
+    comes = subst (λ (p : ℕ). ReachesWithin h.most x z t u p (λ v. Unit {0})) there h.comes;
     within = let none : charged z.cpu.pc ≡ 0 = ap charged there in let a = h.within in omega arith;
     copies = λ c from to bytes k left.
         let r = h.rest c from to bytes k left in

@@ -1,12 +1,12 @@
 -- Where the copy of MOVE stands at each byte, one byte of it, the bytes that are left, and the end.
 use Rattle.std.specs.Prelude.{ℕ, ◌%◌, ◌*◌, ◌+◌, ◌-◌, ◌<◌, ◌==◌, ◌≡◌, ◌≤◌, if◌then◌else◌, None, slice_index, suc}
-use Rattle.sim_rows.specs.Prelude.{byte_from, Changed, Changes, Comes, copied, COPY, Cpu, From, FromGrom, FromMemory}
+use Rattle.sim_rows.specs.Prelude.{byte_from, ShowsChanges, Changes, ReachesWithin, copied, COPY, Cpu, From, FromGrom, FromMemory}
 use Rattle.sim_rows.specs.Prelude.{grom_at, GSTEP, IsFetched, MachineState, marked_by, next_from, next_in_vdp, next_to}
 use Rattle.sim_rows.specs.Prelude.{PortsAreIdle, SeesFinished, Space, Stands, To, ToMemory, Vdp, View, view}
 use Rattle.sim_rows.specs.Prelude.{VISIBLE_CELLS, with_byte_to, with_pc}
 use Rattle.sim_copy.specs.Copying.{Copying}
 use Rattle.sim_copy.specs.Pieces.{CellsToCells, CellsToVideo, first_cell, GromToCells, GromToVideo, head_of}
-use Rattle.sim_copy.specs.Pieces.{start_copy, VideoToCells, Way}
+use Rattle.sim_copy.specs.Pieces.{start_copy, VideoToCells, CopyPath}
 use Rattle.sim_rows.specs.sim_view.Bounds.{most_of_byte}
 use Rattle.sim_rows.specs.native_interp.declared.addresses.TheConstants.{COPYE}
 
@@ -17,7 +17,7 @@ pub record Points (pointer bytes : ℕ) : Type 0 where
   pub some : 0 < bytes
 
 -- The bytes that are left may go on a way.
-abbrev pub MayGo : Way → View → Type 0
+abbrev pub MayGo : CopyPath → View → Type 0
 MayGo CellsToCells v = Points v.r.r2 v.r.r12 × Points v.r.r7 v.r.r12
 MayGo VideoToCells v = Points v.r.r7 v.r.r12
 MayGo GromToCells v = Points v.r.r7 v.r.r12
@@ -36,7 +36,7 @@ pub record ByRoutines (v : View) : Type 0 where
 -- Where a byte is copied: at COPY by the routines, or at the head of its way; with none left, at COPYE.
 pub data CopiesAt (place : ℕ) (v : View) : Type 0 where
   AtByte : place ≡ COPY → ByRoutines v → CopiesAt place v
-  AtHead : (way : Way) → place ≡ head_of way → MayGo way v → CopiesAt place v
+  AtHead : (way : CopyPath) → place ≡ head_of way → MayGo way v → CopiesAt place v
   AtEnd : place ≡ COPYE → v.r.r12 ≡ 0 → CopiesAt place v
 
 -- Where a byte is copied, or the copy ends.
@@ -52,14 +52,14 @@ in_memory space address = FromMemory (record { space = space; address = address 
 abbrev pub to_memory : Space → ℕ → To
 to_memory space address = ToMemory (record { space = space; address = address })
 
-abbrev pub from_on : Way → ℕ → From
+abbrev pub from_on : CopyPath → ℕ → From
 from_on CellsToCells address = in_memory Cpu address
 from_on VideoToCells address = in_memory Vdp address
 from_on GromToCells address = FromGrom address
 from_on CellsToVideo address = in_memory Cpu address
 from_on GromToVideo address = FromGrom address
 
-abbrev pub to_on : Way → ℕ → To
+abbrev pub to_on : CopyPath → ℕ → To
 to_on CellsToCells address = to_memory Cpu address
 to_on VideoToCells address = to_memory Cpu address
 to_on GromToCells address = to_memory Cpu address
@@ -83,7 +83,7 @@ seen v c bytes mark source target address byte next =
       grom = grom_at c.state.image next;
     }
 
-abbrev pub seen_on : Way → View → Changes → ℕ → ℕ → ℕ → ℕ → View
+abbrev pub seen_on : CopyPath → View → Changes → ℕ → ℕ → ℕ → ℕ → View
 seen_on CellsToCells v c bytes mark from to =
     seen v c bytes mark (first_cell + from) (first_cell + to) v.vdp.address v.vdp.fetched c.state.pc
 seen_on VideoToCells v c bytes mark from to =
@@ -102,7 +102,7 @@ GoesBack c (FromMemory place) v = v.r.r5 < 2
 GoesBack c (FromGrom address) v = (v.r.r5 ≡ 2) × (v.r.r14 ≡ c.state.pc)
 
 -- A copy stands on a way. Its mark is there before the bytes are.
-pub record OnWay (way : Way) (c : Changes) (from : From) (to : To) (bytes : ℕ) (v : View) : Type 0 where
+pub record OnWay (way : CopyPath) (c : Changes) (from : From) (to : To) (bytes : ℕ) (v : View) : Type 0 where
   pub base : View
   pub source : ℕ
   pub target : ℕ
@@ -113,13 +113,13 @@ pub record OnWay (way : Way) (c : Changes) (from : From) (to : To) (bytes : ℕ)
 
 -- All bytes are copied, from a place in memory or out of GROM.
 pub data Copied (c : Changes) (v : View) : Type 0 where
-  FromPlace : v.r.r5 < 2 → Changed c v → Copied c v
-  OutOfGrom : v.r.r5 ≡ 2 → v.r.r14 ≡ c.state.pc → (next : ℕ) → Changed (with_pc next c) v → Copied c v
+  FromPlace : v.r.r5 < 2 → ShowsChanges c v → Copied c v
+  OutOfGrom : v.r.r5 ≡ 2 → v.r.r14 ≡ c.state.pc → (next : ℕ) → ShowsChanges (with_pc next c) v → Copied c v
 
 -- A copy stands at a place.
 pub data CopyingAt (place : ℕ) (c : Changes) (from : From) (to : To) (bytes : ℕ) (v : View) : Type 0 where
   CopyingByRoutines : place ≡ COPY → Copying c from to bytes v → CopyingAt place c from to bytes v
-  CopyingOnWay : (way : Way) → place ≡ head_of way → OnWay way c from to bytes v → CopyingAt place c from to bytes v
+  CopyingOnWay : (way : CopyPath) → place ≡ head_of way → OnWay way c from to bytes v → CopyingAt place c from to bytes v
   AllCopied : place ≡ COPYE → bytes ≡ 0 → Copied c v → CopyingAt place c from to bytes v
 
 -- How many instructions of the beginning the first byte of a way is charged with.
@@ -129,14 +129,14 @@ charged place = if place == COPY then 0 else if place == COPYE then 0 else 11
 -- The copy begins.
 abbrev pub StartsCopy : MachineState → MachineState → ℕ → ℕ → Type 0
 StartsCopy x y before after =
-    let begun = start_copy (view x) in Comes begun.count x y before after begun.to (λ v. v ≡ begun.left)
+    let begun = start_copy (view x) in ReachesWithin begun.count x y before after begun.to (λ v. v ≡ begun.left)
 
 -- A byte is copied, and the machine is where the next one is.
 pub record CopiesByte (x y : MachineState) (before after : ℕ) : Type 0 where
   pub at : AtCopy y
   pub left : (view y).r.r12 ≡ (view x).r.r12 - 1
   pub most : ℕ
-  pub comes : Comes most x y before after y.cpu.pc (λ v. Unit {0})
+  pub comes : ReachesWithin most x y before after y.cpu.pc (λ v. Unit {0})
   pub within : most + charged x.cpu.pc ≤ most_of_byte + charged y.cpu.pc
   pub copies : (c : Changes) → (from : From) → (to : To) → (bytes : ℕ)
       → CopyingAt x.cpu.pc c from to (suc bytes) (view x)
@@ -145,7 +145,7 @@ pub record CopiesByte (x y : MachineState) (before after : ℕ) : Type 0 where
 -- All bytes are copied that are left.
 pub record CopiesRest (x y : MachineState) (before after : ℕ) : Type 0 where
   pub most : ℕ
-  pub comes : Comes most x y before after COPYE (λ v. Unit {0})
+  pub comes : ReachesWithin most x y before after COPYE (λ v. Unit {0})
   pub within : most + charged x.cpu.pc ≤ most_of_byte * (view x).r.r12
   pub copies : (c : Changes) → (from : From) → (to : To) → (bytes : ℕ)
       → CopyingAt x.cpu.pc c from to bytes (view x) → (view x).r.r12 ≡ bytes
@@ -154,4 +154,4 @@ pub record CopiesRest (x y : MachineState) (before after : ℕ) : Type 0 where
 -- The step ends with what was copied.
 abbrev pub EndsCopy : MachineState → MachineState → ℕ → ℕ → Type 0
 EndsCopy x y before after =
-    (c : Changes) → Copied c (view x) → Comes 34 x y before after GSTEP (SeesFinished c)
+    (c : Changes) → Copied c (view x) → ReachesWithin 34 x y before after GSTEP (SeesFinished c)

@@ -2,7 +2,7 @@
 -- view, in the words of the processor. Registers, cells and ports that are not named stay.
 use Rattle.std.specs.Prelude.{ℕ, ◌+◌, ◌-◌, ◌==◌, Bool, if◌then◌else◌, nat_lt, slice_index, slice_set}
 use Rattle.sim_rows.specs.Prelude.{CHARACTER, COPY, COPYN, COPYS, difference_of, Exit, exit, LOAD, past, RESUME}
-use Rattle.sim_rows.specs.Prelude.{set_video_to, shifted, SHOW, SLA, SRL, STORE, sum_of, vdp_data_written, View, Word}
+use Rattle.sim_rows.specs.Prelude.{with_video_address, shifted, SHOW, SLA, SRL, STORE, sum_of, vdp_data_written, View, Word}
 use Rattle.sim_rows.specs.sim_operands.Pieces.{one_if, past_video}
 use Rattle.sim_rows.specs.native_interp.declared.addresses.TheConstants.{COPYCC, COPYCV, COPYE, COPYGC, COPYGV}
 use Rattle.sim_rows.specs.native_interp.declared.addresses.TheConstants.{COPYVC, SETR, SETW}
@@ -56,13 +56,13 @@ video_at address = shifted SRL (shifted SLA address 2) 2
 abbrev pub set_source : View → Exit
 set_source v =
     let at = video_at v.r.r2 in
-    exit 5 COPYVC (record v { r = record v.r { r4 = at }; vdp = set_video_to at v.vdp })
+    exit 5 COPYVC (record v { r = record v.r { r4 = at }; vdp = with_video_address at v.vdp })
 
 -- SETW: the video processor is set to the target, for writing, but for a source in video memory too.
 abbrev pub target_set : View → View
 target_set v =
     let at = sum_of Word (video_at v.r.r7) 0x4000 in
-    record v { r = record v.r { r4 = at }; vdp = set_video_to at v.vdp }
+    record v { r = record v.r { r4 = at }; vdp = with_video_address at v.vdp }
 
 abbrev pub set_target : View → Exit
 set_target v =
@@ -82,15 +82,15 @@ start_copy v =
     else begun
 
 -- The ways on which a byte goes by one instruction.
-pub data Way : Type 0 where
-  CellsToCells : Way
-  VideoToCells : Way
-  GromToCells : Way
-  CellsToVideo : Way
-  GromToVideo : Way
+pub data CopyPath : Type 0 where
+  CellsToCells : CopyPath
+  VideoToCells : CopyPath
+  GromToCells : CopyPath
+  CellsToVideo : CopyPath
+  GromToVideo : CopyPath
 
 -- where a byte goes so
-abbrev pub head_of : Way → ℕ
+abbrev pub head_of : CopyPath → ℕ
 head_of CellsToCells = COPYCC
 head_of VideoToCells = COPYVC
 head_of GromToCells = COPYGC
@@ -115,7 +115,7 @@ in_cell byte v =
 abbrev pub in_video : ℕ → View → View
 in_video byte v = record v { vdp = vdp_data_written v.vdp byte }
 
-abbrev pub byte_moved : Way → View → View
+abbrev pub byte_moved : CopyPath → View → View
 byte_moved CellsToCells v = in_cell (cell_read v) (past_cell v)
 byte_moved VideoToCells v = in_cell v.vdp.fetched (record v { vdp = past_video v.vdp })
 byte_moved GromToCells v = in_cell v.grom.fetched (record v { grom = past v.grom })
@@ -123,7 +123,7 @@ byte_moved CellsToVideo v = in_video (cell_read v) (past_cell v)
 byte_moved GromToVideo v = in_video v.grom.fetched (record v { grom = past v.grom })
 
 -- COPYCC and its like: a byte goes, and the next one, or COPYE behind the last.
-abbrev pub copy_on : Way → View → Exit
+abbrev pub copy_on : CopyPath → View → Exit
 copy_on way v =
     let left = difference_of Word v.r.r12 1 in
     let moved = byte_moved way v in

@@ -1,9 +1,9 @@
 -- BR and BS from their dispatch to the end of the step.
 use Rattle.std.proofs.Common.{ℕ, ◌%◌, ◌<◌, ◌∙◌, ◌≡◌, ◌≤◌, ap, arith, Bool, false, if◌then◌else◌, List, not, Ok, refl, slice_index, slice_set, Some, subst, true}
-use Rattle.sim_rows.proofs.Common.{behind_code, bound, bound_made, BRANCH, Branch, branched, BTARG, Byte, CFALSE, Changes, code_byte, Comes, comes, comes_on}
+use Rattle.sim_rows.proofs.Common.{behind_code, bound, bound_made, BRANCH, Branch, branched, BTARG, Byte, CFALSE, Changes, code_byte, ReachesWithin, comes, comes_on}
 use Rattle.sim_rows.proofs.Common.{comes_then, condition, Dispatched, exclusive_or_of, Exits, finished, Goes, goes_in, GplState, GromState, GSTEP, high}
 use Rattle.sim_rows.proofs.Common.{in_grom_of, is_end, is_set, is_taken, is_view, IsView, join, last_out, MachineState, matches, most_to_dispatch, next_in_grom}
-use Rattle.sim_rows.proofs.Common.{ones_cleared, operation_in, past, reaches, Sees, SeesFinished, SRL, Stands, step_branch, Stepped, TAKE, Turned, turned_by}
+use Rattle.sim_rows.proofs.Common.{ones_cleared, operation_in, past, reaches, ShowsState, SeesFinished, SRL, Stands, step_branch, Stepped, TAKE, Turned, turned_by}
 use Rattle.sim_rows.proofs.Common.{unchanged, View, view, with_condition}
 use Rattle.sim_jumps.specs.Jumps.{TakesBranch}
 use Rattle.sim_compare.specs.Pieces as compare
@@ -19,7 +19,7 @@ target s = in_grom_of s.pc (join (code_byte s % 32) (slice_index s.image (behind
 
 -- Behind the target.
 record Targeted (s : GplState) (w : View) : Type 0 where
-  sees : Sees s (behind s) w
+  sees : ShowsState s (behind s) w
   to : w.r.r6 ≡ target s
 
 abbrev made_of : View → ℕ → ℕ → ℕ → ℕ
@@ -49,7 +49,7 @@ end_of false = CFALSE
 
 abbrev told : GplState → Bool → View → Type 0
 told s true = Dispatched s
-told s false = Sees s (behind s)
+told s false = ShowsState s (behind s)
 
 taken_at : (taken : Bool) (pc : ℕ) → pc ≡ end_of taken → pc ≡ BTARG → taken ≡ true
 taken_at true pc e f = refl
@@ -87,7 +87,7 @@ changed_by s taken = with_condition false (if taken then unchanged (record s { p
 abbrev status_cleared : List ℕ → List ℕ
 status_cleared cells = slice_set cells 0x7C (ones_cleared Byte (slice_index cells 0x7C) 0x20)
 
-passes : (s : GplState) (w : View) → Sees s (behind s) w → Goes (compare.clear_condition w) 3 GSTEP (SeesFinished (changed_by s false))
+passes : (s : GplState) (w : View) → ShowsState s (behind s) w → Goes (compare.clear_condition w) 3 GSTEP (SeesFinished (changed_by s false))
 passes s w h = goes_in (omega arith) (record { cells = ap status_cleared h.cells; vdp = h.vdp; registers = h.registers; held = h.held; grom = h.grom })
 
 module _ {s : GplState} {x a : MachineState} {t t1 : ℕ} (on : Bool) (is : operation_in s ≡ Some (Branch on))
@@ -98,13 +98,13 @@ module _ {s : GplState} {x a : MachineState} {t t1 : ℕ} (on : Bool) (is : oper
   code_fits : code_byte s < 256
   code_fits = subst (λ (l : List ℕ). slice_index l s.pc < 256) (ap (λ (g : GromState). g.image) d.sees.grom) ((is_view x stands.machine).grom.image.fits s.pc)
 
-  tested : Comes 5 x a t t1 (end_of taken) (told s taken)
+  tested : ReachesWithin 5 x a t t1 (end_of taken) (told s taken)
   tested =
       let bit = ap (λ (n : ℕ). last_out SRL n 6) d.code ∙ on_is (code_byte s) code_fits on is in
       let holds = ap (λ (cells : List ℕ). is_set (slice_index cells 0x7C) 0x20) d.sees.cells in
       comes e1 (tells s (view x) taken d (told_by (high (view x).r.r4) (slice_index (view x).cells 0x7C) (view x).r.r0 on (condition s) bit holds))
 
-  turns : {y : MachineState} {t2 most : ℕ} (c : Bool) → taken ≡ c → Comes most x y t t2 GSTEP (SeesFinished (changed_by s c)) → most ≤ 18 →
+  turns : {y : MachineState} {t2 most : ℕ} (c : Bool) → taken ≡ c → ReachesWithin most x y t t2 GSTEP (SeesFinished (changed_by s c)) → most ≤ 18 →
       Turned s most_to_dispatch x y t t2 Stepped
   turns {y = y} {t2 = t2} c e run le =
       let same : branched on (target s) (unchanged (passed s)) ≡ changed_by s c = ap (changed_by s) e in
@@ -114,13 +114,13 @@ module _ {s : GplState} {x a : MachineState} {t t1 : ℕ} (on : Bool) (is : oper
       (refl, reaches most_to_dispatch (bound s) run (ap is_end stands.pc) refl (omega arith), matches (finished (changed_by s c)) y run.stands run.holds)
 
   -- what holds where it was told
-  told_at : (c : Bool) → taken ≡ c → Comes 5 x a t t1 (end_of c) (told s c)
-  told_at c e = subst (λ (c : Bool). Comes 5 x a t t1 (end_of c) (told s c)) e tested
+  told_at : (c : Bool) → taken ≡ c → ReachesWithin 5 x a t t1 (end_of c) (told s c)
+  told_at c e = subst (λ (c : Bool). ReachesWithin 5 x a t t1 (end_of c) (told s c)) e tested
 
-  pub at_target : a.cpu.pc ≡ BTARG → Comes 5 x a t t1 BTARG (Dispatched s)
+  pub at_target : a.cpu.pc ≡ BTARG → ReachesWithin 5 x a t t1 BTARG (Dispatched s)
   at_target here = told_at true (taken_at taken a.cpu.pc tested.stands.pc here)
 
-  pub passed_by : (a.cpu.pc ≡ BTARG → ⊥) → Comes 5 x a t t1 CFALSE (Sees s (behind s))
+  pub passed_by : (a.cpu.pc ≡ BTARG → ⊥) → ReachesWithin 5 x a t t1 CFALSE (ShowsState s (behind s))
   passed_by elsewhere = told_at false (passed_at taken a.cpu.pc tested.stands.pc elsewhere)
 
   pub takes : {b y : MachineState} {t2 t3 : ℕ} → a.cpu.pc ≡ BTARG → Exits a b t1 t2 (pieces.read_branch_target (view a)) → TakesBranch b y t2 t3 →
@@ -129,7 +129,7 @@ module _ {s : GplState} {x a : MachineState} {t t1 : ℕ} (on : Bool) (is : oper
       let c1 = at_target here in
       let c2 = comes_then 5 8 c1 e2 (targets s (view a) c1.holds (is_view a c1.stands.machine)) refl in
       let h = c2.holds.sees in
-      let seen : Sees (record s { pc = target s }) (behind s) (view b) =
+      let seen : ShowsState (record s { pc = target s }) (behind s) (view b) =
       record { cells = h.cells; vdp = h.vdp; registers = h.registers; held = h.held; grom = h.grom } in
       let is_true = taken_at taken a.cpu.pc tested.stands.pc here in
       turns true is_true (comes_on 13 5 c2 (goes (record s { pc = target s }) (behind s) seen c2.holds.to) refl) (omega arith)

@@ -1,6 +1,6 @@
 -- CASE is a row, and the only one of this family.
 use Rattle.std.proofs.Common.{◌≡◌, ◌∙◌, ap, Option, refl, Some, subst, sym, true}
-use Rattle.sim_rows.proofs.Common.{AtDispatch, B, CASE, EXIT, GoOp, GplOperation, is_row, Jump, MachineState, One, OneName, operation_entry, operation_seen}
+use Rattle.sim_rows.proofs.Common.{AtDispatch, B, CASE, EXIT, GoOp, GplOperation, is_row, Jump, MachineState, One, OneName, operation_entry, operation_in_view}
 use Rattle.sim_rows.proofs.Common.{Plain, PlainOp, Stands, view}
 use Rattle.sim_flow.specs.Family.{is_case, is_flow}
 
@@ -27,19 +27,19 @@ of_one CASE e = refl
 of_one _ e = absurd (cc)
 
 module _ {x : MachineState} (at : AtDispatch is_flow x) where
-  here : {o : Option GplOperation} → operation_seen (view x) ≡ o → is_flow o ≡ true
+  here : {o : Option GplOperation} → operation_in_view (view x) ≡ o → is_flow o ≡ true
   here is = subst (λ (p : Option GplOperation). is_flow p ≡ true) is at.family
 
-  pub stands_at : {o : Option GplOperation} → operation_seen (view x) ≡ o → Stands x (operation_entry o)
+  pub stands_at : {o : Option GplOperation} → operation_in_view (view x) ≡ o → Stands x (operation_entry o)
   stands_at is = subst (λ (p : Option GplOperation). Stands x (operation_entry p)) is at.stands
 
-  pub is_exit : {op : PlainOp} → operation_seen (view x) ≡ Some (Plain op) → operation_seen (view x) ≡ Some (Plain EXIT)
+  pub is_exit : {op : PlainOp} → operation_in_view (view x) ≡ Some (Plain op) → operation_in_view (view x) ≡ Some (Plain EXIT)
   is_exit {op = op} is = is ∙ ap (λ (p : PlainOp). Some (Plain p)) (exit_alone op (here is))
 
-  pub is_jump : {op : GoOp} → operation_seen (view x) ≡ Some (Jump op) → operation_seen (view x) ≡ Some (Jump B)
+  pub is_jump : {op : GoOp} → operation_in_view (view x) ≡ Some (Jump op) → operation_in_view (view x) ≡ Some (Jump B)
   is_jump {op = op} is = is ∙ ap (λ (p : GoOp). Some (Jump p)) (jump_alone op (here is))
 
-  pub case_here : {op : OneName} → operation_seen (view x) ≡ Some (One op) → AtDispatch is_case x
+  pub case_here : {op : OneName} → operation_in_view (view x) ≡ Some (One op) → AtDispatch is_case x
   case_here {op = op} is = record {
     stands = at.stands;
     dispatched = at.dispatched;

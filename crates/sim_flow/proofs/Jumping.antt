@@ -1,8 +1,8 @@
 -- EXIT and B.
 use Rattle.std.proofs.Common.{ℕ, ◌≡◌, ap, arith, Err, Ok, refl, Some}
-use Rattle.sim_rows.proofs.Common.{B, behind_code, bound, bound_made, bound_stop, comes, comes_on, Dispatched, Ended, EXIT, exit, Exit as Ending, Exits, from}
+use Rattle.sim_rows.proofs.Common.{B, behind_code, bound, bound_made, bound_stop, comes, comes_on, Dispatched, ShowsEnd, EXIT, exit, Exit as Ending, Exits, from}
 use Rattle.sim_rows.proofs.Common.{GEXIT, GOB, Goes, goes_in, GOEXIT, GOTO, GplState, grom_at, GromState, is_end, Jump, known, leaves, MachineState, matches}
-use Rattle.sim_rows.proofs.Common.{most_to_dispatch, operation_in, Plain, reaches, Sees, Stands, step_jump, step_plain, Stepped, Stopped, Turned, turned_by}
+use Rattle.sim_rows.proofs.Common.{most_to_dispatch, operation_in, Plain, reaches, ShowsState, Stands, step_jump, step_plain, Stepped, Stopped, Turned, turned_by}
 use Rattle.sim_rows.proofs.Common.{View, view, word_at}
 use Rattle.sim_rows.specs.gpl_step_defs.declared.reason.Reason.TheVariants.{Exit}
 use Rattle.sim_jumps.specs.Jumps.{GoesOn}
@@ -14,7 +14,7 @@ pub exits : {s : GplState} {x y : MachineState} {t u : ℕ} → Dispatched s (vi
 exits {s = s} {x = x} {y = y} {t = t} {u = u} d e stands run =
     let is = step_plain s EXIT e in
     let h = d.sees in
-    let ended : Goes (pieces.leave (view x)) 1 GEXIT (Ended s) = goes_in (omega arith)
+    let ended : Goes (pieces.leave (view x)) 1 GEXIT (ShowsEnd s) = goes_in (omega arith)
     (record { cells = h.cells; vdp = h.vdp; registers = h.registers; address = d.address }) in
     let c = comes run ended in
     let b = bound_stop s Exit is in
@@ -39,12 +39,12 @@ module _ (s : GplState) (v : View) (d : Dispatched s v) where
   read_is : pieces.read_target v ≡ exit 2 GOTO read
   read_is = let at : GromState → Ending = λ g. pieces.read_target (record v { grom = g }) in ap at d.sees.grom
 
-  seen : Sees next behind read
+  seen : ShowsState next behind read
   seen = let h = d.sees in record { cells = h.cells; vdp = h.vdp; registers = h.registers; held = h.held; grom = refl }
 
   -- what holds at GOTO
   record AtTarget (w : View) : Type 0 where
-    sees : Sees next behind w
+    sees : ShowsState next behind w
     to : w.r.r6 ≡ target
 
   pub jumps : {x a y : MachineState} {t t1 t2 : ℕ} → view x ≡ v → operation_in s ≡ Some (Jump B) → Stands x GOB →

@@ -1,9 +1,9 @@
 -- CASE from its row to the end of the step.
 use Rattle.std.proofs.Common.{ℕ, ◌*◌, ◌<◌, ◌==◌, ◌∙◌, ◌≡◌, ap, arith, Option, refl, Some, subst}
-use Rattle.sim_rows.proofs.Common.{AtRow, bytes_by, CASE, CASEN, CASET, CASEV, Comes, comes, comes_on, comes_then, destination_bytes, Exit, exit, Exits, from}
+use Rattle.sim_rows.proofs.Common.{AtRow, bytes_by, CASE, CASEN, CASET, CASEV, ReachesWithin, comes, comes_on, comes_then, destination_bytes, Exit, exit, Exits, from}
 use Rattle.sim_rows.proofs.Common.{Goes, GplOperation, GplState, grom_at, GromState, GSTEP, in_register, is_view, IsView, just, known, loaded_of, located_at}
 use Rattle.sim_rows.proofs.Common.{lost, MachineState, most_of_case_row, next_of, One, operation_in, Place, plus, reads_destination, return_of, row_result}
-use Rattle.sim_rows.proofs.Common.{row_width, RunsRow, SEEK, Sees, SeesResult, set_is, size_of, Source, Stands, sum_of, TAKE, value_at, View, view, WHERE}
+use Rattle.sim_rows.proofs.Common.{row_width, RunsRow, SEEK, ShowsState, SeesResult, set_is, size_of, Source, Stands, sum_of, TAKE, value_at, View, view, WHERE}
 use Rattle.sim_rows.proofs.Common.{where_found, Width, width_again, width_in, Word}
 use Rattle.sim_jumps.specs.Jumps.{TakesBranch}
 use Rattle.sim_rows.specs.sim_operands.Pieces as operands
@@ -57,20 +57,20 @@ module _ (s : GplState) (place : Place) (source : Source) (v : View) (e : operat
   abbrev targeted : View
   targeted = (pieces.find_branch located).left
 
-  abbrev sought : View
-  sought = record targeted { grom = grom_at s.image (next_of s) }
+  abbrev after_seek : View
+  after_seek = record targeted { grom = grom_at s.image (next_of s) }
 
-  seek_is : operands.seek targeted ≡ exit 3 CASET sought
+  seek_is : operands.seek targeted ≡ exit 3 CASET after_seek
   seek_is =
       let at : GromState → Exit = λ g. exit 3 CASET (record targeted { grom = g }) in
       ap at (set_is (lost s.image (next_of s)) (next_of s) refl fits)
 
   -- what holds at TAKE
   record AtTarget (w : View) : Type 0 where
-    sees : Sees taken (next_of s) w
+    sees : ShowsState taken (next_of s) w
     to : w.r.r6 ≡ target
 
-  ends : Goes (pieces.go_to_branch sought) 2 TAKE AtTarget
+  ends : Goes (pieces.go_to_branch after_seek) 2 TAKE AtTarget
   ends =
       let h = row.holds.sees in
       record {
@@ -87,12 +87,12 @@ module _ (s : GplState) (place : Place) (source : Source) (v : View) (e : operat
 
   selects : {x a b c d f y : MachineState} {t t1 t2 t3 t4 t5 t6 : ℕ} → view x ≡ v → Exits x a t t1 (pieces.ask_table (view x)) →
       Exits a b t1 t2 (rows.where_next (view a)) → Exits b c t2 t3 (pieces.find_branch (view b)) → Exits c d t3 t4 (operands.seek (view c)) →
-      Exits d f t4 t5 (pieces.go_to_branch (view d)) → TakesBranch f y t5 t6 → Comes 25 x y t t6 GSTEP (SeesResult (row_result (One CASE) s place source))
+      Exits d f t4 t5 (pieces.go_to_branch (view d)) → TakesBranch f y t5 t6 → ReachesWithin 25 x y t t6 GSTEP (SeesResult (row_result (One CASE) s place source))
   selects is e1 e2 e3 e4 e5 goes =
       let c1 = comes e1 (from pieces.ask_table is asks) in
       let c2 = comes_then 4 8 c1 e2 (from rows.where_next c1.holds where_is) refl in
       let c3 = comes_then 12 3 c2 e3 (from pieces.find_branch c2.holds (just (pieces.find_branch located) 3 SEEK (omega arith) refl)) refl in
-      let c4 = comes_then 15 3 c3 e4 (from operands.seek c3.holds (known seek_is (just (exit 3 CASET sought) 3 CASET (omega arith) refl))) refl in
+      let c4 = comes_then 15 3 c3 e4 (from operands.seek c3.holds (known seek_is (just (exit 3 CASET after_seek) 3 CASET (omega arith) refl))) refl in
       let c5 = comes_then 18 2 c4 e5 (from pieces.go_to_branch c4.holds ends) refl in
       comes_on 20 5 c5 (goes taken (next_of s) c5.holds.sees c5.holds.to) refl
 

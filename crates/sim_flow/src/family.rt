@@ -2,7 +2,7 @@
 
 ghost use Rattle.std.specs.Prelude.{◌≡◌, Some};
 ghost use Rattle.sim_rows.specs.Prelude.{AtDispatch, B, Branch, CASE, Dispatched, Jump, most_to_dispatch, One};
-ghost use Rattle.sim_rows.specs.Prelude.{operation_seen, RunsRow, Stands, state_at_dispatch, Stepped, Turned, view};
+ghost use Rattle.sim_rows.specs.Prelude.{operation_in_view, RunsRow, Stands, state_at_dispatch, Stepped, Turned, view};
 ghost use Rattle.sim_flow.specs.Family.{is_case, is_flow};
 ghost use Rattle.sim_rows.specs.native_interp.declared.addresses.TheConstants as address;
 ghost use Rattle.sim_rows.specs.sim_view.Bounds.{most_of_case_row};
@@ -16,14 +16,14 @@ use sim_rows::gpl::GplOperation;
 use sim_rows::labels::BTARG;
 use sim_rows::processor::{Machine, Steps};
 use sim_rows::subroutines::seek_address;
-use sim_rows::{Reason, Turn, operation_told, start_row, where_next};
+use sim_rows::{Reason, Turn, current_operation, start_row, where_next};
 use std::sync::ledger::Ledger;
 
 /// Runs B from its dispatch to the end of the step.
 fn run_jump<L: Ledger>(machine: &mut Machine, steps: &mut Steps<L>)
     requires stands { Stands machine.old address.GOB }
     requires dispatched { let v = view machine.old in Dispatched (state_at_dispatch v) v }
-    requires is { operation_seen (view machine.old) ≡ Some (Jump B) }
+    requires is { operation_in_view (view machine.old) ≡ Some (Jump B) }
     ensures { let s = state_at_dispatch (view machine.old) in
         Turned s most_to_dispatch machine.old machine.new steps.old steps.new Stepped }
 {
@@ -35,7 +35,7 @@ fn run_jump<L: Ledger>(machine: &mut Machine, steps: &mut Steps<L>)
 fn run_branch<L: Ledger>(machine: &mut Machine, steps: &mut Steps<L>, _on: bool)
     requires stands { Stands machine.old address.BRANCH }
     requires dispatched { let v = view machine.old in Dispatched (state_at_dispatch v) v }
-    requires is { operation_seen (view machine.old) ≡ Some (Branch _on) }
+    requires is { operation_in_view (view machine.old) ≡ Some (Branch _on) }
     ensures { let s = state_at_dispatch (view machine.old) in
         Turned s most_to_dispatch machine.old machine.new steps.old steps.new Stepped }
 {
@@ -80,7 +80,7 @@ pub fn run_flow<L: Ledger>(machine: &mut Machine, steps: &mut Steps<L>) -> Turn
     ensures { let s = state_at_dispatch (view machine.old) in
         Turned s most_to_dispatch machine.old machine.new steps.old steps.new result }
 {
-    match operation_told(machine) {
+    match current_operation(machine) {
         Some(GplOperation::Plain(_)) => {
             leave(machine, steps);
             Turn::Stopped(Reason::Exit)

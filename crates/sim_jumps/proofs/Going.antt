@@ -1,15 +1,15 @@
 -- Jumps, from where their address is known.
 use Rattle.std.proofs.Common.{ℕ, ◌<◌, ◌∙◌, ◌≡◌, ap, arith, false, List, refl, slice_index, slice_set}
-use Rattle.sim_rows.proofs.Common.{Byte, Changed, comes, comes_on, EndsRow, Exits, Goes, goes_in, GOTO, GplState, grom_at, GromState, idle_grom, idle_told}
-use Rattle.sim_rows.proofs.Common.{idle_video, is_view, MachineState, ones_cleared, PortsAreIdle, RESUME, Sees, set_is, set_to, SHOW, Stands, unchanged, View}
+use Rattle.sim_rows.proofs.Common.{Byte, ShowsChanges, comes, comes_on, EndsRow, Exits, Goes, goes_in, GOTO, GplState, grom_at, GromState, idle_grom, idle_told}
+use Rattle.sim_rows.proofs.Common.{idle_video, is_view, MachineState, ones_cleared, PortsAreIdle, RESUME, ShowsState, set_is, with_grom_address, SHOW, Stands, unchanged, View}
 use Rattle.sim_rows.proofs.Common.{view, with_condition}
 use Rattle.sim_jumps.specs.Jumps.{GoesOn, ResumesRow, TakesBranch}
 use Rattle.sim_jumps.specs.Pieces as pieces
 
 -- GROMs that were set from one address to another
-pub set_from : (g : GromState) (image : List ℕ) (next word at : ℕ) → g ≡ grom_at image next → word ≡ at → word < 65536 → set_to word g ≡ grom_at image at
+pub set_from : (g : GromState) (image : List ℕ) (next word at : ℕ) → g ≡ grom_at image next → word ≡ at → word < 65536 → with_grom_address word g ≡ grom_at image at
 set_from g image next word at e to fits =
-    ap (set_to word) e ∙ set_is (grom_at image next) word refl fits ∙ ap (grom_at image) to
+    ap (with_grom_address word) e ∙ set_is (grom_at image next) word refl fits ∙ ap (grom_at image) to
 
 -- ---- GOTO
 
@@ -32,7 +32,7 @@ goes {x = x} stands e s next h to =
 
 -- the address is still there
 pub record Taken (s : GplState) (next : ℕ) (w : View) : Type 0 where
-  pub sees : Sees s next w
+  pub sees : ShowsState s next w
   pub to : w.r.r6 ≡ s.pc
 
 abbrev status_cleared : List ℕ → List ℕ
@@ -60,7 +60,7 @@ module _ {x a : MachineState} {t t1 : ℕ} (stands : Stands x RESUME) (e : Exits
 
   pub resumes : {y : MachineState} {t2 : ℕ} → EndsRow a y t1 t2 → ResumesRow x y t t2
   resumes ends c next h to =
-      let resumed : Goes (pieces.resume v) 3 SHOW (Changed c) = record {
+      let resumed : Goes (pieces.resume v) 3 SHOW (ShowsChanges c) = record {
         within = omega arith;
         to_is = refl;
         holds = record {

@@ -1,12 +1,12 @@
 -- What the pieces of a jump come to: how many instructions they have, where they end, and what they change of the view,
 -- in the words of the processor. Registers, cells and ports that are not named stay.
 use Rattle.std.specs.Prelude.{slice_index, slice_set}
-use Rattle.sim_rows.specs.Prelude.{Byte, CONDITION_BIT, Exit, exit, GOTO, GSTEP, join, ones_cleared, set_to, SHOW}
+use Rattle.sim_rows.specs.Prelude.{Byte, CONDITION_BIT, Exit, exit, GOTO, GSTEP, join, ones_cleared, with_grom_address, SHOW}
 use Rattle.sim_rows.specs.Prelude.{STATUS, View}
 
 -- GOTO: GROM goes on at the address in register 6.
 abbrev pub go_on : View → Exit
-go_on v = exit 2 GSTEP (record v { grom = set_to v.r.r6 v.grom })
+go_on v = exit 2 GSTEP (record v { grom = with_grom_address v.r.r6 v.grom })
 
 -- TAKE: the condition's bit of the status is cleared.
 abbrev pub take_branch : View → Exit
@@ -18,4 +18,4 @@ take_branch v =
 
 -- RESUME: GROM goes on at the address in register 14, and the row ends.
 abbrev pub resume : View → Exit
-resume v = exit 3 SHOW (record v { grom = set_to v.r.r14 v.grom })
+resume v = exit 3 SHOW (record v { grom = with_grom_address v.r.r14 v.grom })

@@ -1,7 +1,7 @@
 -- BACK from its dispatch to the end of the step.
 use Rattle.std.proofs.Common.{ℕ, ◌∙◌, ◌≡◌, ap, arith, None, Ok, refl, slice_index, slice_set, Some}
 use Rattle.sim_rows.proofs.Common.{BACK, behind_code, bound, bound_made, comes, Dispatched, Exits, finished, GOBACK, Goes, GplState, GromState, GSTEP, is_end}
-use Rattle.sim_rows.proofs.Common.{MachineState, matches, most_to_dispatch, next_in_grom, operation_in, past, reaches, Sees, Stands, step_byte, Stepped, Turned}
+use Rattle.sim_rows.proofs.Common.{MachineState, matches, most_to_dispatch, next_in_grom, operation_in, past, reaches, ShowsState, Stands, step_byte, Stepped, Turned}
 use Rattle.sim_rows.proofs.Common.{turned_by, unchanged, vdp_address_written, VdpState, View, view, with_register}
 use Rattle.sim_rows.specs.gpl_defs.declared.instruction.GplOperation.TheVariants.{Byte}
 use Rattle.sim_misc.specs.Pieces as pieces
@@ -14,7 +14,7 @@ register_set : (vdp : VdpState) (byte : ℕ) → vdp.held ≡ None →
     vdp_address_written (vdp_address_written vdp byte) 0x87 ≡ record vdp { registers = slice_set vdp.registers 7 byte; held = None }
 register_set vdp byte idle = rw idle refl
 
-border_goes : (s : GplState) (v : View) → Dispatched s v → Goes (pieces.set_border v) 5 GSTEP (Sees (next s) (next s).pc)
+border_goes : (s : GplState) (v : View) → Dispatched s v → Goes (pieces.set_border v) 5 GSTEP (ShowsState (next s) (next s).pc)
 border_goes s v d =
     let h = d.sees in
     let set = register_set v.vdp v.grom.fetched h.held in

@@ -2,7 +2,7 @@
 use Rattle.std.proofs.Common.{ℕ, ◌<◌, ◌∙◌, ◌≡◌, ap, arith, Option, refl, Some, subst, sym, true}
 use Rattle.sim_rows.specs.Prelude.{AtEntry, HasStarted}
 use Rattle.sim_rows.proofs.Common.{AtDispatch, Byte, EX, GplOperation, GplState, is_row, IsVisible, LoadsFrom, LoadsFromSource, MachineState}
-use Rattle.sim_rows.proofs.Common.{most_of_exchange_row, most_to_dispatch, operation_entry, operation_seen, Place, row_width, RunsRow, size_of, space_small}
+use Rattle.sim_rows.proofs.Common.{most_of_exchange_row, most_to_dispatch, operation_entry, operation_in_view, Place, row_width, RunsRow, size_of, space_small}
 use Rattle.sim_rows.proofs.Common.{Stands, state_at_dispatch, Stepped, Turned, Two, TwoName, view, visible_of, Width, Word}
 use Rattle.sim_rows.proofs.Rowing.{source_visible}
 use Rattle.sim_misc.specs.Family.{is_exchange, is_misc}
@@ -21,7 +21,7 @@ of_two : (op : TwoName) → is_misc (Some (Two op)) ≡ true → is_exchange (So
 of_two EX e = refl
 of_two _ e = absurd (cc)
 
-pub exchange_here : {x : MachineState} → AtDispatch is_misc x → {op : TwoName} → operation_seen (view x) ≡ Some (Two op) → AtDispatch is_exchange x
+pub exchange_here : {x : MachineState} → AtDispatch is_misc x → {op : TwoName} → operation_in_view (view x) ≡ Some (Two op) → AtDispatch is_exchange x
 exchange_here {x = x} at {op = op} is = record {
   stands = at.stands;
   dispatched = at.dispatched;
@@ -29,7 +29,7 @@ exchange_here {x = x} at {op = op} is = record {
 }
 
 -- at the entry of an operation that is known
-pub entered : (x : MachineState) (o : Option GplOperation) → operation_seen (view x) ≡ o → Stands x (operation_entry (operation_seen (view x))) →
+pub entered : (x : MachineState) (o : Option GplOperation) → operation_in_view (view x) ≡ o → Stands x (operation_entry (operation_in_view (view x))) →
     Stands x (operation_entry o)
 entered x o is stands = subst (λ (o : Option GplOperation). Stands x (operation_entry o)) is stands
 

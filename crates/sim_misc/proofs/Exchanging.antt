@@ -2,7 +2,7 @@
 use Rattle.std.proofs.Common.{ℕ, ◌%◌, ◌/◌, ◌<◌, ◌==◌, ◌∙◌, ◌≡◌, ap, arith, Bool, Err, false, if◌then◌else◌, not, Ok, Option, refl, Result, Some, subst, sym}
 use Rattle.std.proofs.Common.{true}
 use Rattle.std.proofs.lemmas.Bool.{agree_below_at}
-use Rattle.sim_rows.proofs.Common.{◌>>=◌, AtRow, behind_first, both, Byte, bytes_by, changed_again, ChangedFrom, Changes, code_byte, code_fits, Comes, comes}
+use Rattle.sim_rows.proofs.Common.{◌>>=◌, AtRow, behind_first, both, Byte, bytes_by, changed_again, ChangedFrom, Changes, code_byte, code_fits, ReachesWithin, comes}
 use Rattle.sim_rows.proofs.Common.{comes_on, comes_then, destination_bytes, EX, EXB, exchanged, Exits, gone_on, GplOperation, GplState, GSTEP, has_source}
 use Rattle.sim_rows.proofs.Common.{idle_again, in_register, is_immediate, is_view, IsMachine, IsVisible, LoadsFrom, LoadsFromSource, MachineState}
 use Rattle.sim_rows.proofs.Common.{most_of_store, of_register, operand_at, operands_of, operation_at, operation_in, Place, place_of, PortsAreIdle}
@@ -133,12 +133,12 @@ module _ {x y z p : MachineState} {t u v w : ℕ} (e1 : Exits x y t u (pieces.ke
       value = ap (of_register width) a.value ∙ number_back width source.number;
     })
 
-    first : Comes 18 x z t v EXB (ChangedFrom between (view y))
+    first : ReachesWithin 18 x z t v EXB (ChangedFrom between (view y))
     first =
-        let c1 : Comes 3 x y t u STORE (λ b. b ≡ (pieces.keep_destination (view x)).left) =
+        let c1 : ReachesWithin 3 x y t u STORE (λ b. b ≡ (pieces.keep_destination (view x)).left) =
         comes e1 (record { within = omega arith; to_is = refl; holds = refl }) in
-        let c2 : Comes most_of_store y z u v EXB (ChangedFrom between (view y)) =
-        subst (λ (n : ℕ). Comes most_of_store y z u v n (ChangedFrom between (view y))) (ap return_of e1.shows)
+        let c2 : ReachesWithin most_of_store y z u v EXB (ChangedFrom between (view y)) =
+        subst (λ (n : ℕ). ReachesWithin most_of_store y z u v n (ChangedFrom between (view y))) (ap return_of e1.shows)
         (store_then before width place source.number y z u v storing_first stored) in
         comes_on 3 15 c1 c2 refl
 
@@ -158,13 +158,13 @@ module _ {x y z p : MachineState} {t u v w : ℕ} (e1 : Exits x y t u (pieces.ke
           value = ap (of_register width) old_is ∙ number_back width (value_at s width place);
         })
 
-    pub exchanges : (q : MachineState) (k : ℕ) → StoresResult p q w k → Comes 67 x q t k GSTEP (SeesResult (row_result (Two EX) s place source))
+    pub exchanges : (q : MachineState) (k : ℕ) → StoresResult p q w k → ReachesWithin 67 x q t k GSTEP (SeesResult (row_result (Two EX) s place source))
     exchanges q k f =
         let code = code_fits s _ (view x) (is_view x h) a.holds.sees in
         let at = source_place s place source code known is in
-        let c3 : Comes 22 x p t w STO (λ b. b ≡ (pieces.turn_to_source (view z)).left) = comes_then 18 4 first e2
+        let c3 : ReachesWithin 22 x p t w STO (λ b. b ≡ (pieces.turn_to_source (view z)).left) = comes_then 18 4 first e2
         (record { within = omega arith; to_is = refl; holds = refl }) refl in
         let d = comes_on 22 45 c3 (f between width at.0 (value_at s width place) (storing_second at.0 at.1)) refl in
         let same : exchanged width place (value_at s width place) source source.place before ≡ with_value width at.0 (value_at s width place) between =
         ap (λ (o : Option Place). exchanged width place (value_at s width place) source o before) at.1 in
-        subst (λ (c : Changes). Comes 67 x q t k GSTEP (SeesFinished c)) (sym same) d
+        subst (λ (c : Changes). ReachesWithin 67 x q t k GSTEP (SeesFinished c)) (sym same) d

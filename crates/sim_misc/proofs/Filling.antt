@@ -2,9 +2,9 @@
 use Rattle.std.proofs.Common.{[], ℕ, ◌*◌, ◌++◌, ◌+◌, ◌<◌, ◌==◌, ◌∙◌, ◌∷◌, ◌≡◌, ap, arith, Bool, drop, false, if◌then◌else◌, length, List, None, Ok, refl}
 use Rattle.std.proofs.Common.{replicate, slice_index, slice_set, Some, subst, suc, sym, true, zero}
 use Rattle.std.proofs.lemmas.Bool.{eqb-false, eqb-true, ne_eqb}
-use Rattle.sim_rows.proofs.Common.{ALL, behind_code, bound, bound_made, Comes, comes, comes_as, comes_then, difference_of, Dispatched, Exits, FILL, finished}
+use Rattle.sim_rows.proofs.Common.{ALL, behind_code, bound, bound_made, ReachesWithin, comes, comes_as, comes_then, difference_of, Dispatched, Exits, FILL, finished}
 use Rattle.sim_rows.proofs.Common.{GOALL, Goes, GplState, grom_at, GromState, GSTEP, high, high-join, is_end, is_view, MachineState, matches, most_to_dispatch}
-use Rattle.sim_rows.proofs.Common.{next_in_grom, operation_in, past, pick, reaches, Sees, set_video_to, Stands, step_byte, Stepped, Turned, turned_by}
+use Rattle.sim_rows.proofs.Common.{next_in_grom, operation_in, past, pick, reaches, ShowsState, with_video_address, Stands, step_byte, Stepped, Turned, turned_by}
 use Rattle.sim_rows.proofs.Common.{unchanged, vdp_data_written, VdpState, View, view, with_immediate, Word}
 use Rattle.sim_rows.specs.gpl_defs.declared.instruction.GplOperation.TheVariants.{Byte}
 use Rattle.sim_misc.specs.Pieces as pieces
@@ -40,7 +40,7 @@ more_left : (made : ℕ) → (made ≡ 768 → ⊥) → place made ≡ FILL
 more_left made more = ap (λ (b : Bool). if b then GSTEP else FILL) (ne_eqb made 768 more)
 
 -- the pair of bytes sets the address
-address_set : (vdp : VdpState) → vdp.held ≡ None → set_video_to 0x4000 vdp ≡ record vdp { address = 0; held = None }
+address_set : (vdp : VdpState) → vdp.held ≡ None → with_video_address 0x4000 vdp ≡ record vdp { address = 0; held = None }
 address_set vdp idle = rw idle refl
 
 begin_goes : (s : GplState) (v : View) → Dispatched s v → Goes (pieces.begin_fill v) 6 FILL (Filled s 0)
@@ -111,7 +111,7 @@ module _ (s : GplState) (made : ℕ) (w : View) (h : Filled s made w) (some : ma
 
 -- So many bytes were filled on the way from x to z.
 abbrev pub Filling : GplState → ℕ → MachineState → MachineState → ℕ → ℕ → Type 0
-Filling s made x z t u = Comes (6 + 4 * made) x z t u (place made) (Filled s made)
+Filling s made x z t u = ReachesWithin (6 + 4 * made) x z t u (place made) (Filled s made)
 
 pub none_yet : {s : GplState} {x z : MachineState} {t u : ℕ} → Dispatched s (view x) → Exits x z t u (pieces.begin_fill (view x)) → Filling s 0 x z t u
 none_yet {s = s} {x = x} d begun = comes begun (begin_goes s (view x) d)
@@ -135,7 +135,7 @@ one_byte {s = s} made {x = x} {z = z} {w = w} {t = t} {v = v} stands d h some st
 abbrev next : GplState → GplState
 next s = finished (with_immediate ALL (byte_of s) (unchanged (record s { pc = next_in_grom (behind_code s) })))
 
-all_seen : (s : GplState) (made : ℕ) (w : View) → made ≡ 768 → Filled s made w → Sees (next s) (next s).pc w
+all_seen : (s : GplState) (made : ℕ) (w : View) → made ≡ 768 → Filled s made w → ShowsState (next s) (next s).pc w
 all_seen s made w all h = record {
   cells = h.cells;
   vdp = h.memory ∙ ap (λ (n : ℕ). filled_to n (byte_of s) s.vdp) all;

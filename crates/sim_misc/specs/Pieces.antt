@@ -2,7 +2,7 @@
 -- change of the view, in the words of the processor. Registers, cells and ports that are not named stay.
 use Rattle.std.specs.Prelude.{ℕ, ◌%◌, ◌+◌, ◌/◌, ◌==◌, if◌then◌else◌, slice_set}
 use Rattle.sim_rows.specs.Prelude.{difference_of, EXB, Exit, exit, FILL, GSTEP, high, join, low, past, product_of}
-use Rattle.sim_rows.specs.Prelude.{RANDL, RANDOM, SEED, set_video_to, STO, STORE, sum_of, swapped}
+use Rattle.sim_rows.specs.Prelude.{RANDL, RANDOM, SEED, with_video_address, STO, STORE, sum_of, swapped}
 use Rattle.sim_rows.specs.Prelude.{vdp_address_written, vdp_data_written, View, with_word_in, Word, word_in}
 
 -- EXV: the destination's old value is kept, and STORE is asked for the source's value.
@@ -51,7 +51,7 @@ begin_fill v =
     let at : ℕ = 0x4000 in
     exit 6 FILL (record v {
       r = record v.r { r4 = at; r9 = join v.grom.fetched (low v.r.r9); r12 = 768 };
-      vdp = set_video_to at v.vdp;
+      vdp = with_video_address at v.vdp;
       grom = past v.grom;
     })
 

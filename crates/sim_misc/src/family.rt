@@ -13,7 +13,7 @@ use crate::screen::run_fill;
 use sim_rows::gpl::{ByteOp, GplOperation};
 use sim_rows::processor::{Machine, Steps};
 use sim_rows::subroutines::run_store;
-use sim_rows::{Reason, Turn, finish_row, operation_told, start_row};
+use sim_rows::{Reason, Turn, current_operation, finish_row, start_row};
 use std::sync::ledger::Ledger;
 
 /// Runs EX from its row to the end of the step: the value of the source is stored, then the old one of the destination.
@@ -48,7 +48,7 @@ pub fn run_misc<L: Ledger>(machine: &mut Machine, steps: &mut Steps<L>) -> Turn
     ensures { let s = state_at_dispatch (view machine.old) in
         Turned s most_to_dispatch machine.old machine.new steps.old steps.new result }
 {
-    match operation_told(machine) {
+    match current_operation(machine) {
         Some(GplOperation::Byte(ByteOp::RAND)) => run_random(machine, steps),
         Some(GplOperation::Byte(ByteOp::BACK)) => run_border(machine, steps),
         Some(GplOperation::Byte(ByteOp::ALL)) => run_fill(machine, steps),

@@ -1,17 +1,17 @@
 -- What was found, or why not, by where the machine arrived.
 use Rattle.std.proofs.Common.{ℕ, ◌∙◌, ◌≡◌, Err, Ok, refl, Result, sym}
-use Rattle.sim_rows.proofs.Common.{◌>>=◌, Comes, GplState, GSTOP, MachineState, Reason, StoppedBy, View}
+use Rattle.sim_rows.proofs.Common.{◌>>=◌, ReachesWithin, GplState, GSTOP, MachineState, Reason, StoppedBy, View}
 use Rattle.sim_move.specs.Moves.{Arrives}
 
 pub record Found {X : Type 0} (most : ℕ) (x y : MachineState) (t u to : ℕ) (Shows : X → View → Type 0) (q : Result X Reason) : Type 0 where
   pub found : X
   pub is : q ≡ Ok found
-  pub comes : Comes most x y t u to (Shows found)
+  pub comes : ReachesWithin most x y t u to (Shows found)
 
 pub record Missing {X : Type 0} (most : ℕ) (s : GplState) (x y : MachineState) (t u : ℕ) (q : Result X Reason) : Type 0 where
   pub reason : Reason
   pub is : q ≡ Err reason
-  pub comes : Comes most x y t u GSTOP (StoppedBy s reason)
+  pub comes : ReachesWithin most x y t u GSTOP (StoppedBy s reason)
 
 pub found : {X : Type 0} (most : ℕ) (s : GplState) (x y : MachineState) (t u to : ℕ) (Shows : X → View → Type 0) (q : Result X Reason) →
     (y.cpu.pc ≡ GSTOP → ⊥) → Arrives most s x y t u to Shows q →

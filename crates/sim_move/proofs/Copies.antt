@@ -1,10 +1,10 @@
 -- The length, the target and the source, one after the other.
 use Rattle.std.proofs.Common.{ℕ, ◌%◌, ◌/◌, ◌<◌, ◌==◌, ◌∙◌, ◌≡◌, ◌≤◌, ap, arith, Bool, Err, Ok, Option, refl, Result, Some, subst, sym, true}
-use Rattle.sim_rows.proofs.Common.{◌>>=◌, AtDispatch, barred_stops, code_byte, Comes, comes_as, comes_on, even, fetched_of, Finds, finds_of, FindsOperand, From}
+use Rattle.sim_rows.proofs.Common.{◌>>=◌, AtDispatch, barred_stops, code_byte, ReachesWithin, comes_as, comes_on, even, fetched_of, Finds, finds_of, FindsOperand, From}
 use Rattle.sim_rows.proofs.Common.{from_placed, FromGrom, FromMemory, GOMOVE, GplOperand, GplOperation, GplState, grom_at, GromIndexedToMemory, GromState}
 use Rattle.sim_rows.proofs.Common.{GromToMemory, GromToRegisters, GSTOP, idle_of, index_by, indexed, is_view, length_of, MachineState, MemoryToMemory}
 use Rattle.sim_rows.proofs.Common.{most_of_address, most_to_copy, Move, MOVEB, MoveKind, MOVEL, MOVES, MOVEX, next_in_grom, operand_at, operation_entry}
-use Rattle.sim_rows.proofs.Common.{operation_in, operation_seen, origin_of, Place, place_of, Placed, Reason, return_of, Stands, stands_at, state_at_dispatch}
+use Rattle.sim_rows.proofs.Common.{operation_in, operation_in_view, origin_of, Place, place_of, Placed, Reason, return_of, Stands, stands_at, state_at_dispatch}
 use Rattle.sim_rows.proofs.Common.{StoppedBy, target_of, To, ToMemory, ToRegisters, View, view, within_limit, word_at}
 use Rattle.sim_copy.specs.Copying.{StandsTo}
 use Rattle.sim_move.specs.Family.{is_move}
@@ -43,7 +43,7 @@ next_fits : (at : ℕ) → next_in_grom at < 65536 → at < 65536
 next_fits at h = omega arith
 
 pub stands_move : {x : MachineState} → AtDispatch is_move x → Stands x GOMOVE
-stands_move {x = x} at = subst (λ (p : ℕ). Stands x p) (entry_is (operation_seen (view x)) at.family) at.stands
+stands_move {x = x} at = subst (λ (p : ℕ). Stands x p) (entry_is (operation_in_view (view x)) at.family) at.stands
 
 -- the state of the step, whose code byte is a byte
 abbrev pub state : MachineState → GplState
@@ -189,8 +189,8 @@ module _ (s : GplState) {x a : MachineState} {t t1 : ℕ} (fits : code_byte s < 
                 → Arrives most_to_copy s x y t t3 MOVEB (AtCopy MemoryToMemory s) (r >>= from_place)
             by_place (Ok place) g =
                 let to : return_of (view b) ≡ MOVEB = ap even f.comes.holds.link in
-                let g2 : Comes most_of_address b y t2 t3 MOVEB (Placed (view b) operand.1 place) =
-                subst (λ (p : ℕ). Comes most_of_address b y t2 t3 p (Placed (view b) operand.1 place)) to g in
+                let g2 : ReachesWithin most_of_address b y t2 t3 MOVEB (Placed (view b) operand.1 place) =
+                subst (λ (p : ℕ). ReachesWithin most_of_address b y t2 t3 p (Placed (view b) operand.1 place)) to g in
                 comes_as 160 (AtCopy MemoryToMemory s (f.found, FromMemory place)) (comes_on 111 38 f.comes g2 refl) (omega arith) (ready place)
             by_place (Err reason) g =
                 comes_as 160 (StoppedBy s reason) (comes_on 111 38 f.comes g refl) (omega arith)
@@ -277,11 +277,11 @@ module _ (s : GplState) {x a : MachineState} {t t1 : ℕ} (fits : code_byte s < 
             indexed_at : (kind : MoveKind) (known : operation_in s ≡ Some (Move kind)) → Indexed kind
             indexed_at kind known = let f = second kind known in indexes s f.found.0 (target_read kind s).1 fits f.comes.holds.holds
 
-            to_source : (kind : MoveKind) (known : operation_in s ≡ Some (Move kind)) → Comes 111 x b t t2 MOVES
+            to_source : (kind : MoveKind) (known : operation_in s ≡ Some (Move kind)) → ReachesWithin 111 x b t t2 MOVES
                 (TargetTold s kind (target_read kind s).1 (second kind known).found)
             to_source kind known =
                 let f = second kind known in
-                subst (λ (p : ℕ). Comes 111 x b t t2 p (TargetTold s kind (target_read kind s).1 f.found)) (in_grom kind known) f.comes
+                subst (λ (p : ℕ). ReachesWithin 111 x b t t2 p (TargetTold s kind (target_read kind s).1 f.found)) (in_grom kind known) f.comes
 
             pub no_source : c.cpu.pc ≡ GSTOP → FindsCopy s x c t t3
             no_source there = record {

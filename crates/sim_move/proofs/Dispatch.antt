@@ -2,7 +2,7 @@
 use Rattle.std.proofs.Common.{ℕ, ◌*◌, ◌+◌, ◌≡◌, ap, arith, Err, false, Ok, refl, Some, subst, sym, true}
 use Rattle.sim_rows.proofs.Common.{bound, bound_stop, Changes, comes_on, fetched_of, finished, From, FromGrom, FromMemory, GOMOVE, GplState, grom_at, GSTOP}
 use Rattle.sim_rows.proofs.Common.{idle_of, is_end, MachineState, matches, most_to_dispatch, Move, MOVEB, MoveKind, number_of, operation_in, reaches, Reason}
-use Rattle.sim_rows.proofs.Common.{Sees, Stands, Stepped, Stopped, stops, To, Turned, turned_by, View, view, WORKSPACE}
+use Rattle.sim_rows.proofs.Common.{ShowsState, Stands, Stepped, Stopped, stops, To, Turned, turned_by, View, view, WORKSPACE}
 use Rattle.sim_copy.specs.Copying.{CopiesBytes, StandsFrom}
 use Rattle.sim_move.specs.Family.{is_move}
 use Rattle.sim_move.specs.Moves.{AtCopy, begun, copy_in, FindsCopy, MayCopy, source_read, target_read}
@@ -20,7 +20,7 @@ grom_of : (c : Changes) (from : From) (w : View) → StandsFrom c from w → w.g
 grom_of c (FromMemory place) w h = h.grom
 grom_of c (FromGrom address) w h = h.grom
 
-sees_of : (kind : MoveKind) (s : GplState) (f : (ℕ × To) × From) (w : View) → AtCopy kind s f w → Sees s (place_in_grom (begun kind s) f.1) w
+sees_of : (kind : MoveKind) (s : GplState) (f : (ℕ × To) × From) (w : View) → AtCopy kind s f w → ShowsState s (place_in_grom (begun kind s) f.1) w
 sees_of kind s f w h = record { cells = h.cells; vdp = h.vdp; registers = h.registers; held = h.held; grom = grom_of (begun kind s) f.1 w h.stands_from }
 
 module _ (s : GplState) {x a : MachineState} {t t1 : ℕ} (stands : Stands x GOMOVE) (family : is_move (operation_in s) ≡ true) (finds : FindsCopy s x a t t1)

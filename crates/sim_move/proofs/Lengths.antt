@@ -1,6 +1,6 @@
 -- The length of MOVE.
 use Rattle.std.proofs.Common.{ℕ, ◌%◌, ◌<◌, ◌==◌, ◌∙◌, ◌≡◌, ap, arith, Bool, Err, false, Ok, refl, Result, subst, sym, true}
-use Rattle.sim_rows.proofs.Common.{◌>>=◌, ADDR, Asking, barred, behind_code, code_byte, Comes, comes, comes_as, comes_on, Dispatched, even, Exits, fetched_of}
+use Rattle.sim_rows.proofs.Common.{◌>>=◌, ADDR, Asking, operand_stop, behind_code, code_byte, ReachesWithin, comes, comes_as, comes_on, Dispatched, even, Exits, fetched_of}
 use Rattle.sim_rows.proofs.Common.{Finds, finds_of, FindsOperand, GplOperand, GplState, grom_at, GromState, GSTOP, Holds, holds_again, holds_loaded, idle_again}
 use Rattle.sim_rows.proofs.Common.{idle_of, in_register, IsFetched, IsVisible, last_out, length_at, length_of, lies_at, LOAD, Loaded, LoadsFrom, LoadsStream}
 use Rattle.sim_rows.proofs.Common.{LoadsValue, located, MachineState, most_of_load, MOVEL, MOVEN, number_of_space, operand_at, Place, place_in, place_is}
@@ -8,7 +8,7 @@ use Rattle.sim_rows.proofs.Common.{place_lies, place_of, PortsAreIdle, previous-
 use Rattle.sim_rows.proofs.Common.{value_at, value_same, View, view, visible_of, width_in, Word, word_at}
 use Rattle.sim_move.specs.Moves.{Arrives, AsksAddress, AsksLength, AtPlace, FindsLength, Follows, LengthTold, LoadsFollowing, LoadsPlaced}
 use Rattle.sim_move.proofs.Numbers.{odd_bit}
-use Rattle.sim_move.proofs.Ways.{first_way, second_way}
+use Rattle.sim_move.proofs.CopyPaths.{first_way, second_way}
 use Rattle.sim_move.specs.Pieces as pieces
 
 -- what is found, by whether the length is in the bytes that follow
@@ -34,7 +34,7 @@ module _ {y z : MachineState} {u w : ℕ} (e : Exits y z u w (pieces.load_length
   pub visible_loading : IsVisible (view y).r.r5 (view y).r.r2 (view y).r.r3 → IsVisible (view z).r.r5 (view z).r.r2 (view z).r.r3
   visible_loading h = subst (λ (v : View). IsVisible v.r.r5 v.r.r2 v.r.r3) (sym e.shows) h
 
-  asks_stream : (s : GplState) → Follows s (view y) → Comes 1 y z u w LOAD (AskedStream s)
+  asks_stream : (s : GplState) → Follows s (view y) → ReachesWithin 1 y z u w LOAD (AskedStream s)
   asks_stream s h =
       comes e (record {
         within = omega arith;
@@ -46,7 +46,7 @@ module _ {y z : MachineState} {u w : ℕ} (e : Exits y z u w (pieces.load_length
         };
       })
 
-  asks_place : (s : GplState) (place : Place) (next : ℕ) → AtPlace s place next (view y) → Comes 1 y z u w LOAD (AskedPlace s place next)
+  asks_place : (s : GplState) (place : Place) (next : ℕ) → AtPlace s place next (view y) → ReachesWithin 1 y z u w LOAD (AskedPlace s place next)
   asks_place s place next h =
       comes e (record {
         within = omega arith;
@@ -72,7 +72,7 @@ module _ {y z : MachineState} {u w : ℕ} (e : Exits y z u w (pieces.load_length
         l.holds ∙ ap (λ (g : GromState). by g (view z).r.r3) h.holds.sees.grom ∙ ap (by (grom_at s.image (behind_code s))) h.holds.bytes_are
         ∙ ap made (previous-next (behind_code s)) in
         let to : return_of (view z) ≡ MOVEL = ap even h.link in
-        let l2 : Comes 10 z q w k MOVEL (λ v. v ≡ streamed (view z)) = subst (λ (p : ℕ). Comes 10 z q w k p (λ v. v ≡ streamed (view z))) to l in
+        let l2 : ReachesWithin 10 z q w k MOVEL (λ v. v ≡ streamed (view z)) = subst (λ (p : ℕ). ReachesWithin 10 z q w k p (λ v. v ≡ streamed (view z))) to l in
         let c2 = comes_on 1 10 c l2 refl in
         let n = c2.within in
         record {
@@ -108,7 +108,7 @@ module _ {y z : MachineState} {u w : ℕ} (e : Exits y z u w (pieces.load_length
         let v : View = view z in
         let number = value_at (state_of v) (width_in v.r.r3) (place_in v.r.r5 v.r.r2) in
         let to : return_of v ≡ MOVEL = ap even h.link in
-        let l2 : Comes most_of_load z q w k MOVEL (Loaded v number) = subst (λ (p : ℕ). Comes most_of_load z q w k p (Loaded v number)) to l in
+        let l2 : ReachesWithin most_of_load z q w k MOVEL (Loaded v number) = subst (λ (p : ℕ). ReachesWithin most_of_load z q w k p (Loaded v number)) to l in
         let number_is : number ≡ value_at s Word place =
         ap (λ (n : ℕ). value_at (state_of v) (width_in n) (place_in v.r.r5 v.r.r2)) h.holds.bytes_are
         ∙ ap (λ (n : ℕ). value_at (state_of v) Word (place_in n v.r.r2)) h.from.space
@@ -137,7 +137,7 @@ module _ (s : GplState) {x : MachineState} {t : ℕ} (d : Dispatched s (view x))
     -- the length follows
     record Direct : Type 0 where
       pub is_odd : (code_byte s % 2 == 1) ≡ true
-      pub comes : Comes 6 x a t t1 MOVEN (Follows s)
+      pub comes : ReachesWithin 6 x a t t1 MOVEN (Follows s)
 
     module _ (away : a.cpu.pc ≡ ADDR → ⊥) where
       direct : Direct
@@ -173,7 +173,7 @@ module _ (s : GplState) {x : MachineState} {t : ℕ} (d : Dispatched s (view x))
     -- it is at an operand
     record Asked : Type 0 where
       pub is_even : (code_byte s % 2 == 1) ≡ false
-      pub comes : Comes 7 x a t t1 ADDR (Asking s 2 (behind_code s) MOVEN)
+      pub comes : ReachesWithin 7 x a t t1 ADDR (Asking s 2 (behind_code s) MOVEN)
 
     module _ (here : a.cpu.pc ≡ ADDR) where
       asked : Asked
@@ -211,7 +211,7 @@ module _ (s : GplState) {x : MachineState} {t : ℕ} (d : Dispatched s (view x))
             let p = (located s 2 (behind_code s) operand.1 MOVEN 7 x a b t t1 t2 place refl asked.comes g).stands.pc in absurd (omega arith)
         stopped_by there (Err reason) is g =
             let P : Result Place Reason → Type 0 = λ q. Arrives 61 s x b t t2 MOVEL (LengthTold s operand.1) (q >>= λ p. Ok (value_at s Word p)) in
-            subst P (sym is) (comes_as 61 _ (barred s 2 (behind_code s) MOVEN 7 reason x a b t t1 t2 asked.comes g) (omega arith) (λ w k. k))
+            subst P (sym is) (comes_as 61 _ (operand_stop s 2 (behind_code s) MOVEN 7 reason x a b t t1 t2 asked.comes g) (omega arith) (λ w k. k))
 
         pub stopped : b.cpu.pc ≡ GSTOP → FindsLength s x b t t2
         stopped there = record { by = subst (FindsBy s x b t t2) (sym asked.is_even) (stopped_by there (place_of s 2 operand.0) refl finds) }
@@ -219,7 +219,7 @@ module _ (s : GplState) {x : MachineState} {t : ℕ} (d : Dispatched s (view x))
         record Placed : Type 0 where
           pub place : Place
           pub is_place : place_of s 2 operand.0 ≡ Ok place
-          pub comes : Comes 45 x b t t2 MOVEN (AtPlace s place operand.1)
+          pub comes : ReachesWithin 45 x b t t2 MOVEN (AtPlace s place operand.1)
 
         placed_by : (b.cpu.pc ≡ GSTOP → ⊥) → (r : Result Place Reason) → place_of s 2 operand.0 ≡ r → Finds a b t1 t2 operand.1 r → Placed
         placed_by n (Ok place) is g = record {

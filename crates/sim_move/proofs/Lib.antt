@@ -1,6 +1,6 @@
 pub mod Numbers
 pub mod Paths
-pub mod Ways
+pub mod CopyPaths
 pub mod Lengths
 pub mod Codes
 pub mod Targets

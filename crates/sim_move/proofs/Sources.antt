@@ -1,7 +1,7 @@
 -- A source in GROM.
 use Rattle.std.proofs.Common.{ℕ, ◌%◌, ◌/◌, ◌<◌, ◌==◌, ◌∙◌, ◌≡◌, ap, arith, Bool, eqb, Err, false, List, Ok, Option, refl, Result, subst, sym, true}
 use Rattle.std.proofs.lemmas.Bool.{eq-eqb, eqb-true}
-use Rattle.sim_rows.proofs.Common.{Addressed, Answers, ASPACE, Barred, barred_stops, Cell, code_byte, Comes, comes, comes_as, comes_then, Exit, exit, Exits}
+use Rattle.sim_rows.proofs.Common.{Addressed, Answers, ASPACE, OperandStop, barred_stops, Cell, code_byte, ReachesWithin, comes, comes_as, comes_then, Exit, exit, Exits}
 use Rattle.sim_rows.proofs.Common.{from, Goes, goes_in, GplState, grom_at, GromState, GSTOP, Holds, INDEX, index_by, index_read, indexed, IndexRead, is_view}
 use Rattle.sim_rows.proofs.Common.{just, known, located_at, lost, MachineState, MOVEA, MOVEK, MOVEX, Place, Placed, range_read, ranged, RangeRead, Reason, SEEK}
 use Rattle.sim_rows.proofs.Common.{set_is, space_of, Stands, state_of, StoppedBy, STREAM, Vdp, View, view, WHERE, where_found, word_at}
@@ -65,7 +65,7 @@ module _ {x a b c d : MachineState} {t t1 t2 t3 t4 : ℕ} (e1 : Exits x a t t1 (
   begun_is : (pieces.ask_index streamed).left ≡ begun
   begun_is = ap at_form (form_is code small)
 
-  asks : Comes 13 x c t t3 INDEX (λ w. w ≡ begun)
+  asks : ReachesWithin 13 x c t t3 INDEX (λ w. w ≡ begun)
   asks =
       let c1 = comes e1 (just (pieces.ask_source v) 2 STREAM (omega arith) refl) in
       let c2 = comes_then 2 6 c1 e2 (from operands.stream c1.holds (known stream_is (just (exit 6 MOVEA streamed) 6 MOVEA (omega arith) refl))) refl in
@@ -114,22 +114,22 @@ module _ {x a b c d : MachineState} {t t1 t2 t3 t4 : ℕ} (e1 : Exits x a t t1 (
 
   pub stopped : eqb (operands.index (view c)).to ASPACE ≡ false → FoundBy d t4 (code_byte s / 2 % 2 == 1)
   stopped f =
-      let k = stops_with (operands.index begun) (λ address. Addressed begun address (form / 32) index.1) (Barred begun Cell)
+      let k = stops_with (operands.index begun) (λ address. Addressed begun address (form / 32) index.1) (OperandStop begun Cell)
       (indexed (state_of begun) index.0 read.0) index_found (sym to_index ∙ f) in
-      let c2 : Comes 32 x d t t4 GSTOP (StoppedBy s Cell) =
+      let c2 : ReachesWithin 32 x d t t4 GSTOP (StoppedBy s Cell) =
       comes_as 32 _ (comes_then 13 8 asks e4 (at_index k.1) refl) (omega arith) (λ w q. barred_stops s 2 read.1 Cell begun w holds_begun q) in
       told_by d t4 (subst (With d t4) (sym (sym index_cells ∙ k.0)) c2)
 
   module _ {y : MachineState} {t5 : ℕ} (e5 : Exits d y t4 t5 (operands.range (view d))) (went : eqb (operands.index (view c)).to ASPACE ≡ true) where
     gone_on : (address : ℕ) × (indexed (state_of begun) index.0 read.0 ≡ Ok address) × Goes (operands.index begun) 10 ASPACE
         (Addressed begun address (form / 32) index.1)
-    gone_on = goes_with (operands.index begun) (λ address. Addressed begun address (form / 32) index.1) (Barred begun Cell)
+    gone_on = goes_with (operands.index begun) (λ address. Addressed begun address (form / 32) index.1) (OperandStop begun Cell)
         (indexed (state_of begun) index.0 read.0) index_found (sym to_index ∙ went)
 
     abbrev address : ℕ
     address = gone_on.0
 
-    added : Comes 23 x d t t4 ASPACE (Addressed begun address (form / 32) index.1)
+    added : ReachesWithin 23 x d t t4 ASPACE (Addressed begun address (form / 32) index.1)
     added = comes_then 13 10 asks e4 (at_index gone_on.2) refl
 
     in_video : ranged begun.r.r3 (space_of (form / 32 % 2 == 1)) address ≡ Ok (record { space = Vdp; address = address })
@@ -140,12 +140,12 @@ module _ {x a b c d : MachineState} {t t1 t2 t3 t4 : ℕ} (e1 : Exits x a t t1 (
         let all : RangeRead begun (view d) address form index.1 (operands.range (view d)) =
         range_read begun (view d) address form index.1 (form_fits code) (omega arith) added.holds in
         let P : Result Place Reason → Type 0 = λ q. Answers q (λ place. Goes (operands.range (view d)) 9 MOVEX (Placed begun index.1 place))
-        (Goes (operands.range (view d)) 9 GSTOP (Barred begun Cell)) in
+        (Goes (operands.range (view d)) 9 GSTOP (OperandStop begun Cell)) in
         subst P in_video all
 
     pub found : FoundBy y t5 (code_byte s / 2 % 2 == 1)
     found =
-        let c2 : Comes 32 x y t t5 MOVEX (SourceTold v s.image index.1 address) =
+        let c2 : ReachesWithin 32 x y t t5 MOVEX (SourceTold v s.image index.1 address) =
         comes_as 32 _ (comes_then 23 9 added e5 ranges refl) (omega arith) (λ w q. record { r4 = q.r4; r6 = q.r6; is = q.is }) in
         told_by y t5 (subst (With y t5) (sym (sym index_cells ∙ gone_on.1)) c2)
 
@@ -160,12 +160,12 @@ turns x a b c d y t t1 t2 t3 t4 t5 stands e1 e2 e3 e4 e5 image at fits grom =
     let asked : View = (pieces.ask_next v).left in
     let located : View = located_at asked image at in
     let kept : View = (pieces.seek_source located).left in
-    let sought : View = record kept { grom = grom_at image v.r.r2 } in
+    let after_seek : View = record kept { grom = grom_at image v.r.r2 } in
     let r2 = (is_view x stands.machine).r 2 in
-    let seek_is : operands.seek kept ≡ exit 3 MOVEK sought =
+    let seek_is : operands.seek kept ≡ exit 3 MOVEK after_seek =
     ap (λ (g : GromState). exit 3 MOVEK (record kept { grom = g })) (set_is (lost image at) v.r.r2 refl r2) in
     let c1 = comes e1 (just (pieces.ask_next v) 1 WHERE (omega arith) refl) in
     let c2 = comes_then 1 8 c1 e2 (from rows.where_next c1.holds (where_found asked image at grom fits)) refl in
     let c3 = comes_then 9 3 c2 e3 (from pieces.seek_source c2.holds (just (pieces.seek_source located) 3 SEEK (omega arith) refl)) refl in
-    let c4 = comes_then 12 3 c3 e4 (from operands.seek c3.holds (known seek_is (just (exit 3 MOVEK sought) 3 MOVEK (omega arith) refl))) refl in
+    let c4 = comes_then 12 3 c3 e4 (from operands.seek c3.holds (known seek_is (just (exit 3 MOVEK after_seek) 3 MOVEK (omega arith) refl))) refl in
     comes_then 15 2 c4 e5 (from pieces.turn_to_grom c4.holds (goes_in (omega arith) (record { r4 = located.r.r4; r6 = v.r.r2; r11 = MOVEK; is = refl }))) refl

@@ -2,7 +2,7 @@
 use Rattle.std.proofs.Common.{ℕ, ◌+◌, ◌<◌, ◌∙◌, ◌≡◌, ◌≤◌, ap, arith, Bool, Err, false, if◌then◌else◌, nat_le, nat_lt, Ok, refl, Result, slice_index, Some}
 use Rattle.std.proofs.Common.{subst, sym, true}
 use Rattle.std.proofs.lemmas.Bool.{le-leb, lt-leb, ltb-false, ltb-true}
-use Rattle.sim_rows.proofs.Common.{◌>>=◌, ADDR, Asking, barred, code_byte, Comes, comes, comes_as, comes_on, comes_then, even, Exit, exit, Exits, fetched_again}
+use Rattle.sim_rows.proofs.Common.{◌>>=◌, ADDR, Asking, operand_stop, code_byte, ReachesWithin, comes, comes_as, comes_on, comes_then, even, Exit, exit, Exits, fetched_again}
 use Rattle.sim_rows.proofs.Common.{Finds, finds_of, FindsOperand, from_placed, goes_in, GplOperand, GplState, grom_at, GromIndexedToMemory, GromState}
 use Rattle.sim_rows.proofs.Common.{GromToMemory, GromToRegisters, GSTOP, Holds, holds_addressed, holds_again, idle_again, is_view, Length, LoadsFrom}
 use Rattle.sim_rows.proofs.Common.{MachineState, MemoryToMemory, most_of_address, Move, MOVEB, MOVED, MoveKind, MOVEL, MOVER, MOVES, MoveTarget, next_at}
@@ -12,7 +12,7 @@ use Rattle.sim_rows.specs.gpl_defs.declared.instruction.MoveTarget.TheVariants a
 use Rattle.sim_move.specs.Moves.{Arrives, AsksAddress, AsksTarget, FindsTarget, length_read, LengthTold, ReturnsToCopy, source_entry, target_in, target_read}
 use Rattle.sim_move.specs.Moves.{TargetTold}
 use Rattle.sim_move.proofs.Codes.{is_low, to_memory, told}
-use Rattle.sim_move.proofs.Ways.{first_way, second_way}
+use Rattle.sim_move.proofs.CopyPaths.{first_way, second_way}
 use Rattle.sim_move.specs.Pieces as pieces
 
 -- what is found, by whether the length is within its limit
@@ -108,13 +108,13 @@ module _ {x a : MachineState} {t t1 : ℕ} (stands : Stands x MOVEL) (e : Exits 
           let small : kept.grom.fetched < 256 = (is_view x stands.machine).grom.fetched in
           let le = few in
           let sum : sum_of Word kept.grom.fetched kept.r.r6 ≡ number + count = let c = h.count_is in omega arith in
-          let c1 : Comes 6 x a t t1 MOVER (λ w. w ≡ kept) = comes to_them.1 (record { within = omega arith; to_is = refl; holds = refl }) in
+          let c1 : ReachesWithin 6 x a t t1 MOVER (λ w. w ≡ kept) = comes to_them.1 (record { within = omega arith; to_is = refl; holds = refl }) in
           let e3 : Exits a y t1 t2 (pieces.count_registers kept) = subst (λ (w : View). Exits a y t1 t2 (pieces.count_registers w)) c1.holds e2 in
           let past_is : (counted kept).grom ≡ grom_at s.image (next_in_grom (length_read s).1) = ap past h.holds.sees.grom in
           by b is number sum c1 e3 byte past_is
         where
           by : (b : Bool) → nat_lt 8 (sum_of Word kept.grom.fetched kept.r.r6) ≡ b → (number : ℕ) → sum_of Word kept.grom.fetched kept.r.r6 ≡ number + count →
-              Comes 6 x a t t1 MOVER (λ w. w ≡ kept) → Exits a y t1 t2 (pieces.count_registers kept) → kept.grom.fetched ≡ number →
+              ReachesWithin 6 x a t t1 MOVER (λ w. w ≡ kept) → Exits a y t1 t2 (pieces.count_registers kept) → kept.grom.fetched ≡ number →
               (counted kept).grom ≡ grom_at s.image (next_in_grom (length_read s).1) →
               Arrives 50 s x y t t2 MOVES (TargetTold s GromToRegisters (next_in_grom (length_read s).1)) (by_limit s count (target.Register number) false)
           by true is number sum c1 e3 byte grom =
@@ -123,7 +123,7 @@ module _ {x a : MachineState} {t t1 : ℕ} (stands : Stands x MOVEL) (e : Exits 
               let none : nat_le (number + count) 8 ≡ false = lt-leb (number + count) 8 more in
               let stop : View = record (counted kept) { r = record (counted kept).r { r0 = 5 } } in
               let e4 : Exits a y t1 t2 (exit 9 GSTOP stop) = rw (is, pieces.count_registers) at e3 in
-              let c2 : Comes 50 x y t t2 GSTOP (StoppedBy s Register) =
+              let c2 : ReachesWithin 50 x y t t2 GSTOP (StoppedBy s Register) =
               comes_as 50 _ (comes_then 6 9 c1 e4
               (record { within = omega arith; to_is = refl; holds = stops_there s 2 (length_read s).1 Register v stop h.holds refl refl refl refl }) refl)
               (omega arith) (λ w q. q) in
@@ -134,7 +134,7 @@ module _ {x a : MachineState} {t t1 : ℕ} (stands : Stands x MOVEL) (e : Exits 
               let some : nat_le (number + count) 8 ≡ true = le-leb (number + count) 8 le in
               let on : View = record (counted kept) { r = record (counted kept).r { r8 = 2 } } in
               let e4 : Exits a y t1 t2 (exit 8 MOVES on) = rw (is, pieces.count_registers) at e3 in
-              let c2 : Comes 50 x y t t2 MOVES (TargetTold s GromToRegisters (next_in_grom (length_read s).1) (count, ToRegisters number)) =
+              let c2 : ReachesWithin 50 x y t t2 MOVES (TargetTold s GromToRegisters (next_in_grom (length_read s).1) (count, ToRegisters number)) =
               comes_as 50 _ (comes_then 6 8 c1 e4 (record {
                 within = omega arith;
                 to_is = refl;
@@ -190,7 +190,7 @@ module _ {x a : MachineState} {t t1 : ℕ} (stands : Stands x MOVEL) (e : Exits 
             bytes = let n = ap (λ (w : View). w.r.r3) shows in let le = few in omega arith;
           }
 
-      asks : (s : GplState) (count : ℕ) → LengthTold s (length_read s).1 count v → Comes 7 x a t t1 ADDR
+      asks : (s : GplState) (count : ℕ) → LengthTold s (length_read s).1 count v → ReachesWithin 7 x a t t1 ADDR
           (λ w. Asking s count (length_read s).1 MOVED w × (w.r.r12 ≡ count))
       asks s count h = comes to_it.1 (goes_in (omega arith)
           ((record { holds = holds_again s 2 count (length_read s).1 v _ h.holds refl refl refl refl refl refl h.count_is; link = refl }, h.count_is)))
@@ -219,7 +219,7 @@ module _ {x a : MachineState} {t t1 : ℕ} (stands : Stands x MOVEL) (e : Exits 
         stopped_by there s kind count next h (Ok place) g =
             let p = ap even (asks s count h).holds.0.link in let q = g.stands.pc in absurd (omega arith)
         stopped_by there s kind count next h (Err reason) g =
-            comes_as 50 _ (barred s count (length_read s).1 MOVED 7 reason x a b t t1 t2 (comes_as 7 _ (asks s count h) (omega arith) (λ w k. k.0)) g)
+            comes_as 50 _ (operand_stop s count (length_read s).1 MOVED 7 reason x a b t t1 t2 (comes_as 7 _ (asks s count h) (omega arith) (λ w k. k.0)) g)
             (omega arith) (λ w k. k)
 
         abbrev with_place : ℕ → Place → Result (ℕ × To) Reason
@@ -266,12 +266,12 @@ module _ {x a : MachineState} {t t1 : ℕ} (stands : Stands x MOVEL) (e : Exits 
               pub left : w.r.r12 ≡ count
 
             placed : (s : GplState) (count : ℕ) (place : Place) → LengthTold s (length_read s).1 count v → Finds a b t1 t2 (operand s).1 (Ok place) →
-                Comes 45 x b t t2 MOVED (Placed_at s count place)
+                ReachesWithin 45 x b t t2 MOVED (Placed_at s count place)
             placed s count place h g =
                 let c = asks s count h in
                 let to : return_of (view a) ≡ MOVED = ap even c.holds.0.link in
-                let g2 : Comes most_of_address a b t1 t2 MOVED (Placed (view a) (operand s).1 place) =
-                subst (λ (p : ℕ). Comes most_of_address a b t1 t2 p (Placed (view a) (operand s).1 place)) to g in
+                let g2 : ReachesWithin most_of_address a b t1 t2 MOVED (Placed (view a) (operand s).1 place) =
+                subst (λ (p : ℕ). ReachesWithin most_of_address a b t1 t2 p (Placed (view a) (operand s).1 place)) to g in
                 comes_as 45 (Placed_at s count place) (comes_on 7 38 c g2 refl) (omega arith)
                 (λ w k. record {
                   holds = holds_addressed s count (length_read s).1 (operand s).1 (view a) w c.holds.0.holds k;
@@ -299,9 +299,9 @@ module _ {x a : MachineState} {t t1 : ℕ} (stands : Stands x MOVEL) (e : Exits 
               link = link;
             }
 
-            low_source : (s : GplState) (kind : MoveKind) (count : ℕ) (place : Place) (c : Comes 45 x b t t2 MOVED (Placed_at s count place)) →
+            low_source : (s : GplState) (kind : MoveKind) (count : ℕ) (place : Place) (c : ReachesWithin 45 x b t t2 MOVED (Placed_at s count place)) →
                 nat_lt (view b).r.r0 0x34 ≡ true →
-                ((w : View) → ReturnsToCopy kind w) → Comes 50 x y t t3 MOVES (TargetTold s kind (operand s).1 (count, ToMemory place))
+                ((w : View) → ReturnsToCopy kind w) → ReachesWithin 50 x y t t3 MOVES (TargetTold s kind (operand s).1 (count, ToMemory place))
             low_source s kind count place c low link =
                 comes_as 50 _ (comes_then 45 4 c (rw (low, pieces.keep_target) at e3) (record {
                   within = omega arith;
@@ -309,9 +309,9 @@ module _ {x a : MachineState} {t t1 : ℕ} (stands : Stands x MOVEL) (e : Exits 
                   holds = kept_in s kind count place (turned (view b)) c.holds refl refl refl refl refl refl refl refl refl refl (link (turned (view b)));
                 }) refl) (omega arith) (λ w q. q)
 
-            high_source : (s : GplState) (count : ℕ) (place : Place) (c : Comes 45 x b t t2 MOVED (Placed_at s count place)) →
+            high_source : (s : GplState) (count : ℕ) (place : Place) (c : ReachesWithin 45 x b t t2 MOVED (Placed_at s count place)) →
                 nat_lt (view b).r.r0 0x34 ≡ false →
-                Comes 50 x y t t3 ADDR (TargetTold s MemoryToMemory (operand s).1 (count, ToMemory place))
+                ReachesWithin 50 x y t t3 ADDR (TargetTold s MemoryToMemory (operand s).1 (count, ToMemory place))
             high_source s count place c high =
                 comes_then 45 5 c (rw (high, pieces.keep_target) at e3) (record {
                   within = omega arith;
@@ -320,9 +320,9 @@ module _ {x a : MachineState} {t t1 : ℕ} (stands : Stands x MOVEL) (e : Exits 
                       refl refl refl refl refl refl refl refl refl;
                 }) refl
 
-            by_kind : (kind : MoveKind) (s : GplState) (count : ℕ) (place : Place) (c : Comes 45 x b t t2 MOVED (Placed_at s count place)) →
+            by_kind : (kind : MoveKind) (s : GplState) (count : ℕ) (place : Place) (c : ReachesWithin 45 x b t t2 MOVED (Placed_at s count place)) →
                 to_memory kind ≡ true → nat_lt (view b).r.r0 0x34 ≡ is_low kind →
-                Comes 50 x y t t3 (source_entry kind) (TargetTold s kind (operand s).1 (count, ToMemory place))
+                ReachesWithin 50 x y t t3 (source_entry kind) (TargetTold s kind (operand s).1 (count, ToMemory place))
             by_kind GromToMemory s count place c m low = low_source s GromToMemory count place c low (λ w. tt)
             by_kind GromIndexedToMemory s count place c m low = low_source s GromIndexedToMemory count place c low (λ w. tt)
             by_kind MemoryToMemory s count place c m low = high_source s count place c low

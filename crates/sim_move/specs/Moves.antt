@@ -1,6 +1,6 @@
 -- The parts of MOVE up to its copy, for all states that may be there.
 use Rattle.std.specs.Prelude.{ℕ, ◌%◌, ◌+◌, ◌/◌, ◌<◌, ◌==◌, ◌≡◌, ◌≤◌, Err, List, Ok, Result, Some}
-use Rattle.sim_rows.specs.Prelude.{◌>>=◌, ADDR, behind_code, Changes, code_byte, Comes, From, from_at, GplState}
+use Rattle.sim_rows.specs.Prelude.{◌>>=◌, ADDR, behind_code, Changes, code_byte, ReachesWithin, From, from_at, GplState}
 use Rattle.sim_rows.specs.Prelude.{grom_at, GSTOP, Holds, index_by, indexed, IsFetched, IsVisible, length_at}
 use Rattle.sim_rows.specs.Prelude.{length_of, LoadsFrom, MOVEN, PortsAreIdle, Stands, VISIBLE_CELLS}
 use Rattle.sim_rows.specs.Prelude.{MachineState, MemoryToMemory, Move, MOVEB, MoveKind, MOVEL, MoveLength, MOVES}
@@ -55,8 +55,8 @@ pub record MayCopy (x : MachineState) : Type 0 where
 -- The machine arrives at an address with what a definition gives, or stops by its reason.
 abbrev pub Arrives : {X : Type 0} → ℕ → GplState → MachineState → MachineState → ℕ → ℕ → ℕ
     → (X → View → Type 0) → Result X Reason → Type 0
-Arrives most s x y before after to Shows (Ok found) = Comes most x y before after to (Shows found)
-Arrives most s x y before after to Shows (Err reason) = Comes most x y before after GSTOP (StoppedBy s reason)
+Arrives most s x y before after to Shows (Ok found) = ReachesWithin most x y before after to (Shows found)
+Arrives most s x y before after to Shows (Err reason) = ReachesWithin most x y before after GSTOP (StoppedBy s reason)
 
 -- At MOVEL the length is in register 6.
 pub record LengthTold (s : GplState) (next count : ℕ) (w : View) : Type 0 where
@@ -75,12 +75,12 @@ pub record AtPlace (s : GplState) (place : Place) (next : ℕ) (w : View) : Type
 abbrev pub LoadsFollowing : MachineState → MachineState → ℕ → ℕ → Type 0
 LoadsFollowing x y before after =
     (s : GplState) → Follows s (view x)
-    → (let count = word_at s.image (behind_code s) in Comes 16 x y before after MOVEL (LengthTold s count.1 count.0))
+    → (let count = word_at s.image (behind_code s) in ReachesWithin 16 x y before after MOVEL (LengthTold s count.1 count.0))
 
 abbrev pub LoadsPlaced : MachineState → MachineState → ℕ → ℕ → Type 0
 LoadsPlaced x y before after =
     (s : GplState) → (place : Place) → (next : ℕ) → AtPlace s place next (view x)
-    → Comes 16 x y before after MOVEL (LengthTold s next (value_at s Word place))
+    → ReachesWithin 16 x y before after MOVEL (LengthTold s next (value_at s Word place))
 
 pub record FindsLength (s : GplState) (x y : MachineState) (before after : ℕ) : Type 0 where
   pub by : Arrives 61 s x y before after MOVEL (LengthTold s (length_read s).1) (length_of s (length_read s).0)
@@ -144,7 +144,7 @@ abbrev pub TurnsToSource : MachineState → MachineState → ℕ → ℕ → Typ
 TurnsToSource x y before after =
     let v = view x in
     (image : List ℕ) → (at : ℕ) → at < 65536 → v.grom ≡ grom_at image at
-    → Comes 17 x y before after MOVEB (TurnedTo v image at)
+    → ReachesWithin 17 x y before after MOVEB (TurnedTo v image at)
 
 -- The length, the target and the source, each with its checks, in the order of their bytes.
 abbrev pub copy_in : MoveKind → GplState → Result ((ℕ × To) × From) Reason

@@ -1,7 +1,7 @@
 //! MOVE from its dispatch to the end of the step.
 
 ghost use Rattle.std.specs.Prelude.{◌≡◌, true};
-ghost use Rattle.sim_rows.specs.Prelude.{AtDispatch, Dispatched, most_to_dispatch, number_of, operation_seen, Stands};
+ghost use Rattle.sim_rows.specs.Prelude.{AtDispatch, Dispatched, most_to_dispatch, number_of, operation_in_view, Stands};
 ghost use Rattle.sim_rows.specs.Prelude.{state_at_dispatch, Turned, view, WORKSPACE};
 ghost use Rattle.sim_move.specs.Family.{is_move};
 ghost use Rattle.sim_copy.specs.Copying.{CopiesBytes};
@@ -19,10 +19,10 @@ use sim_rows::{Reason, Turn, register};
 use std::sync::ledger::Ledger;
 
 /// Finds the length, the target and the source of MOVE, or stops by the reason of the first that is not there.
-fn find_copy<L: Ledger>(machine: &mut Machine, steps: &mut Steps<L>)
+fn decode_move<L: Ledger>(machine: &mut Machine, steps: &mut Steps<L>)
     requires stands { Stands machine.old address.GOMOVE }
     requires dispatched { let v = view machine.old in Dispatched (state_at_dispatch v) v }
-    requires family { is_move (operation_seen (view machine.old)) ≡ true }
+    requires family { is_move (operation_in_view (view machine.old)) ≡ true }
     ensures { let s = state_at_dispatch (view machine.old) in FindsCopy s machine.old machine.new steps.old steps.new }
 {
     find_length(machine, steps);
@@ -75,7 +75,7 @@ pub fn run_move<L: Ledger>(machine: &mut Machine, steps: &mut Steps<L>) -> Turn
     ensures { let s = state_at_dispatch (view machine.old) in
         Turned s most_to_dispatch machine.old machine.new steps.old steps.new result }
 {
-    find_copy(machine, steps);
+    decode_move(machine, steps);
     if machine.pc() == GSTOP {
         return Turn::Stopped(reason_told(machine));
     }

@@ -1,6 +1,6 @@
 -- MUL, from its row to the end of the step.
 use Rattle.std.proofs.Common.{ℕ, ◌%◌, ◌*◌, ◌+◌, ◌/◌, ◌<◌, ◌∙◌, ◌≡◌, ap, arith, refl, Some, subst, sym, true}
-use Rattle.sim_rows.proofs.Common.{AtRow, behind, Byte, byte_at, changed_again, ChangedFrom, Comes, comes, comes_as, comes_on, comes_then, even, Exits, gone_on}
+use Rattle.sim_rows.proofs.Common.{AtRow, behind, Byte, byte_at, changed_again, ChangedFrom, ReachesWithin, comes, comes_as, comes_on, comes_then, even, Exits, gone_on}
 use Rattle.sim_rows.proofs.Common.{GplState, GSTEP, high, idle_again, in_register, is_view, IsVisible, join, MachineState, most_of_product_row, most_of_store}
 use Rattle.sim_rows.proofs.Common.{MUL, MULB, MULV, next_of, operation_in, Place, PortsAreIdle, reads_destination, return_of, row_changed, row_width, RunsRow}
 use Rattle.sim_rows.proofs.Common.{SeesFinished, shifted, size_of, SLA, Source, SRL, Stands, STO, STORE, store_then, stored_idle, StoresResult, StoresValue}
@@ -59,11 +59,11 @@ module _ {x a : MachineState} {t u : ℕ} (ready : IsReady x) (byte : width_in (
       let width : row_width s ≡ Byte = sym (width_there s place source v row) ∙ byte in
       let c = unchanged (gone_on s) in
       let number = value_at s Byte place * source.number in
-      let c1 : Comes 7 x a t u STO (Storing c Word place number) =
+      let c1 : ReachesWithin 7 x a t u STO (Storing c Word place number) =
       comes made (record { within = omega arith; to_is = refl; holds = storing s place source is row width }) in
       let done = comes_on 7 45 c1 (finish c Word place number c1.holds) refl in
       let more = comes_as 67 (SeesFinished (with_value Word place number c)) done (omega arith) (λ q h. h) in
-      subst (λ (k : Width). Comes 67 x y t w GSTEP (SeesFinished (with_double k place (value_at s k place * source.number) c))) (sym width) more
+      subst (λ (k : Width). ReachesWithin 67 x y t w GSTEP (SeesFinished (with_double k place (value_at s k place * source.number) c))) (sym width) more
 
 -- ---- words
 
@@ -140,13 +140,13 @@ module _ {x a : MachineState} {t u : ℕ} (ready : IsReady x) (word : width_in (
             to_place = record { address = row.to_place.address; space = row.to_place.space };
             value = ap (λ (n : ℕ). n / 65536) product;
           } in
-          let c1 : Comes 4 x a t u STORE (λ (q : View). q ≡ (pieces.multiply_words p).left) =
+          let c1 : ReachesWithin 4 x a t u STORE (λ (q : View). q ≡ (pieces.multiply_words p).left) =
           comes asked (record { within = omega arith; to_is = refl; holds = refl }) in
           let there = subst (λ (q : View). Storing c Word place (number / 65536) q) (sym c1.holds) at_store in
           let half = with_value Word place (number / 65536) c in
           let s1 = store_then c Word place (number / 65536) a b u u2 there stored in
-          let s2 : Comes most_of_store a b u u2 MULB (ChangedFrom half (view a)) =
-          subst (λ (q : ℕ). Comes most_of_store a b u u2 q (ChangedFrom half (view a))) back_is s1 in
+          let s2 : ReachesWithin most_of_store a b u u2 MULB (ChangedFrom half (view a)) =
+          subst (λ (q : ℕ). ReachesWithin most_of_store a b u u2 q (ChangedFrom half (view a))) back_is s1 in
           let c2 = comes_on 4 15 c1 s2 refl in
           let m = view b in
           let ten : m.r.r10 ≡ number % 65536 = c2.holds.keeps.r10 ∙ ap (λ (q : View). q.r.r10) asked.shows ∙ ap (λ (n : ℕ). n % 65536) product in
@@ -156,7 +156,7 @@ module _ {x a : MachineState} {t u : ℕ} (ready : IsReady x) (word : width_in (
             to_place = record { address = ap (λ (n : ℕ). (n + 2) % 65536) (kept_7 ∙ row.to_place.address); space = kept_8 ∙ row.to_place.space };
             value = ten;
           } in
-          let c3 : Comes 22 x d t u3 STO (Storing half Word (behind 2 place) (number % 65536)) =
+          let c3 : ReachesWithin 22 x d t u3 STO (Storing half Word (behind 2 place) (number % 65536)) =
           comes_then 19 3 c2 second (record { within = omega arith; to_is = refl; holds = at_low }) refl in
           let done = comes_on 22 45 c3 (finish half Word (behind 2 place) (number % 65536) c3.holds) refl in
-          subst (λ (k : Width). Comes 67 x y t w GSTEP (SeesFinished (with_double k place (value_at s k place * source.number) c))) (sym width) done
+          subst (λ (k : Width). ReachesWithin 67 x y t w GSTEP (SeesFinished (with_double k place (value_at s k place * source.number) c))) (sym width) done

@@ -2,7 +2,7 @@
 use Rattle.std.proofs.Common.{ℕ, ◌%◌, ◌+◌, ◌/◌, ◌<◌, ◌==◌, ◌∙◌, ◌≡◌, ◌≤◌, ap, arith, Bool, false, if◌then◌else◌, List, nat_lt, refl, slice_index, slice_set}
 use Rattle.std.proofs.Common.{Some, subst, sym, true}
 use Rattle.std.proofs.lemmas.Bool.{ltb-true}
-use Rattle.sim_rows.proofs.Common.{AtRow, behind, Byte, Changed, changed_again, ChangedFrom, Changes, Comes, comes, comes_as, comes_on, comes_then, DIV, DIVBY}
+use Rattle.sim_rows.proofs.Common.{AtRow, behind, Byte, ShowsChanges, changed_again, ChangedFrom, Changes, ReachesWithin, comes, comes_as, comes_on, comes_then, DIV, DIVBY}
 use Rattle.sim_rows.proofs.Common.{DIVE, divided, DIVL, DIVQ, DIVS, DIVV, DIVW, double_at, double_word, EndsRow, even, exit, Exits, Goes, goes_in, gone_on}
 use Rattle.sim_rows.proofs.Common.{GplState, GSTEP, has_quotient, high, idle_again, idle_grom, idle_told, idle_video, in_register, is_end, is_view, IsVisible}
 use Rattle.sim_rows.proofs.Common.{join, LOAD, Loaded, LoadsValue, MachineState, most_of_load, most_of_quotient_row, most_of_store, next_of, number_of_space}
@@ -47,7 +47,7 @@ module _ {x a : MachineState} {t u : ℕ} (ready : MayStore x) (first : Exits x 
       end_idle = idle_again b.cpu.memory d.cpu.memory (ap (λ (w : View). w.vdp) second.shows) (ap (λ (w : View). w.grom) second.shows)
           (stored_idle a b u u2 last_idle stored)
 
-      cleared : (c : Changes) (w : View) → Changed c w → Changed (with_overflow false c) (pieces.clear_overflow w).left
+      cleared : (c : Changes) (w : View) → ShowsChanges c w → ShowsChanges (with_overflow false c) (pieces.clear_overflow w).left
       cleared c w h = record {
         cells = ap (status_set (λ n. ones_cleared Byte n 0x08)) h.cells;
         vdp = h.vdp;
@@ -61,15 +61,15 @@ module _ {x a : MachineState} {t u : ℕ} (ready : MayStore x) (first : Exits x 
       ends_division y w ends c width place number h =
           let v = view x in
           let left = (pieces.store_last v).left in
-          let c1 : Comes 1 x a t u STORE (λ (q : View). q ≡ left) = comes first (record { within = omega arith; to_is = refl; holds = refl }) in
+          let c1 : ReachesWithin 1 x a t u STORE (λ (q : View). q ≡ left) = comes first (record { within = omega arith; to_is = refl; holds = refl }) in
           let there = subst (λ (q : View). Storing c width place number q) (sym c1.holds) (storing_again c width place number v left h refl
           refl refl refl refl refl refl refl) in
           let done = with_value width place number c in
           let s1 = store_then c width place number a b u u2 there stored in
-          let s2 : Comes most_of_store a b u u2 DIVE (ChangedFrom done (view a)) =
-          subst (λ (q : ℕ). Comes most_of_store a b u u2 q (ChangedFrom done (view a))) last_back s1 in
+          let s2 : ReachesWithin most_of_store a b u u2 DIVE (ChangedFrom done (view a)) =
+          subst (λ (q : ℕ). ReachesWithin most_of_store a b u u2 q (ChangedFrom done (view a))) last_back s1 in
           let c2 = comes_on 1 15 c1 s2 refl in
-          let c3 : Comes 19 x d t u3 SHOW (Changed (with_overflow false done)) = comes_then 16 3 c2 second
+          let c3 : ReachesWithin 19 x d t u3 SHOW (ShowsChanges (with_overflow false done)) = comes_then 16 3 c2 second
           (record { within = omega arith; to_is = refl; holds = cleared done (view b) c2.holds.changed }) refl in
           comes_on 19 28 c3 (ends (with_overflow false done) c3.holds) refl
 
@@ -120,13 +120,13 @@ module _ {x a : MachineState} {t u : ℕ} (ready : IsReady x) (byte : width_in (
         to_place = record { address = row.to_place.address; space = row.to_place.space };
         value = value;
       } in
-      let c1 : Comes 8 x a t u DIVS (Storing c Word place number) = comes first (record { within = omega arith; to_is = refl; holds = at_end }) in
+      let c1 : ReachesWithin 8 x a t u DIVS (Storing c Word place number) = comes first (record { within = omega arith; to_is = refl; holds = at_end }) in
       let done = comes_on 8 47 c1 (ends c Word place number c1.holds) refl in
-      let named = subst (λ (k : Changes). Comes 55 x y t w GSTEP (SeesFinished (with_overflow false k)))
+      let named = subst (λ (k : Changes). ReachesWithin 55 x y t w GSTEP (SeesFinished (with_overflow false k)))
       (one_word place (dividend / divisor) (dividend % divisor) c rest) done in
       let more = comes_as 87 (SeesFinished (with_overflow false (with_quotient Byte place (dividend / divisor) (dividend % divisor) c))) named (omega arith)
       (λ q h. h) in
-      subst (λ (k : Width). Comes 87 x y t w GSTEP
+      subst (λ (k : Width). ReachesWithin 87 x y t w GSTEP
       (SeesFinished (with_overflow false (with_quotient k place (double_at s k place / divisor) (double_at s k place % divisor) c)))) (sym width) more
 
 -- ---- words: loading and dividing
@@ -167,15 +167,15 @@ module _ {x a : MachineState} {t u : ℕ} (ready : IsReady x) (word : width_in (
     abbrev value_of : View → Width → ℕ
     value_of w k = value_at (state_of w) k (place_in w.r.r5 w.r.r2)
 
-    loaded_there : Comes most_of_load a b u u2 DIVL (Loaded asking (second_in p))
+    loaded_there : ReachesWithin most_of_load a b u u2 DIVL (Loaded asking (second_in p))
     loaded_there =
-        let l1 : Comes most_of_load a b u u2 (return_of asking) (Loaded asking (value_of asking (width_in asking.r.r3))) =
-        subst (λ (w : View). Comes most_of_load a b u u2 (return_of w) (Loaded w (value_of w (width_in w.r.r3)))) first.shows loaded in
-        subst (λ (k : Width). Comes most_of_load a b u u2 DIVL (Loaded asking (value_of asking k))) word l1
+        let l1 : ReachesWithin most_of_load a b u u2 (return_of asking) (Loaded asking (value_of asking (width_in asking.r.r3))) =
+        subst (λ (w : View). ReachesWithin most_of_load a b u u2 (return_of w) (Loaded w (value_of w (width_in w.r.r3)))) first.shows loaded in
+        subst (λ (k : Width). ReachesWithin most_of_load a b u u2 DIVL (Loaded asking (value_of asking k))) word l1
 
-    pub divides_there : (y : MachineState) (u3 : ℕ) → Exits b y u2 u3 (pieces.divide_words (view b)) → Comes 23 x y t u3 STORE (Divided p)
+    pub divides_there : (y : MachineState) (u3 : ℕ) → Exits b y u2 u3 (pieces.divide_words (view b)) → ReachesWithin 23 x y t u3 STORE (Divided p)
     divides_there y u3 second =
-        let c1 : Comes 5 x a t u LOAD (λ (q : View). q ≡ asking) = comes first (record { within = omega arith; to_is = refl; holds = refl }) in
+        let c1 : ReachesWithin 5 x a t u LOAD (λ (q : View). q ≡ asking) = comes first (record { within = omega arith; to_is = refl; holds = refl }) in
         let c2 = comes_on 5 15 c1 loaded_there refl in
         let l = c2.holds in
         let value : in_register (width_in p.r.r3) (second_in p) ≡ second_in p = ap (λ (k : Width). in_register k (second_in p)) word in
@@ -223,7 +223,7 @@ module _ {x b : MachineState} {t u : ℕ} (ready : MayStoreQuotient x) (stores :
     ends_quotient y w ends c place quotient h =
         let half = with_value Word place quotient c in
         let s1 = store_then c Word place quotient x b t u h half_stored in
-        let c1 : Comes most_of_store x b t u DIVQ (ChangedFrom half o) = subst (λ (q : ℕ). Comes most_of_store x b t u q (ChangedFrom half o)) ready.link s1 in
+        let c1 : ReachesWithin most_of_store x b t u DIVQ (ChangedFrom half o) = subst (λ (q : ℕ). ReachesWithin most_of_store x b t u q (ChangedFrom half o)) ready.link s1 in
         let m = view b in
         let k = c1.holds.keeps in
         let at_rest : Storing half Word (behind 2 place) o.r.r10 (pieces.take_remainder m).left = record {
@@ -232,13 +232,13 @@ module _ {x b : MachineState} {t u : ℕ} (ready : MayStoreQuotient x) (stores :
           to_place = record { address = ap (λ (n : ℕ). (n + 2) % 65536) (kept_7 ∙ h.to_place.address); space = kept_8 ∙ h.to_place.space };
           value = k.r10;
         } in
-        let c2 : Comes 17 x d t u2 DIVS (Storing half Word (behind 2 place) o.r.r10) = comes_then 15 2 c1 second
+        let c2 : ReachesWithin 17 x d t u2 DIVS (Storing half Word (behind 2 place) o.r.r10) = comes_then 15 2 c1 second
         (record { within = omega arith; to_is = refl; holds = at_rest }) refl in
         comes_on 17 47 c2 (ends half Word (behind 2 place) o.r.r10 c2.holds) refl
 
 -- ---- words: both
 
-module _ {x a : MachineState} {t u : ℕ} (ready : IsReady x) (word : width_in (view x).r.r3 ≡ Word) (first : Comes 23 x a t u STORE (Divided (view x))) where
+module _ {x a : MachineState} {t u : ℕ} (ready : IsReady x) (word : width_in (view x).r.r3 ≡ Word) (first : ReachesWithin 23 x a t u STORE (Divided (view x))) where
   abbrev n : View
   n = view x
 
@@ -286,9 +286,9 @@ module _ {x a : MachineState} {t u : ℕ} (ready : IsReady x) (word : width_in (
       } in
       let done = comes_on 23 64 first (ends c place (dividend / divisor) there) refl in
       let rest : (view a).r.r10 ≡ dividend % divisor = ap (λ (k : View). k.r.r10) d.is ∙ r in
-      let named = subst (λ (k : ℕ). Comes 87 x y t w GSTEP (SeesFinished (with_overflow false (with_quotient Word place (dividend / divisor) k c)))) rest done
+      let named = subst (λ (k : ℕ). ReachesWithin 87 x y t w GSTEP (SeesFinished (with_overflow false (with_quotient Word place (dividend / divisor) k c)))) rest done
       in
-      subst (λ (k : Width). Comes 87 x y t w GSTEP
+      subst (λ (k : Width). ReachesWithin 87 x y t w GSTEP
       (SeesFinished (with_overflow false (with_quotient k place (double_at s k place / divisor) (double_at s k place % divisor) c)))) (sym width) named
 
 -- ---- which way
@@ -345,7 +345,7 @@ module _ {x a : MachineState} {t u : ℕ} (ready : IsReady x) (stands : Stands x
   pub at : (p : ℕ) → a.cpu.pc ≡ p → Stands a p
   at p e = subst (λ (q : ℕ). Stands a q) (goes e) first.stands
 
-  came : (p : ℕ) → to ≡ p → Comes 4 x a t u p (λ (q : View). q ≡ z)
+  came : (p : ℕ) → to ≡ p → ReachesWithin 4 x a t u p (λ (q : View). q ≡ z)
   came p e = comes first (goes_by fits byte z p e)
 
   same : view a ≡ z
@@ -396,15 +396,15 @@ module _ {x a : MachineState} {t u : ℕ} (ready : IsReady x) (stands : Stands x
 
   ends_as : (s : GplState) (place : Place) (source : Source) (y : MachineState) (w : ℕ) (has : Bool) →
       has_quotient (row_width s) (double_at s (row_width s) place) source.number ≡ has →
-      Comes 91 x y t w GSTEP (SeesFinished (by s place source.number has)) → Comes 91 x y t w GSTEP
+      ReachesWithin 91 x y t w GSTEP (SeesFinished (by s place source.number has)) → ReachesWithin 91 x y t w GSTEP
       (SeesFinished (divided (row_width s) place (double_at (gone_on s) (row_width s) place) source.number (unchanged (gone_on s))))
   ends_as s place source y w has e run =
       let width = row_width s in
-      let there = subst (λ (b : Bool). Comes 91 x y t w GSTEP (SeesFinished (by s place source.number b))) (sym e) run in
-      subst (λ (k : ℕ). Comes 91 x y t w GSTEP (SeesFinished (divided width place k source.number (unchanged (gone_on s)))))
+      let there = subst (λ (b : Bool). ReachesWithin 91 x y t w GSTEP (SeesFinished (by s place source.number b))) (sym e) run in
+      subst (λ (k : ℕ). ReachesWithin 91 x y t w GSTEP (SeesFinished (divided width place k source.number (unchanged (gone_on s)))))
       (double_same s (gone_on s) width place refl refl) there
 
-  overflows : (c : Changes) (q : View) → Changed c q → c.shows ≡ false → Goes (pieces.set_overflow q) 3 GSTEP (SeesFinished (with_overflow true c))
+  overflows : (c : Changes) (q : View) → ShowsChanges c q → c.shows ≡ false → Goes (pieces.set_overflow q) 3 GSTEP (SeesFinished (with_overflow true c))
   overflows c q h none = goes_in (omega arith)
       (rw none (record { cells = ap (status_set (λ k. ones_set k 0x08)) h.cells; vdp = h.vdp; registers = h.registers; held = h.held; grom = h.grom }))
 
@@ -412,7 +412,7 @@ module _ {x a : MachineState} {t u : ℕ} (ready : IsReady x) (stands : Stands x
   over_runs e {y = y} {w = w} second s place source is row operands =
       let has = sym (fits_is s place source is row) ∙ over_is fits byte z (goes e) in
       let c = unchanged (gone_on s) in
-      let there = subst (λ (q : View). Changed c q) (sym same) (row_changed s place source z row) in
+      let there = subst (λ (q : View). ShowsChanges c q) (sym same) (row_changed s place source z row) in
       let done = comes_then 4 3 (came OVER (goes e)) second (overflows c (view a) there refl) refl in
       ends_as s place source y w false has (comes_as 91 (SeesFinished (with_overflow true c)) done (omega arith) (λ q h. h))
 

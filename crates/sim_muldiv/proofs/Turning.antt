@@ -3,7 +3,7 @@ use Rattle.std.proofs.Common.{ℕ, ◌%◌, ◌*◌, ◌+◌, ◌<◌, ◌==◌,
 use Rattle.std.proofs.Common.{sym, true}
 use Rattle.sim_rows.proofs.Common.{AtRow, Byte, byte_at, byte_in, bytes_by, Cpu, destination_bytes, destination_visible, DIV, Exit, Exits, GplOperation}
 use Rattle.sim_rows.proofs.Common.{GplState, idle_again, idle_of, in_register, IsView, IsVisible, loaded_of, low, MachineState, MUL, next_of, operands_of}
-use Rattle.sim_rows.proofs.Common.{operation_in, pick, Place, row_width, Sees, size_of, Source, Space, space_small, Two, value_at, Vdp, View, view, Width}
+use Rattle.sim_rows.proofs.Common.{operation_in, pick, Place, row_width, ShowsState, size_of, Source, Space, space_small, Two, value_at, Vdp, View, view, Width}
 use Rattle.sim_rows.proofs.Common.{width_again, width_in, Word}
 use Rattle.sim_muldiv.specs.Family.{AreVisible, is_muldiv, IsReady}
 
@@ -47,14 +47,14 @@ loaded_is s place e = ap (λ (w : Width). in_register w (value_at s w place)) (a
 
 -- ---- bytes
 
-byte_in_fits : (s : GplState) (next : ℕ) (v : View) → Sees s next v → IsView v → (space : Space) (address : ℕ) → byte_in space s address < 256
+byte_in_fits : (s : GplState) (next : ℕ) (v : View) → ShowsState s next v → IsView v → (space : Space) (address : ℕ) → byte_in space s address < 256
 byte_in_fits s next v h i Cpu address = subst (λ (l : List ℕ). slice_index l address < 256) h.cells (i.cells address)
 byte_in_fits s next v h i Vdp address = subst (λ (l : List ℕ). slice_index l (address % 16384) < 256) h.vdp (i.vdp.memory.fits (address % 16384))
 
-pub byte_fits_at : (s : GplState) (next : ℕ) (v : View) → Sees s next v → IsView v → (place : Place) → byte_at s place < 256
+pub byte_fits_at : (s : GplState) (next : ℕ) (v : View) → ShowsState s next v → IsView v → (place : Place) → byte_at s place < 256
 byte_fits_at s next v h i place = byte_in_fits s next v h i place.space place.address
 
-pub word_fits_at : (s : GplState) (next : ℕ) (v : View) → Sees s next v → IsView v → (place : Place) → value_at s Word place < 65536
+pub word_fits_at : (s : GplState) (next : ℕ) (v : View) → ShowsState s next v → IsView v → (place : Place) → value_at s Word place < 65536
 word_fits_at s next v h i place =
     let a = byte_in_fits s next v h i place.space place.address in
     let b = byte_in_fits s next v h i place.space ((place.address + 1) % 65536) in

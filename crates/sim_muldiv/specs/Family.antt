@@ -1,6 +1,6 @@
 -- MUL and DIV, and what their parts come to.
 use Rattle.std.specs.Prelude.{ℕ, ◌%◌, ◌*◌, ◌+◌, ◌/◌, ◌<◌, ◌≡◌, ◌≤◌, Bool, false, Ok, Option, Some, true, IsTrue}
-use Rattle.sim_rows.specs.Prelude.{AtRow, Byte, Changes, Comes, DIV, DIVQ, double_at, double_word, gone_on}
+use Rattle.sim_rows.specs.Prelude.{AtRow, Byte, Changes, ReachesWithin, DIV, DIVQ, double_at, double_word, gone_on}
 use Rattle.sim_rows.specs.Prelude.{GplOperation, GplState, GSTEP, has_quotient, IsVisible, low, MachineState, MUL}
 use Rattle.sim_rows.specs.Prelude.{operands_of, operation_in, Place, place_in, PortsAreIdle, return_of, row_width}
 use Rattle.sim_rows.specs.Prelude.{SeesFinished, size_of, Source, state_of, Storing, sum_of, Two, unchanged, value_at}
@@ -68,13 +68,13 @@ pub record Divided (v w : View) : Type 0 where
 abbrev pub EndsDivision : MachineState → MachineState → ℕ → ℕ → Type 0
 EndsDivision x y before after =
     (c : Changes) → (width : Width) → (place : Place) → (number : ℕ) → Storing c width place number (view x)
-    → Comes 47 x y before after GSTEP (SeesFinished (with_overflow false (with_value width place number c)))
+    → ReachesWithin 47 x y before after GSTEP (SeesFinished (with_overflow false (with_value width place number c)))
 
 -- The same for a quotient, and the remainder in register 10 behind it.
 abbrev pub EndsQuotient : MachineState → MachineState → ℕ → ℕ → Type 0
 EndsQuotient x y before after =
     (c : Changes) → (place : Place) → (quotient : ℕ) → Storing c Word place quotient (view x)
-    → Comes 64 x y before after GSTEP
+    → ReachesWithin 64 x y before after GSTEP
     (SeesFinished (with_overflow false (with_quotient Word place quotient (view x).r.r10 c)))
 
 -- A row of DIV whose quotient fits.
@@ -84,6 +84,6 @@ Divides x y before after =
     → AtRow s place source (view x) → operands_of s ≡ Ok (place, source)
     → (let dividend = double_at s (row_width s) place in
     IsTrue (has_quotient (row_width s) dividend source.number)
-    → Comes 87 x y before after GSTEP
+    → ReachesWithin 87 x y before after GSTEP
     (SeesFinished (with_overflow false
     (with_quotient (row_width s) place (dividend / source.number) (dividend % source.number) (unchanged (gone_on s))))))

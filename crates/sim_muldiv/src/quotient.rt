@@ -1,7 +1,7 @@
 //! DIV: the quotient and the remainder of numbers without sign.
 
 ghost use Rattle.std.specs.Prelude.{◌<◌, ◌≡◌, ◌≤◌};
-ghost use Rattle.sim_rows.specs.Prelude.{Byte, Comes, DIV, RunsRow, Stands, Two};
+ghost use Rattle.sim_rows.specs.Prelude.{Byte, ReachesWithin, DIV, RunsRow, Stands, Two};
 ghost use Rattle.sim_rows.specs.Prelude.{view, width_in, Word};
 ghost use Rattle.sim_muldiv.specs.Family.{Divided, Divides, EndsDivision, EndsQuotient, IsReady};
 ghost use Rattle.sim_muldiv.specs.Family.{MayStore, MayStoreQuotient};
@@ -48,7 +48,7 @@ fn load_and_divide<L: Ledger>(machine: &mut Machine, steps: &mut Steps<L>)
     requires ready { IsReady machine.old }
     requires word { width_in (view machine.old).r.r3 ≡ Word }
     requires fits { let r = (view machine.old).r in r.r9 < r.r6 }
-    ensures { Comes 23 machine.old machine.new steps.old steps.new address.STORE (Divided (view machine.old)) }
+    ensures { ReachesWithin 23 machine.old machine.new steps.old steps.new address.STORE (Divided (view machine.old)) }
 {
     load_low_word(machine, steps);
     run_load(machine, steps);

@@ -9,7 +9,7 @@ use Rattle.sim_view.proofs.Common.{indexed, is_visible, join, last_out, next_in_
 use Rattle.sim_view.proofs.Common.{Reason, shifted, SLA, space_at, SRL, sum_of, View, with_index, Word, word_in}
 use Rattle.sim_view.specs.gpl_step_defs.declared.reason.Reason.TheVariants.{Cell}
 use Rattle.sim_operands.proofs.Facts.{not_both}
-use Rattle.sim_operands.specs.Subroutines.{Addressed, Barred, grom_at, Placed, state_of}
+use Rattle.sim_operands.specs.Subroutines.{Addressed, OperandStop, grom_at, Placed, state_of}
 use Rattle.sim_operands.specs.Pieces as pieces
 use Rattle.sim_view.specs.native_interp.declared.addresses.TheConstants.{ASHORT}
 
@@ -140,7 +140,7 @@ abbrev pub PointerRead : View → View → ℕ → ℕ → ℕ → Exit → Type
 PointerRead v w address form next e =
     Answers (pointed (state_of v) (form / 16 % 2 == 1) address)
     (λ base. Goes e 9 INDEX (Addressed v base (form / 32) next))
-    (Goes e 7 GSTOP (Barred v Cell))
+    (Goes e 7 GSTOP (OperandStop v Cell))
 
 pub pointer_read : (v w : View) (address form next : ℕ) → form < 256 → Addressed v address form next w →
     PointerRead v w address form next (pieces.pointer w)
@@ -169,7 +169,7 @@ IndexRead v w base form next e =
     let read = index_at form v.grom.image next in
     Answers (indexed (state_of v) read.0 base)
     (λ address. Goes e 10 ASPACE (Addressed v address (form / 32) read.1))
-    (Goes e 8 GSTOP (Barred v Cell))
+    (Goes e 8 GSTOP (OperandStop v Cell))
 
 pub index_read : (v w : View) (base form next : ℕ) → form < 256 → Addressed v base (form / 32) next w →
     IndexRead v w base form next (pieces.index w)
@@ -204,7 +204,7 @@ abbrev pub RangeRead : View → View → ℕ → ℕ → ℕ → Exit → Type 0
 RangeRead v w address form next e =
     Answers (ranged v.r.r3 (space_at form) address)
     (λ place. Goes e 9 (pieces.return_of v) (Placed v next place))
-    (Goes e 9 GSTOP (Barred v Cell))
+    (Goes e 9 GSTOP (OperandStop v Cell))
 
 two_spaces : (form : ℕ) → (form / 32 % 2 ≡ 0 → ⊥) → form / 32 % 2 ≡ 1
 two_spaces form h = omega arith

@@ -1,11 +1,11 @@
 -- The pieces of ADDR, one after the other.
 use Rattle.std.proofs.Common.{ℕ, ◌%◌, ◌/◌, ◌==◌, ◌∙◌, ◌≡◌, ◌≤◌, ap, arith, eqb, Err, false, Ok, refl, Result, subst, sym, true}
 use Rattle.std.proofs.lemmas.Bool.{eq-eqb}
-use Rattle.sim_view.proofs.Common.{◌>>=◌, ADDR, APTR, ASPACE, Comes, comes, comes_as, comes_then, Exit, Exits, Goes, GplOperand, GSTOP, INDEX, index_at}
+use Rattle.sim_view.proofs.Common.{◌>>=◌, ADDR, APTR, ASPACE, ReachesWithin, comes, comes_as, comes_then, Exit, Exits, Goes, GplOperand, GSTOP, INDEX, index_at}
 use Rattle.sim_view.proofs.Common.{indexed, is_view, IsFetched, MachineState, Place, place_of, pointed, PortsAreIdle, ranged, Reason}
 use Rattle.sim_view.proofs.Common.{space_at, Stands, View, view}
 use Rattle.sim_view.specs.gpl_step_defs.declared.reason.Reason.TheVariants.{Cell}
-use Rattle.sim_operands.specs.Subroutines.{Addressed, Barred, Finds, FindsOperand, next_at, Placed, state_of}
+use Rattle.sim_operands.specs.Subroutines.{Addressed, OperandStop, Finds, FindsOperand, next_at, Placed, state_of}
 use Rattle.sim_operands.proofs.Ready.{ready}
 use Rattle.sim_operands.proofs.Addressing.{address_read, AddressRead, Answers, index_read, pointer_read, range_read}
 use Rattle.sim_operands.proofs.Facts.{not_both}
@@ -38,15 +38,15 @@ module _ (x y z : MachineState) (s t u : ℕ) (stands : Stands x ADDR) (idle : P
   at_short : ShortRead seen (next_at seen) (pieces.address seen)
   at_short = short_read seen (next_at seen) (ready x.cpu.memory idle is) (is_view x stands.machine).grom.image short
 
-  there_short : Comes 4 x y s t ASHORT (Addressed seen at_short.address 0 at_short.next)
+  there_short : ReachesWithin 4 x y s t ASHORT (Addressed seen at_short.address 0 at_short.next)
   there_short = comes e at_short.goes
 
   short_by : (q : Result Place Reason) → Answers q (λ place. Goes (pieces.short_range (view y)) 9 (pieces.return_of seen) (Placed seen at_short.next place))
-      (Goes (pieces.short_range (view y)) 9 GSTOP (Barred seen Cell)) → Finds x z s u at_short.next q
+      (Goes (pieces.short_range (view y)) 9 GSTOP (OperandStop seen Cell)) → Finds x z s u at_short.next q
   short_by (Ok place) g = comes_as 38 (Placed seen at_short.next place) (comes_then 4 9 there_short f g refl) (omega arith) (λ w b. b)
   short_by (Err reason) g =
       let P : Reason → Type 0 = λ r. Finds x z s u at_short.next (Err r) in
-      subst P (sym g.0) (comes_as 38 (Barred seen Cell) (comes_then 4 9 there_short f g.1 refl) (omega arith) (λ w b. b))
+      subst P (sym g.0) (comes_as 38 (OperandStop seen Cell) (comes_then 4 9 there_short f g.1 refl) (omega arith) (λ w b. b))
 
   pub short_ends : FindsOperand x z s u
   short_ends =
@@ -64,7 +64,7 @@ module _ (x : MachineState) (s : ℕ) (stands : Stands x ADDR) (idle : PortsAreI
   found = address_read v (next_at v) (ready x.cpu.memory idle is) (is_view x stands.machine).grom.image long
 
   -- after the address
-  addressed : (y : MachineState) (t : ℕ) → Exits x y s t (pieces.address v) → Comes 10 x y s t APTR
+  addressed : (y : MachineState) (t : ℕ) → Exits x y s t (pieces.address v) → ReachesWithin 10 x y s t APTR
       (Addressed v found.address found.form found.next)
   addressed y t e = comes e found.goes
 
@@ -86,13 +86,13 @@ module _ (x : MachineState) (s : ℕ) (stands : Stands x ADDR) (idle : PortsAreI
       let c = addressed y t e1 in
       let a = stops (pointed (state_of v) (found.form / 16 % 2 == 1) found.address) (pointer_read v (view y) found.address found.form found.next
       found.form_fits c.holds) (λ base. elsewhere f) in
-      whole z u (subst (split z u) (sym a.0) (comes_as 38 (Barred v Cell) (comes_then 10 7 c e a.1 refl) (omega arith) (λ w b. b)))
+      whole z u (subst (split z u) (sym a.0) (comes_as 38 (OperandStop v Cell) (comes_then 10 7 c e a.1 refl) (omega arith) (λ w b. b)))
 
   -- a pointer that goes on
   pub record Pointed (y : MachineState) (t : ℕ) : Type 0 where
     pub base : ℕ
     pub is_pointed : pointed (state_of v) (found.form / 16 % 2 == 1) found.address ≡ Ok base
-    pub comes : Comes 19 x y s t INDEX (Addressed v base (found.form / 32) found.next)
+    pub comes : ReachesWithin 19 x y s t INDEX (Addressed v base (found.form / 32) found.next)
 
   pub pointer_goes : (y z : MachineState) (t u : ℕ) → Exits x y s t (pieces.address v) → Exits y z t u (pieces.pointer (view y)) →
       eqb (pieces.pointer (view y)).to INDEX ≡ true → Pointed z u
@@ -111,7 +111,7 @@ module _ (x : MachineState) (s : ℕ) (stands : Stands x ADDR) (idle : PortsAreI
       (λ address. elsewhere f) in
       let Q : Result ℕ Reason → Type 0 = λ second. Finds x z s u index.1 (second >>= λ address. ranged v.r.r3 (space_at found.form) address) in
       whole z u (subst (split z u) (sym p.is_pointed)
-      (subst Q (sym a.0) (comes_as 38 (Barred v Cell) (comes_then 19 8 p.comes e a.1 refl) (omega arith) (λ w b. b))))
+      (subst Q (sym a.0) (comes_as 38 (OperandStop v Cell) (comes_then 19 8 p.comes e a.1 refl) (omega arith) (λ w b. b))))
 
   -- an index that goes on
   pub record Indexed (y : MachineState) (t : ℕ) : Type 0 where
@@ -119,7 +119,7 @@ module _ (x : MachineState) (s : ℕ) (stands : Stands x ADDR) (idle : PortsAreI
     pub address : ℕ
     pub is_pointed : pointed (state_of v) (found.form / 16 % 2 == 1) found.address ≡ Ok base
     pub is_indexed : indexed (state_of v) (index_at found.form v.grom.image found.next).0 base ≡ Ok address
-    pub comes : Comes 29 x y s t ASPACE (Addressed v address (found.form / 32) (index_at found.form v.grom.image found.next).1)
+    pub comes : ReachesWithin 29 x y s t ASPACE (Addressed v address (found.form / 32) (index_at found.form v.grom.image found.next).1)
 
   pub index_goes : (y z : MachineState) (t u : ℕ) → Pointed y t → Exits y z t u (pieces.index (view y)) → eqb (pieces.index (view y)).to ASPACE ≡ true →
       Indexed z u
@@ -132,7 +132,7 @@ module _ (x : MachineState) (s : ℕ) (stands : Stands x ADDR) (idle : PortsAreI
   -- the range
   ends : (y z : MachineState) (t u : ℕ) → Indexed y t → Exits y z t u (pieces.range (view y)) → (q : Result Place Reason) →
       Answers q (λ place. Goes (pieces.range (view y)) 9 (pieces.return_of v) (Placed v (index_at found.form v.grom.image found.next).1 place))
-      (Goes (pieces.range (view y)) 9 GSTOP (Barred v Cell)) →
+      (Goes (pieces.range (view y)) 9 GSTOP (OperandStop v Cell)) →
       Finds x z s u (index_at found.form v.grom.image found.next).1 q
   ends y z t u p e (Ok place) g = comes_then 29 9 p.comes e g refl
   ends y z t u p e (Err reason) g =

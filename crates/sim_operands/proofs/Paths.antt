@@ -6,7 +6,7 @@ use Rattle.sim_view.specs.Prelude.{conjunction_of}
 use Rattle.sim_view.proofs.Common.{ADDR, APTR, ASPACE, Exit, FETCH, high, high-join, INDEX, IsView, join, last_out, LDATA, Leads, leads}
 use Rattle.sim_view.proofs.Common.{LOAD, low, Part, part_then, pick, plus, Rest, SDATA, SEEK, shifted, SLA, SREG, SRL, STORE, STREAM, sum_of, View}
 use Rattle.sim_view.proofs.Common.{Word, word_in}
-use Rattle.sim_operands.specs.Pieces.{past, past_video, set_video_to}
+use Rattle.sim_operands.specs.Pieces.{past, past_video, with_video_address}
 use Rattle.sim_operands.proofs.Facts.{above_cells, at_most, byte_is, down, first_fits, negative, no_other, not_above_one, not_cells, not_limit}
 use Rattle.sim_operands.proofs.Facts.{second_fits, spot_cell}
 use Rattle.sim_operands.specs.Values.{IsVisible}
@@ -135,7 +135,7 @@ index_near : (v : View) → IsView v → nat_lt 0xC0 v.grom.fetched ≡ false �
 index_near v i d = record { by = λ f. rw (down v.grom.fetched (low (shifted SRL v.r.r5 2)) i.grom.fetched (omega arith), d) refl }
 
 abbrev index_barred : View → Exit
-index_barred v = pieces.barred 8 (with_offset v)
+index_barred v = pieces.operand_stop 8 (with_offset v)
 
 index_far : (v : View) → IsView v → nat_lt 0xC0 v.grom.fetched ≡ true → Rest (ASPACE ∷ []) 3 13 (with_form v) INDEXR (index_barred v)
 index_far v i d =
@@ -192,7 +192,7 @@ load_elsewhere v c = record { by = λ f. rw c refl }
 load_video_at : (v : View) → (v.r.r5 == 1) ≡ true → Part load_ends 5 v LOTHER (load_at v) LVSET
 load_video_at v c = record { by = λ f. rw (c, not_above_one v.r.r5 c) refl }
 
-load_sets : (v : View) → Rest load_ends 7 9 v LVSET (pieces.exit 9 LDATA (record v { vdp = set_video_to v.r.r4 v.vdp }))
+load_sets : (v : View) → Rest load_ends 7 9 v LVSET (pieces.exit 9 LDATA (record v { vdp = with_video_address v.r.r4 v.vdp }))
 load_sets v = record { by = λ f. refl }
 
 load_set : (v : View) → (v.r.r5 == 1) ≡ true → Leads load_ends v LOAD (pieces.load v)
@@ -246,7 +246,7 @@ store_elsewhere v c = record { by = λ f. rw c refl }
 store_video_at : (v : View) → (v.r.r8 == 1) ≡ true → Part store_ends 6 v SOTHER (store_at v) SVSET
 store_video_at v c = record { by = λ f. rw (c, not_above_one v.r.r8 c) refl }
 
-store_sets : (v : View) → Rest store_ends 8 8 v SVSET (pieces.exit 10 SDATA (record v { vdp = set_video_to v.r.r4 v.vdp }))
+store_sets : (v : View) → Rest store_ends 8 8 v SVSET (pieces.exit 10 SDATA (record v { vdp = with_video_address v.r.r4 v.vdp }))
 store_sets v = record { by = λ f. refl }
 
 store_set : (v : View) → (v.r.r8 == 1) ≡ true → Leads store_ends v STORE (pieces.store v)

@@ -2,8 +2,8 @@
 use Rattle.std.proofs.Common.{ℕ, ◌%◌, ◌*◌, ◌+◌, ◌/◌, ◌<◌, ◌∙◌, ◌≡◌, ap, arith, Bool, false, is_none, None, not, Option, refl, slice_index, Some, sym, true}
 use Rattle.sim_view.proofs.Common.{Exit, GromState, is_grom_idle, IsFetched, join, Memory, next-previous, next_in_grom, PortsAreIdle}
 use Rattle.sim_view.proofs.Common.{previous_in_grom, View, view_of}
-use Rattle.sim_operands.specs.Pieces.{past, set_to}
-use Rattle.sim_operands.specs.Subroutines.{fetched, grom_at, next_at, sought}
+use Rattle.sim_operands.specs.Pieces.{past, with_grom_address}
+use Rattle.sim_operands.specs.Subroutines.{fetched, grom_at, next_at, after_seek}
 use Rattle.sim_operands.specs.Pieces as pieces
 
 not_true : (b : Bool) → not b ≡ true → b ≡ false
@@ -40,12 +40,12 @@ fetches v e =
     let left : GromState → Exit = λ g. pieces.exit 3 (pieces.return_of v) (record v { r = record v.r { r6 = join g.fetched 0 }; grom = past g }) in
     ap left e
 
-pub set_is : (g : GromState) (word : ℕ) → g.half_written ≡ false → word < 65536 → set_to word g ≡ grom_at g.image word
+pub set_is : (g : GromState) (word : ℕ) → g.half_written ≡ false → word < 65536 → with_grom_address word g ≡ grom_at g.image word
 set_is g word h k =
     let j : 256 * ((256 * (word / 256) + g.counter % 256) / 256) + word % 256 ≡ word = omega arith in
     rw (h, j) refl
 
-pub seeks : (v : View) → v.grom.half_written ≡ false → v.r.r6 < 65536 → pieces.seek v ≡ sought v
+pub seeks : (v : View) → v.grom.half_written ≡ false → v.r.r6 < 65536 → pieces.seek v ≡ after_seek v
 seeks v h k =
     let left : GromState → Exit = λ g. pieces.exit 3 (pieces.return_of v) (record v { grom = g }) in
     ap left (set_is v.grom v.r.r6 h k)

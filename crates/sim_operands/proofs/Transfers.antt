@@ -6,7 +6,7 @@ use Rattle.sim_view.proofs.Common.{Byte, Exit, Goes, goes_in, GromState, high, j
 use Rattle.sim_view.proofs.Common.{PairKind, pick, plus, ReadSetup, RegisterWrite, SDATA, shifted, SLA, SREG, SRL, STREAM, sum_of, unchanged}
 use Rattle.sim_view.proofs.Common.{value_at, VdpState, View, with_register, with_value, Word}
 use Rattle.sim_view.proofs.Common.{WriteSetup}
-use Rattle.sim_operands.specs.Pieces.{set_video_to}
+use Rattle.sim_operands.specs.Pieces.{with_video_address}
 use Rattle.sim_operands.specs.Values.{IsVisible, of_register, width_in}
 use Rattle.sim_operands.specs.Subroutines.{grom_at, Loaded, next_at, place_in, state_of, Stored, streamed}
 use Rattle.sim_operands.proofs.Facts.{not_both, second_fits}
@@ -50,7 +50,7 @@ pair_is at h = omega arith
 abbrev pub reading_from : ℕ → VdpState → VdpState
 reading_from at vdp = record vdp { address = next_in_vdp at; fetched = slice_index vdp.memory at }
 
-set_for_reading : (vdp : VdpState) (at : ℕ) → vdp.held ≡ None → at < 16384 → set_video_to at vdp ≡ reading_from at vdp
+set_for_reading : (vdp : VdpState) (at : ℕ) → vdp.held ≡ None → at < 16384 → with_video_address at vdp ≡ reading_from at vdp
 set_for_reading vdp at h k = rw (h, read_kind at k, pair_is at k) refl
 
 write_kind : (at : ℕ) → at < 16384 → pair_kind (high (at + 0x4000)) ≡ WriteSetup
@@ -59,7 +59,7 @@ write_kind at h = let n : high (at + 0x4000) / 64 ≡ 1 = omega arith in ap kind
 write_pair : (at : ℕ) → at < 16384 → join (high (at + 0x4000) % 64) (low (at + 0x4000)) ≡ at
 write_pair at h = omega arith
 
-set_for_writing : (vdp : VdpState) (at : ℕ) → vdp.held ≡ None → at < 16384 → set_video_to (at + 0x4000) vdp ≡ record vdp { address = at }
+set_for_writing : (vdp : VdpState) (at : ℕ) → vdp.held ≡ None → at < 16384 → with_video_address (at + 0x4000) vdp ≡ record vdp { address = at }
 set_for_writing vdp at h k = rw (h, write_kind at k, write_pair at k) refl
 
 -- LOAD's first piece and its second
@@ -67,7 +67,7 @@ pub load_sets : (v : View) → (v.r.r5 == 1) ≡ true → v.vdp.held ≡ None �
     pieces.load v ≡ pieces.exit 9 LDATA (record v { r = record v.r { r4 = v.r.r2 % 16384 }; vdp = reading_from (v.r.r2 % 16384) v.vdp })
 load_sets v c h k =
     let a : shifted SRL (shifted SLA v.r.r2 2) 2 ≡ v.r.r2 % 16384 = video_at v.r.r2 k in
-    let at : ℕ → Exit = λ n. pieces.exit 9 LDATA (record v { r = record v.r { r4 = n }; vdp = set_video_to n v.vdp }) in
+    let at : ℕ → Exit = λ n. pieces.exit 9 LDATA (record v { r = record v.r { r4 = n }; vdp = with_video_address n v.vdp }) in
     let set : VdpState → Exit = λ d. pieces.exit 9 LDATA (record v { r = record v.r { r4 = v.r.r2 % 16384 }; vdp = d }) in
     rw (c, pieces.load) (ap at a ∙ ap set (set_for_reading v.vdp (v.r.r2 % 16384) h (omega arith)))
 
@@ -175,7 +175,7 @@ pub store_sets : (v : View) → (v.r.r8 == 1) ≡ true → v.vdp.held ≡ None �
 store_sets v c h k =
     let a : sum_of Word (shifted SRL (shifted SLA v.r.r7 2) 2) 0x4000 ≡ v.r.r7 % 16384 + 0x4000 = ap (λ (n : ℕ). sum_of Word n 0x4000) (video_at v.r.r7 k)
     ∙ write_at (v.r.r7 % 16384) (omega arith) in
-    let at : ℕ → Exit = λ n. pieces.exit 10 SDATA (record v { r = record v.r { r4 = n }; vdp = set_video_to n v.vdp }) in
+    let at : ℕ → Exit = λ n. pieces.exit 10 SDATA (record v { r = record v.r { r4 = n }; vdp = with_video_address n v.vdp }) in
     let set : VdpState → Exit = λ d. pieces.exit 10 SDATA (record v { r = record v.r { r4 = v.r.r7 % 16384 + 0x4000 }; vdp = d }) in
     rw (c, pieces.store) (ap at a ∙ ap set (set_for_writing v.vdp (v.r.r7 % 16384) h (omega arith)))
 

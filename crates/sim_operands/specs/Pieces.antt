@@ -25,11 +25,11 @@ past_video vdp = (vdp_data_read vdp).1
 
 -- the ports after a word was written to their address ports; the GROMs take its high byte first, the video processor
 -- its low byte
-abbrev pub set_to : ℕ → GromState → GromState
-set_to word grom = grom_address_written (grom_address_written grom (high word)) (low word)
+abbrev pub with_grom_address : ℕ → GromState → GromState
+with_grom_address word grom = grom_address_written (grom_address_written grom (high word)) (low word)
 
-abbrev pub set_video_to : ℕ → VdpState → VdpState
-set_video_to word vdp = vdp_address_written (vdp_address_written vdp (low word)) (high word)
+abbrev pub with_video_address : ℕ → VdpState → VdpState
+with_video_address word vdp = vdp_address_written (vdp_address_written vdp (low word)) (high word)
 
 -- FETCH: the next byte of GROM comes into the high half of register 6.
 abbrev pub fetch : View → Exit
@@ -37,11 +37,11 @@ fetch v = exit 3 (return_of v) (record v { r = record v.r { r6 = join v.grom.fet
 
 -- SEEK: GROM is set to the address in register 6.
 abbrev pub seek : View → Exit
-seek v = exit 3 (return_of v) (record v { grom = set_to v.r.r6 v.grom })
+seek v = exit 3 (return_of v) (record v { grom = with_grom_address v.r.r6 v.grom })
 
 -- The stop by reason 2: as many instructions, the last of which leads to GSTOP, and the view with the reason.
-abbrev pub barred : ℕ → View → Exit
-barred count v = exit count GSTOP (record v { r = record v.r { r0 = 2 } })
+abbrev pub operand_stop : ℕ → View → Exit
+operand_stop count v = exit count GSTOP (record v { r = record v.r { r0 = 2 } })
 
 -- ADDR: the first byte of an operand is read, and its address in one byte, in twelve bits or in sixteen.
 abbrev pub one_byte_address : View → Exit
@@ -78,8 +78,8 @@ cells_range before v =
     let end = sum_of Word v.r.r3 v.r.r2 in
     let added = record v { r = record v.r { r4 = end } } in
     if nat_lt 0xC2 v.r.r2
-    then barred (before + 3) v
-    else if nat_lt 0xC2 end then barred (before + 7) added else exit (before + 7) (return_of v) added
+    then operand_stop (before + 3) v
+    else if nat_lt 0xC2 end then operand_stop (before + 7) added else exit (before + 7) (return_of v) added
 
 -- ASHORT: behind an address in one byte a range of up to four bytes is visible, and a longer one must be.
 abbrev pub short_range : View → Exit
@@ -93,9 +93,9 @@ pointer v =
     if last_out SRL v.r.r5 5
     then (
     if nat_lt 0xC0 v.r.r2
-    then barred 5 told
+    then operand_stop 5 told
     else if v.r.r2 == 0x7C
-    then barred 7 told
+    then operand_stop 7 told
     else exit 9 INDEX (record told {
       r = record told.r { r2 = word_in v.cells v.r.r2; r4 = word_in v.cells v.r.r2 };
     })
@@ -109,7 +109,7 @@ index v =
     then (
     let offset = v.grom.fetched in
     if nat_lt 0xC0 offset
-    then barred 8 (record v { r = record v.r { r4 = offset }; grom = past v.grom })
+    then operand_stop 8 (record v { r = record v.r { r4 = offset }; grom = past v.grom })
     else exit 10 ASPACE (record v {
       r = record v.r {
         r2 = sum_of Word v.r.r2 (word_in v.cells offset);
@@ -134,7 +134,7 @@ load v =
     if v.r.r5 == 1
     then (
     let at = shifted SRL (shifted SLA v.r.r2 2) 2 in
-    exit 9 LDATA (record v { r = record v.r { r4 = at }; vdp = set_video_to at v.vdp })
+    exit 9 LDATA (record v { r = record v.r { r4 = at }; vdp = with_video_address at v.vdp })
     )
     else if nat_lt 1 v.r.r5
     then exit 4 STREAM v
@@ -184,7 +184,7 @@ store v =
     if v.r.r8 == 1
     then (
     let at = sum_of Word (shifted SRL (shifted SLA v.r.r7 2) 2) 0x4000 in
-    exit 10 SDATA (record v { r = record v.r { r4 = at }; vdp = set_video_to at v.vdp })
+    exit 10 SDATA (record v { r = record v.r { r4 = at }; vdp = with_video_address at v.vdp })
     )
     else if nat_lt 1 v.r.r8
     then exit 4 SREG v

@@ -1,7 +1,7 @@
 -- What the subroutines come to, in the words of GPL.
 use Rattle.std.specs.Prelude.{ℕ, ◌==◌, ◌≡◌, Bool, Err, false, if◌then◌else◌, List, not, Ok, Result}
 use Rattle.std.specs.Prelude.{slice_index}
-use Rattle.sim_view.specs.Prelude.{Byte, Changes, Comes, Cpu, Exit, GplState, GromState, GSTOP, join, MachineState}
+use Rattle.sim_view.specs.Prelude.{Byte, Changes, ReachesWithin, Cpu, Exit, GplState, GromState, GSTOP, join, MachineState}
 use Rattle.sim_view.specs.Prelude.{next_in_grom, number_of, operand_at, Place, place_of, previous_in_grom, Reason}
 use Rattle.sim_view.specs.Prelude.{Space, unchanged, value_at, Vdp, View, view, with_register, with_value}
 use Rattle.sim_view.specs.gpl_defs.Reading.{value_at as value_in}
@@ -38,8 +38,8 @@ fetched v =
     })
 
 -- SEEK: GROM gives the byte at the address in register 6 next.
-abbrev pub sought : View → Exit
-sought v = exit 3 (return_of v) (record v { grom = grom_at v.grom.image v.r.r6 })
+abbrev pub after_seek : View → Exit
+after_seek v = exit 3 (return_of v) (record v { grom = grom_at v.grom.image v.r.r6 })
 
 -- ADDR. An address in register 2, the form of an operand or its space in register 5, and what GROM gives next;
 -- registers 4 and 6 may have changed.
@@ -56,7 +56,7 @@ abbrev pub Placed : View → ℕ → Place → View → Type 0
 Placed v next place w = Addressed v place.address (number_of_space place.space) next w
 
 -- The reason of a stop in register 0; registers 2, 4, 5 and 6 and what GROM gives next may have changed.
-pub record Barred (v : View) (reason : Reason) (w : View) : Type 0 where
+pub record OperandStop (v : View) (reason : Reason) (w : View) : Type 0 where
   pub r2 : ℕ
   pub r4 : ℕ
   pub r5 : ℕ
@@ -70,8 +70,8 @@ pub record Barred (v : View) (reason : Reason) (w : View) : Type 0 where
 -- The place is found, or the reason is told at GSTOP, within as many instructions as ADDR may take.
 abbrev pub Finds : MachineState → MachineState → ℕ → ℕ → ℕ → Result Place Reason → Type 0
 Finds x y before after next (Ok place) =
-    Comes most_of_address x y before after (return_of (view x)) (Placed (view x) next place)
-Finds x y before after next (Err reason) = Comes most_of_address x y before after GSTOP (Barred (view x) reason)
+    ReachesWithin most_of_address x y before after (return_of (view x)) (Placed (view x) next place)
+Finds x y before after next (Err reason) = ReachesWithin most_of_address x y before after GSTOP (OperandStop (view x) reason)
 
 -- The place of the operand that follows in GROM, for as many bytes as register 3 says.
 abbrev pub FindsOperand : MachineState → MachineState → ℕ → ℕ → Type 0
@@ -101,7 +101,7 @@ pub record Loaded (v : View) (number : ℕ) (w : View) : Type 0 where
 abbrev pub LoadsValue : MachineState → MachineState → ℕ → ℕ → Type 0
 LoadsValue x y before after =
     let v = view x in
-    Comes most_of_load x y before after (return_of v)
+    ReachesWithin most_of_load x y before after (return_of v)
     (Loaded v (value_at (state_of v) (width_in v.r.r3) (place_in v.r.r5 v.r.r2)))
 
 -- The value that follows in GROM, of the width in register 3, behind which GROM goes on.
@@ -115,7 +115,7 @@ streamed v =
 
 abbrev pub LoadsStream : MachineState → MachineState → ℕ → ℕ → Type 0
 LoadsStream x y before after =
-    let v = view x in Comes most_of_stream x y before after (return_of v) (λ w. w ≡ streamed v)
+    let v = view x in ReachesWithin most_of_stream x y before after (return_of v) (λ w. w ≡ streamed v)
 
 -- Register 13 is a mark once a byte was stored at the character's cell.
 abbrev pub marked_by : Bool → ℕ → ℕ
@@ -138,12 +138,12 @@ abbrev pub StoresValue : MachineState → MachineState → ℕ → ℕ → Type 
 StoresValue x y before after =
     let v = view x in
     let width = width_in v.r.r3 in
-    Comes most_of_store x y before after (return_of v)
+    ReachesWithin most_of_store x y before after (return_of v)
     (Stored v (with_value width (place_in v.r.r8 v.r.r7) (of_register width v.r.r9) (unchanged (state_of v))))
 
 -- The high byte of register 9, in the register of the video processor whose number is in register 7.
 abbrev pub StoresRegister : MachineState → MachineState → ℕ → ℕ → Type 0
 StoresRegister x y before after =
     let v = view x in
-    Comes most_of_register_store x y before after (return_of v)
+    ReachesWithin most_of_register_store x y before after (return_of v)
     (Stored v (with_register v.r.r7 (of_register Byte v.r.r9) (unchanged (state_of v))))

@@ -1,7 +1,7 @@
 //! SEEK: the address of GROM.
 
 ghost use Rattle.sim_view.specs.Prelude.{Exits, PortsAreIdle, SEEK, Stands, view};
-ghost use Rattle.sim_operands.specs.Subroutines.{sought};
+ghost use Rattle.sim_operands.specs.Subroutines.{after_seek};
 ghost use Rattle.sim_operands.specs.Pieces as piece;
 
 use sim_view::processor::{Machine, Steps};
@@ -21,7 +21,7 @@ pub fn seek_address<L: Ledger>(machine: &mut Machine, steps: &mut Steps<L>)
 pub fn run_seek<L: Ledger>(machine: &mut Machine, steps: &mut Steps<L>)
     requires stands { Stands machine.old SEEK }
     requires idle { PortsAreIdle machine.old.cpu.memory }
-    ensures { Exits machine.old machine.new steps.old steps.new (sought (view machine.old)) }
+    ensures { Exits machine.old machine.new steps.old steps.new (after_seek (view machine.old)) }
 {
     seek_address(machine, steps);
 }

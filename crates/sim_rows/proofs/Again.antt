@@ -1,6 +1,6 @@
 -- What a machine keeps whose view has the same ports, and where a run begins.
 use Rattle.std.proofs.Common.{ℕ, ◌<◌, ◌∙◌, ◌≡◌, ap, arith, Bool, false, if◌then◌else◌, is_none, None, not, refl, subst, sym, true}
-use Rattle.sim_rows.specs.Prelude.{Comes, Exit, Exits, GromState, IsFetched, MachineState, Memory, PortsAreIdle, Runs, Stands, VdpState, View, view, view_of}
+use Rattle.sim_rows.specs.Prelude.{ReachesWithin, Exit, Exits, GromState, IsFetched, MachineState, Memory, PortsAreIdle, Runs, Stands, VdpState, View, view, view_of}
 
 pub idle_again : (m n : Memory) → (view_of n).vdp ≡ (view_of m).vdp → (view_of n).grom ≡ (view_of m).grom → PortsAreIdle m → PortsAreIdle n
 unfolding view_of
@@ -33,5 +33,5 @@ nothing_before before a b = omega arith
 pub no_run : (x : MachineState) → Runs 0 x x
 no_run x = record { leads = refl; clear = λ before some less z e. absurd (nothing_before before some less) }
 
-pub begins : (x : MachineState) (t p : ℕ) (Q : View → Type 0) → Stands x p → Q (view x) → Comes 0 x x t t p Q
+pub begins : (x : MachineState) (t p : ℕ) (Q : View → Type 0) → Stands x p → Q (view x) → ReachesWithin 0 x x t t p Q
 begins x t p Q stands holds = record { count = 0; within = omega arith; counted = omega arith; runs = no_run x; holds = holds; stands = stands }

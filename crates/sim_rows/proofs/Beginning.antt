@@ -4,8 +4,8 @@ use Rattle.std.proofs.Common.{true}
 use Rattle.std.proofs.lemmas.Bool.{agree_below_at, eqb-false, eqb-true}
 use Rattle.std.proofs.Math.Nat.{pos_of_ne-zero}
 use Rattle.sim_view.proofs.Common.{comes, Goes, pick}
-use Rattle.sim_rows.specs.Prelude.{Comes, Dispatched, even, Exit, exit, Exits, GplState, grom_at, GromState, INTERP, MachineState, next_in_grom, operation_at}
-use Rattle.sim_rows.specs.Prelude.{low, operation_entry, past, return_of, Sees, set_to, shifted, SLA, View, view}
+use Rattle.sim_rows.specs.Prelude.{ReachesWithin, Dispatched, even, Exit, exit, Exits, GplState, grom_at, GromState, INTERP, MachineState, next_in_grom, operation_at}
+use Rattle.sim_rows.specs.Prelude.{low, operation_entry, past, return_of, ShowsState, with_grom_address, shifted, SLA, View, view}
 use Rattle.sim_operands.proofs.Ready.{set_is}
 use Rattle.sim_operands.specs.Pieces.{one_if}
 use Rattle.sim_rows.specs.Pieces as pieces
@@ -67,7 +67,7 @@ where_found v image at e fits =
     known (ap by e ∙ ap to (back_is at fits))
     (just (to at) 8 (return_of v) (let one = one_at_most (pieces.at_first (next_in_grom at)) in omega arith) refl)
 
-module _ (s : GplState) (v : View) (sees : Sees s s.pc v) (fits : s.pc < 65536) (byte : slice_index s.image s.pc < 256) where
+module _ (s : GplState) (v : View) (sees : ShowsState s s.pc v) (fits : s.pc < 65536) (byte : slice_index s.image s.pc < 256) where
   abbrev code : ℕ
   code = slice_index s.image s.pc
 
@@ -81,7 +81,7 @@ module _ (s : GplState) (v : View) (sees : Sees s s.pc v) (fits : s.pc < 65536) 
   dispatch_is : pieces.dispatch v ≡ by_code s.pc (grom_at s.image s.pc)
   dispatch_is =
       let by : GromState → Exit = λ g. pieces.dispatch (record v { grom = g }) in
-      let to : ℕ → Exit = λ at. by_code at (set_to at (lost s.image s.pc)) in
+      let to : ℕ → Exit = λ at. by_code at (with_grom_address at (lost s.image s.pc)) in
       ap by sees.grom ∙ ap to (back_is s.pc fits) ∙ ap (by_code s.pc) (set_is (lost s.image s.pc) s.pc refl fits)
 
   begun : Goes (by_code s.pc (grom_at s.image s.pc)) most_to_dispatch (operation_entry (operation_at code)) (Dispatched s)
@@ -97,5 +97,5 @@ module _ (s : GplState) (v : View) (sees : Sees s s.pc v) (fits : s.pc < 65536) 
 
   -- The step up to its dispatch.
   pub begins : (x y : MachineState) (t u : ℕ) → view x ≡ v → Exits x y t u (pieces.dispatch (view x)) →
-      Comes most_to_dispatch x y t u (operation_entry (operation_at code)) (Dispatched s)
+      ReachesWithin most_to_dispatch x y t u (operation_entry (operation_at code)) (Dispatched s)
   begins x y t u is e = comes e (from pieces.dispatch is (known dispatch_is begun))

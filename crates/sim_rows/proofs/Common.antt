@@ -12,7 +12,7 @@ pub use Rattle.sim_rows.proofs.Beginning.{back_is, from, just, known, located_at
 pub use Rattle.sim_rows.proofs.Codes.{if_true, one_below, two_above}
 pub use Rattle.sim_rows.proofs.Ends.{fetched_of, idle_of, leaves, matches, reaches, same_state, state_at, stops, turned_by, turned_from}
 pub use Rattle.sim_rows.proofs.Facts.{not_above}
-pub use Rattle.sim_rows.proofs.FirstOperand.{barred, barred_stops, finds_of, from_placed, holds_addressed, holds_again, holds_loaded, located, place_is, sees_again}
+pub use Rattle.sim_rows.proofs.FirstOperand.{operand_stop, barred_stops, finds_of, from_placed, holds_addressed, holds_again, holds_loaded, located, place_is, sees_again}
 pub use Rattle.sim_rows.proofs.FirstOperand.{space_small}
 pub use Rattle.sim_rows.proofs.Operands.{value_same, visible_of}
 pub use Rattle.sim_rows.proofs.Places.{Lies, lies_at, place_lies}
@@ -22,12 +22,12 @@ pub use Rattle.sim_rows.proofs.Steps.{bound_made, bound_stop, place_same, step_b
 pub use Rattle.sim_rows.proofs.Storing.{changed_again, ChangedFrom, store_then, stored_idle, storing_again, value_keeps, width_again}
 pub use Rattle.sim_rows.proofs.Telling.{stands_at}
 pub use Rattle.sim_rows.specs.Prelude.{◌>>=◌, absolute_flags, absolute_of, ABSV, ADDR, Addressed, ADDV, ALL, ANDV, Answer, AreTurns, Asking, ASPACE, AtDispatch}
-pub use Rattle.sim_rows.specs.Prelude.{AtRow, B, BACK, Barred, behind, behind_code, behind_first, bit_of, bound, bound_at, bound_by, BRANCH, Branch, branched}
+pub use Rattle.sim_rows.specs.Prelude.{AtRow, B, BACK, OperandStop, behind, behind_code, behind_first, bit_of, bound, bound_at, bound_by, BRANCH, Branch, branched}
 pub use Rattle.sim_rows.specs.Prelude.{BTARG, Byte, byte_at, byte_from, byte_in, bytes_by, bytes_or_none, CALL, CALLN, CALLS, CARRY, CASE, CASEN, CASET, CASEV}
-pub use Rattle.sim_rows.specs.Prelude.{Cell, cells_at, CEQ, CEQV, CFALSE, CGE, CGEV, CGT, CGTV, CH, Changed, Changes, CHARACTER, CHE, CHEV, CHV, CLOG, CLOGV}
-pub use Rattle.sim_rows.specs.Prelude.{CLRV, code_byte, Comes, complement_of, condition, conjunction_of, copied, COPY, COPYN, COPYS, COUNT, count_in, count_of}
+pub use Rattle.sim_rows.specs.Prelude.{Cell, cells_at, CEQ, CEQV, CFALSE, CGE, CGEV, CGT, CGTV, CH, ShowsChanges, Changes, CHARACTER, CHE, CHEV, CHV, CLOG, CLOGV}
+pub use Rattle.sim_rows.specs.Prelude.{CLRV, code_byte, ReachesWithin, complement_of, condition, conjunction_of, copied, COPY, COPYN, COPYS, COUNT, count_in, count_of}
 pub use Rattle.sim_rows.specs.Prelude.{Cpu, CTRUE, CZ, CZV, DECTV, destination_bytes, difference_flags, difference_of, Dispatched, DIV, DIVBY, DIVE, divided}
-pub use Rattle.sim_rows.specs.Prelude.{division_of, DIVL, DIVQ, DIVS, DIVV, DIVW, double_at, double_word, drawn, Ended, EndsAs, EndsRow, even, EX, EXB}
+pub use Rattle.sim_rows.specs.Prelude.{division_of, DIVL, DIVQ, DIVS, DIVV, DIVW, double_at, double_word, drawn, ShowsEnd, EndsAs, EndsRow, even, EX, EXB}
 pub use Rattle.sim_rows.specs.Prelude.{exchanged, exclusive_or_of, executed, EXIT, Exit, exit, Exits, EXV, FETCH, FETCHA, FETCHB, FETCHD, FETCHK, FETCHN}
 pub use Rattle.sim_rows.specs.Prelude.{FETCHP, FETCHR, FETCHS, FETCHV, FILL, Finds, FindsOperand, finished, first_of, Flags, From, FromGrom, FromMemory, GBOOT}
 pub use Rattle.sim_rows.specs.Prelude.{GEXIT, Gives, GOALL, GOB, GOBACK, GOCALL, GOCARY, GOEXIT, GOGT, GOH, GOMOVE, gone_on, GoOp, GOOVF, GORAND, GORTN, GOTO}
@@ -40,11 +40,11 @@ pub use Rattle.sim_rows.specs.Prelude.{low, MachineState, marked_by, Matches, Me
 pub use Rattle.sim_rows.specs.Prelude.{moved, MOVEK, MoveKind, MOVEL, MoveLength, MOVEN, MOVER, MOVES, MoveSource, MoveTarget, MOVEW, MOVEX, MUL, MULB, MULV}
 pub use Rattle.sim_rows.specs.Prelude.{negation_flags, negation_of, NEGV, new_grom, next_at, next_from, next_in_grom, next_in_vdp, next_of, next_seed, next_to}
 pub use Rattle.sim_rows.specs.Prelude.{NoOperation, number_of, number_of_space, of_register, on_stack, One, one_more, OneName, ones_cleared, ones_set, Opcode}
-pub use Rattle.sim_rows.specs.Prelude.{operands_of, operation_at, operation_entry, operation_in, operation_seen, origin_of, ORV, OVER, OVF, pair_kind, PairKind}
+pub use Rattle.sim_rows.specs.Prelude.{operands_of, operation_at, operation_entry, operation_in, operation_in_view, origin_of, ORV, OVER, OVF, pair_kind, PairKind}
 pub use Rattle.sim_rows.specs.Prelude.{past, Place, place_in, place_of, Placed, Plain, PlainOp, plus, PortsAreIdle, previous_in_grom, product_of, PUSH, PUSHV}
 pub use Rattle.sim_rows.specs.Prelude.{RAND, RANDL, RANDOM, ranged, read_by, reads_destination, ReadSetup, Reason, Register, RegisterWrite, repeated}
 pub use Rattle.sim_rows.specs.Prelude.{repeated_sign, RESUME, return_of, row_entry, row_result, row_width, RTN, RTNC, run, Runs, RunsRow, second_by, SEED, SEEK}
-pub use Rattle.sim_rows.specs.Prelude.{Sees, SeesFinished, SeesResult, set_to, set_video_to, shifted, shifted_left, shifted_right, ShiftOp, SHOW, shown_by}
+pub use Rattle.sim_rows.specs.Prelude.{ShowsState, SeesFinished, SeesResult, with_grom_address, with_video_address, shifted, shifted_left, shifted_right, ShiftOp, SHOW, shown_by}
 pub use Rattle.sim_rows.specs.Prelude.{signed, size_of, SLA, SLLB, SLLV, Source, source_at, source_of, Space, space_of, SRA, SRAB, SRAV, SRC, SRCB, SRCV, SRL}
 pub use Rattle.sim_rows.specs.Prelude.{SRLB, SRLV, ST, Stack, Stands, STATB, state_at_dispatch, state_of, STATUS, Status, status_byte, status_of, status_word}
 pub use Rattle.sim_rows.specs.Prelude.{step, Stepped, steps, STO, Stopped, StoppedBy, STORE, Stored, StoresRegister, StoresResult, StoresTo, StoresValue}

@@ -3,9 +3,9 @@ use Rattle.std.proofs.Common.{ℕ, ◌+◌, ◌<◌, ◌∙◌, ◌≡◌, ◌�
 use Rattle.std.proofs.Common.{sym, true, zero}
 use Rattle.sim_view.proofs.Common.{given, holds_register, previous-next, runs_then}
 use Rattle.sim_operands.proofs.Facts.{not_both}
-use Rattle.sim_rows.specs.Prelude.{bound, Cell, Comes, Dispatched, Ended, GEXIT, Gives, GplState, grom_at, GromState, GSTEP, GSTOP, HoldsRegister, is_end}
+use Rattle.sim_rows.specs.Prelude.{bound, Cell, ReachesWithin, Dispatched, ShowsEnd, GEXIT, Gives, GplState, grom_at, GromState, GSTEP, GSTOP, HoldsRegister, is_end}
 use Rattle.sim_rows.specs.Prelude.{IsFetched, IsHalted, Length, MachineState, Matches, Memory, next_in_grom, number_of, Opcode, PortsAreIdle}
-use Rattle.sim_rows.specs.Prelude.{previous_in_grom, Reaches, Reason, Register, Runs, Sees, shown_by, Stack, Stands, StandsBy, state_at_dispatch, state_of}
+use Rattle.sim_rows.specs.Prelude.{previous_in_grom, Reaches, Reason, Register, Runs, ShowsState, shown_by, Stack, Stands, StandsBy, state_at_dispatch, state_of}
 use Rattle.sim_rows.specs.Prelude.{step, StoppedBy, Turn, Turned, TurnedBy, VdpState, View, view, view_of}
 use Rattle.sim_view.specs.gpl_step_defs.declared.reason.Reason.TheVariants.{Exit}
 use Rattle.sim_view.specs.interp_defs.Interpreter.{most_to_dispatch}
@@ -22,11 +22,11 @@ fetched_at : (image : List ℕ) (at : ℕ) → IsFetched (grom_at image at)
 fetched_at image at = ap (slice_index image) (sym (previous-next at))
 
 -- The ports of a memory whose view shows a state.
-pub idle_of : (m : Memory) (s : GplState) (at : ℕ) → Sees s at (view_of m) → PortsAreIdle m
+pub idle_of : (m : Memory) (s : GplState) (at : ℕ) → ShowsState s at (view_of m) → PortsAreIdle m
 unfolding view_of
 idle_of m s at h = record { vdp = ap is_none h.held; grom = ap (λ (g : GromState). not g.half_written) h.grom }
 
-pub fetched_of : (m : Memory) (s : GplState) (at : ℕ) → Sees s at (view_of m) → IsFetched m.grom
+pub fetched_of : (m : Memory) (s : GplState) (at : ℕ) → ShowsState s at (view_of m) → IsFetched m.grom
 unfolding view_of
 fetched_of m s at h = subst IsFetched (sym h.grom) (fetched_at s.image at)
 
@@ -34,7 +34,7 @@ pub shown_is : (m : Memory) → shown_by m ≡ state_of (view_of m)
 unfolding view_of
 shown_is m = refl
 
-state_is : (w : View) (s : GplState) → Sees s s.pc w → state_of w ≡ s
+state_is : (w : View) (s : GplState) → ShowsState s s.pc w → state_of w ≡ s
 state_is w s h =
     same_state w.cells s.cells w.vdp.memory s.vdp w.vdp.registers s.registers (previous_in_grom w.grom.counter) s.pc w.grom.image s.image
     h.cells h.vdp h.registers (ap (λ (g : GromState). previous_in_grom g.counter) h.grom ∙ previous-next s.pc) (ap (λ (g : GromState). g.image) h.grom)
@@ -47,7 +47,7 @@ state_at w s d =
     same_state w.cells s.cells w.vdp.memory s.vdp w.vdp.registers s.registers (previous_in_grom (previous_in_grom w.grom.counter)) s.pc w.grom.image s.image
     h.cells h.vdp h.registers (counter ∙ ap previous_in_grom (previous-next (next_in_grom s.pc)) ∙ previous-next s.pc) (ap (λ (g : GromState). g.image) h.grom)
 
-pub matches : (s : GplState) (y : MachineState) → Stands y GSTEP → Sees s s.pc (view y) → Matches s y
+pub matches : (s : GplState) (y : MachineState) → Stands y GSTEP → ShowsState s s.pc (view y) → Matches s y
 matches s y stands h = record {
   matching = record {
     pc = stands.pc;
@@ -67,7 +67,7 @@ vdp_of : (m : Memory) → m.vdp ≡ (view_of m).vdp
 unfolding view_of
 vdp_of m = refl
 
-pub leaves : (s : GplState) (y : MachineState) → Stands y GEXIT → Ended s (view y) → IsHalted s Exit y
+pub leaves : (s : GplState) (y : MachineState) → Stands y GEXIT → ShowsEnd s (view y) → IsHalted s Exit y
 leaves s y stands h = record {
   cells = cells_of y.cpu.memory ∙ h.cells;
   vdp = ap (λ (d : VdpState). d.memory) (vdp_of y.cpu.memory) ∙ h.vdp;
@@ -100,12 +100,12 @@ stops s reason y other stands h = record {
 -- ---- turns
 
 -- a run from elsewhere to an end has an instruction
-some_of : (count : ℕ) (x y : MachineState) → Runs count x y → is_end x.cpu.pc ≡ false → is_end y.cpu.pc ≡ true → 0 < count
-some_of zero x y r a b = absurd (not_both (is_end x.cpu.pc) (ap (λ (z : MachineState). is_end z.cpu.pc) (given x y r.leads) ∙ b) a)
-some_of (suc count) x y r a b = omega arith
+operand_list : (count : ℕ) (x y : MachineState) → Runs count x y → is_end x.cpu.pc ≡ false → is_end y.cpu.pc ≡ true → 0 < count
+operand_list zero x y r a b = absurd (not_both (is_end x.cpu.pc) (ap (λ (z : MachineState). is_end z.cpu.pc) (given x y r.leads) ∙ b) a)
+operand_list (suc count) x y r a b = omega arith
 
 -- what is come to from a dispatch
-pub reaches : {x y : MachineState} {before after most to : ℕ} {Q : View → Type 0} (led bound : ℕ) → Comes most x y before after to Q →
+pub reaches : {x y : MachineState} {before after most to : ℕ} {Q : View → Type 0} (led bound : ℕ) → ReachesWithin most x y before after to Q →
     is_end x.cpu.pc ≡ false → is_end to ≡ true → led + most ≤ bound → Reaches led bound x y before after
 reaches {x = x} {y = y} led bound c start end fits =
     let w = c.within in
@@ -115,7 +115,7 @@ reaches {x = x} {y = y} led bound c start end fits =
       within = omega arith;
       counted = c.counted;
       turn = record {
-        some = some_of c.count x y c.runs start there;
+        some = operand_list c.count x y c.runs start there;
         runs = c.runs;
         there =
             there;
@@ -123,7 +123,7 @@ reaches {x = x} {y = y} led bound c start end fits =
     }
 
 -- the beginning of a step before a turn from its dispatch
-pub reaches_from : {x y z : MachineState} {before middle after to bound : ℕ} {Q : View → Type 0} → Comes most_to_dispatch x y before middle to Q →
+pub reaches_from : {x y z : MachineState} {before middle after to bound : ℕ} {Q : View → Type 0} → ReachesWithin most_to_dispatch x y before middle to Q →
     Reaches most_to_dispatch bound y z middle after → is_end to ≡ false → Reaches 0 bound x z before after
 reaches_from {x = x} {y = y} {z = z} c r start =
     let w = c.within in
@@ -139,13 +139,13 @@ reaches_from {x = x} {y = y} {z = z} c r start =
     }
 
 from_by : {x y : MachineState} {before middle to : ℕ} {Q : View → Type 0} (z : MachineState) (after : ℕ) (s : GplState) (r : Result GplState Reason)
-    (turn : Turn) → Comes most_to_dispatch x y before middle to Q → is_end to ≡ false →
+    (turn : Turn) → ReachesWithin most_to_dispatch x y before middle to Q → is_end to ≡ false →
     TurnedBy r s most_to_dispatch y z middle after turn → TurnedBy r s 0 x z before after turn
 from_by z after s (Ok next) turn c e t = (t.0, reaches_from c t.1 e, t.2)
 from_by z after s (Err reason) turn c e t = (t.0, reaches_from c t.1 e, t.2)
 
 pub turned_from : {x y : MachineState} {before middle to : ℕ} {Q : View → Type 0} (z : MachineState) (after : ℕ) (s : GplState) (turn : Turn) →
-    Comes most_to_dispatch x y before middle to Q → is_end to ≡ false →
+    ReachesWithin most_to_dispatch x y before middle to Q → is_end to ≡ false →
     Turned s most_to_dispatch y z middle after turn → Turned s 0 x z before after turn
 turned_from z after s turn c e t = from_by z after s (step s) turn c e t
 

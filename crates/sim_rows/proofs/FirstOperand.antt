@@ -3,11 +3,11 @@ use Rattle.std.proofs.Common.{ℕ, ◌%◌, ◌*◌, ◌+◌, ◌<◌, ◌==◌,
 use Rattle.std.proofs.lemmas.Bool.{eq-eqb, eqb-true}
 use Rattle.std.proofs.lemmas.Nat.{and_mask}
 use Rattle.sim_view.proofs.Common.{comes, comes_as, comes_on, Goes, is_view, previous-next}
-use Rattle.sim_rows.specs.Prelude.{ADDR, Addressed, Asking, AtDispatch, Barred, behind_code, behind_destination, code_byte, Comes, conjunction_of, Cpu}
+use Rattle.sim_rows.specs.Prelude.{ADDR, Addressed, Asking, AtDispatch, OperandStop, behind_code, behind_destination, code_byte, ReachesWithin, conjunction_of, Cpu}
 use Rattle.sim_rows.specs.Prelude.{destination_bytes}
 use Rattle.sim_rows.specs.Prelude.{Dispatched, even, Exits, Finds, FindsOperand, GplState, grom_at, GromState, GSTOP, Holds, is_row, Loaded, LoadsFrom}
 use Rattle.sim_rows.specs.Prelude.{MachineState, next_at, number_of_space, operand_at, operation_in, Place, place_in, place_of, Placed, previous_in_grom}
-use Rattle.sim_rows.specs.Prelude.{Reason, return_of, ROW, row_width, Sees, size_of, Space, state_at_dispatch, state_of, StoppedBy, Vdp, VdpState, View, view}
+use Rattle.sim_rows.specs.Prelude.{Reason, return_of, ROW, row_width, ShowsState, size_of, Space, state_at_dispatch, state_of, StoppedBy, Vdp, VdpState, View, view}
 use Rattle.sim_rows.specs.Prelude.{WIDE, width_in, word_or_byte}
 use Rattle.sim_operands.proofs.Facts.{not_both}
 use Rattle.sim_rows.proofs.Entries.{Kind, narrow, storer, wide}
@@ -54,7 +54,7 @@ space_small Vdp number e = omega arith
 -- ---- what holds where ADDR is asked
 
 -- a view with the same cells and ports sees the same
-pub sees_again : (s : GplState) (next : ℕ) (v w : View) → Sees s next v → w.cells ≡ v.cells → w.vdp ≡ v.vdp → w.grom ≡ v.grom → Sees s next w
+pub sees_again : (s : GplState) (next : ℕ) (v w : View) → ShowsState s next v → w.cells ≡ v.cells → w.vdp ≡ v.vdp → w.grom ≡ v.grom → ShowsState s next w
 sees_again s next v w h c d g = record {
   cells = c ∙ h.cells;
   vdp = ap (λ (p : VdpState). p.memory) d ∙ h.vdp;
@@ -102,7 +102,7 @@ holds_loaded s bytes at number v w h a = subst (Holds s bytes at) (sym a.is) (re
 })
 
 -- A stop by the cells keeps the state.
-pub barred_stops : (s : GplState) (bytes at : ℕ) (reason : Reason) (v w : View) → Holds s bytes at v → Barred v reason w → StoppedBy s reason w
+pub barred_stops : (s : GplState) (bytes at : ℕ) (reason : Reason) (v w : View) → Holds s bytes at v → OperandStop v reason w → StoppedBy s reason w
 barred_stops s bytes at reason v w h a = subst (StoppedBy s reason) (sym a.is) (record {
   ended = record { cells = h.sees.cells; vdp = h.sees.vdp; registers = h.sees.registers; address = h.address };
   reason_is = refl;
@@ -157,12 +157,12 @@ module _ {x : MachineState} (at : AtDispatch is_row x) where
   fits = (is_view x at.stands.machine).grom.image.fits s.pc
 
   abbrev Asks : MachineState → ℕ → ℕ → Type 0
-  Asks y t u = Comes 6 x y t u ADDR (Asking s (destination_bytes s) (behind_code s) (behind_destination (operation_in s)))
+  Asks y t u = ReachesWithin 6 x y t u ADDR (Asking s (destination_bytes s) (behind_code s) (behind_destination (operation_in s)))
 
   asks_at : {y : MachineState} {t u : ℕ} (count bytes link : ℕ) → count ≤ 6 → bytes ≡ destination_bytes s → behind_destination (operation_in s) ≡ link →
       Exits x y t u (pieces.ask_place count bytes link (view x)) → Asks y t u
   asks_at {y = y} {t = t} {u = u} count bytes link within size is e =
-      subst (λ (n : ℕ). Comes 6 x y t u ADDR (Asking s (destination_bytes s) (behind_code s) n)) (sym is)
+      subst (λ (n : ℕ). ReachesWithin 6 x y t u ADDR (Asking s (destination_bytes s) (behind_code s) n)) (sym is)
       (comes e (asks s (view x) count bytes link within at.dispatched size))
 
   module _ {y : MachineState} {t u : ℕ} where
@@ -200,18 +200,18 @@ link_is : (s : GplState) (bytes at to : ℕ) (w : View) → even to ≡ to → A
 link_is s bytes at to w e a = ap even a.link ∙ e
 
 pub located : (s : GplState) (bytes at next to most : ℕ) (x y z : MachineState) (t u w : ℕ) (place : Place) → even to ≡ to →
-    Comes most x y t u ADDR (Asking s bytes at to) →
-    Comes most_of_address y z u w (return_of (view y)) (Placed (view y) next place) → Comes (most + most_of_address) x z t w to (Located s bytes place next)
+    ReachesWithin most x y t u ADDR (Asking s bytes at to) →
+    ReachesWithin most_of_address y z u w (return_of (view y)) (Placed (view y) next place) → ReachesWithin (most + most_of_address) x z t w to (Located s bytes place next)
 located s bytes at next to most x y z t u w place even_to c d =
     let e : return_of (view y) ≡ to = link_is s bytes at to (view y) even_to c.holds in
-    let d2 : Comes most_of_address y z u w to (Placed (view y) next place) =
-    subst (λ (p : ℕ). Comes most_of_address y z u w p (Placed (view y) next place)) e d in
+    let d2 : ReachesWithin most_of_address y z u w to (Placed (view y) next place) =
+    subst (λ (p : ℕ). ReachesWithin most_of_address y z u w p (Placed (view y) next place)) e d in
     comes_as (most + most_of_address) (Located s bytes place next) (comes_on most 38 c d2 refl) (omega arith)
     (λ v a. record { holds = holds_addressed s bytes at next (view y) v c.holds.holds a; from = from_placed next place (view y) v a })
 
-pub barred : (s : GplState) (bytes at to most : ℕ) (reason : Reason) (x y z : MachineState) (t u w : ℕ) → Comes most x y t u ADDR (Asking s bytes at to) →
-    Comes most_of_address y z u w GSTOP (Barred (view y) reason) →
-    Comes (most + most_of_address) x z t w GSTOP (StoppedBy s reason)
-barred s bytes at to most reason x y z t u w c d =
+pub operand_stop : (s : GplState) (bytes at to most : ℕ) (reason : Reason) (x y z : MachineState) (t u w : ℕ) → ReachesWithin most x y t u ADDR (Asking s bytes at to) →
+    ReachesWithin most_of_address y z u w GSTOP (OperandStop (view y) reason) →
+    ReachesWithin (most + most_of_address) x z t w GSTOP (StoppedBy s reason)
+operand_stop s bytes at to most reason x y z t u w c d =
     comes_as (most + most_of_address) (StoppedBy s reason)
     (comes_on most 38 c d refl) (omega arith) (λ v a. barred_stops s bytes at reason (view y) v c.holds.holds a)

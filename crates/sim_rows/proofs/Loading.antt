@@ -1,6 +1,6 @@
 -- The destination of a row, from the dispatch until it is kept.
 use Rattle.std.proofs.Common.{ℕ, ◌+◌, ◌<◌, ◌∙◌, ◌≡◌, ◌≤◌, ap, arith, Bool, Err, false, nat_lt, not, Ok, Option, refl, Result, Some, subst, sym, true}
-use Rattle.sim_rows.specs.Prelude.{ADDR, Asking, AtDispatch, behind_code, behind_destination, behind_first, bytes_by, code_byte, Comes, destination_bytes}
+use Rattle.sim_rows.specs.Prelude.{ADDR, Asking, AtDispatch, behind_code, behind_destination, behind_first, bytes_by, code_byte, ReachesWithin, destination_bytes}
 use Rattle.sim_rows.specs.Prelude.{destination_size, DIV, even, Exits, Finds, FindsOperand, first_of, gone_on, GplOperation, GplState, GSTOP, is_end, is_row}
 use Rattle.sim_rows.specs.Prelude.{IsVisible, KeepsDestination, LOAD, LoadsDestination, LoadsValue, MachineState, MUL, next_at, number_of_space, operand_at}
 use Rattle.sim_rows.specs.Prelude.{operation_in, Place, place_of, PortsAreIdle, reads_destination, Reason, return_of, ROW, row_width, size_of, Stands}
@@ -11,7 +11,7 @@ use Rattle.sim_rows.proofs.Again.{idle_told}
 use Rattle.sim_rows.proofs.Codes.{two_above}
 use Rattle.sim_rows.proofs.Ends.{idle_of}
 use Rattle.sim_rows.proofs.Places.{Lies, lies_at, place_lies}
-use Rattle.sim_rows.proofs.FirstOperand.{barred, finds_of, fits, Located, located, space_small}
+use Rattle.sim_rows.proofs.FirstOperand.{operand_stop, finds_of, fits, Located, located, space_small}
 use Rattle.sim_rows.proofs.Entries.{Kind, returns_there, Storer, storer, Wide, wide}
 use Rattle.sim_rows.proofs.Operands.{LoadedFrom, Loading, loads, visible_of}
 use Rattle.sim_rows.proofs.Operands as operands
@@ -85,12 +85,12 @@ module _ {x : MachineState} (at : AtDispatch is_row x) where
   abbrev bytes : ℕ
   bytes = destination_bytes s
 
-  module _ {b : MachineState} {t t2 : ℕ} (c : Comes 6 x b t t2 ADDR (Asking s bytes (behind_code s) label)) (y : MachineState) (u : ℕ)
+  module _ {b : MachineState} {t t2 : ℕ} (c : ReachesWithin 6 x b t t2 ADDR (Asking s bytes (behind_code s) label)) (y : MachineState) (u : ℕ)
       (f : FindsOperand b y t2 u) where
     finds : Finds b y t2 u (behind_first s) (first_of s)
     finds = finds_of s (gone_on s) bytes (behind_code s) b y t2 u c.holds.holds refl f
 
-    locates : (place : Place) → Finds b y t2 u (behind_first s) (Ok place) → Comes 44 x y t u label (Located s bytes place (behind_first s))
+    locates : (place : Place) → Finds b y t2 u (behind_first s) (Ok place) → ReachesWithin 44 x y t u label (Located s bytes place (behind_first s))
     locates place g = located s bytes (behind_code s) (behind_first s) label 6 x b y t t2 u place (returns_there (operation_in s) at.family).0 c g
 
     pub stops : y.cpu.pc ≡ GSTOP → LoadsDestination s x y t u false (first_of s)
@@ -98,13 +98,13 @@ module _ {x : MachineState} (at : AtDispatch is_row x) where
       where
         by : (r : Result Place Reason) → Finds b y t2 u (behind_first s) r → LoadsDestination s x y t u false r
         by (Ok place) g = absurd ((returns_there (operation_in s) at.family).1 (sym (locates place g).stands.pc ∙ here))
-        by (Err reason) g = (refl, barred s bytes (behind_code s) label 6 reason x b y t t2 u c g)
+        by (Err reason) g = (refl, operand_stop s bytes (behind_code s) label 6 reason x b y t t2 u c g)
 
     -- it was found
     pub record Destination : Type 0 where
       pub place : Place
       pub is_place : first_of s ≡ Ok place
-      pub comes : Comes 44 x y t u label (Located s bytes place (behind_first s))
+      pub comes : ReachesWithin 44 x y t u label (Located s bytes place (behind_first s))
 
     pub found : (y.cpu.pc ≡ GSTOP → ⊥) → Destination
     found elsewhere = by (first_of s) refl finds
@@ -117,8 +117,8 @@ module _ {x : MachineState} (at : AtDispatch is_row x) where
       abbrev place : Place
       place = (found elsewhere).place
 
-      there : (p : ℕ) → label ≡ p → Comes 44 x y t u p (Located s bytes place (behind_first s))
-      there p e = subst (λ (n : ℕ). Comes 44 x y t u n (Located s bytes place (behind_first s))) e (found elsewhere).comes
+      there : (p : ℕ) → label ≡ p → ReachesWithin 44 x y t u p (Located s bytes place (behind_first s))
+      there p e = subst (λ (n : ℕ). ReachesWithin 44 x y t u n (Located s bytes place (behind_first s))) e (found elsewhere).comes
 
       kept : (z : MachineState) (w : ℕ) (n : Bool) → nat_lt (code_byte s) 0xA0 ≡ n → KeepsDestination s place x z t w (not n) →
           LoadsDestination s x z t w true (first_of s)
@@ -148,7 +148,7 @@ module _ {x : MachineState} (at : AtDispatch is_row x) where
 
       -- its value is loaded
       module _ (link to : ℕ) (is : label ≡ to) (goes : is_end to ≡ false) {z : MachineState} {w : ℕ} (e : Exits y z u w (pieces.load_kept link (view y))) where
-        loading : Comes 47 x z t w LOAD (Loading s bytes place place (behind_first s) link)
+        loading : ReachesWithin 47 x z t w LOAD (Loading s bytes place place (behind_first s) link)
         loading = operands.asks_value s place (there to is) goes link z w e
 
         pub idle_loading : PortsAreIdle z.cpu.memory
@@ -158,7 +158,7 @@ module _ {x : MachineState} (at : AtDispatch is_row x) where
         visible_loading some = visible_again (pieces.load_kept link (view y)).left (view z) e.shows ((found_there b y t2 u elsewhere f).visible some)
 
         pub value : even link ≡ link → {q : MachineState} {k : ℕ} → ((view z).r.r5 < 2 → LoadsValue z q w k) →
-            Comes 62 x q t k link (LoadedFrom s bytes place place (behind_first s) (view z).r.r9)
+            ReachesWithin 62 x q t k link (LoadedFrom s bytes place place (behind_first s) (view z).r.r9)
         value even_link {q = q} {k = k} l =
             loads s bytes place place (behind_first s) link 47 x z q t w k even_link loading
             (l (space_small place.space (view z).r.r5 loading.holds.from.space))

@@ -3,7 +3,7 @@ use Rattle.std.proofs.Common.{ℕ, ◌%◌, ◌*◌, ◌+◌, ◌-◌, ◌/◌, 
 use Rattle.std.proofs.Common.{refl, slice_index, Some, subst, sym, true}
 use Rattle.std.proofs.lemmas.Bool.{eq-eqb, eqb-true}
 use Rattle.sim_view.proofs.Common.{comes_as, comes_on, comes_then, goes_in}
-use Rattle.sim_rows.specs.Prelude.{ADDR, Addressed, Barred, behind_first, Byte, byte_in, code_byte, Comes, Cpu, destination_bytes, even, Exits, GO}
+use Rattle.sim_rows.specs.Prelude.{ADDR, Addressed, OperandStop, behind_first, Byte, byte_in, code_byte, ReachesWithin, Cpu, destination_bytes, even, Exits, GO}
 use Rattle.sim_rows.specs.Prelude.{GplState, GSTOP, Holds, in_register, INTERP, is_end, is_row, IsVisible, join, Kept, last_out, LOAD, Loaded, LoadsFrom}
 use Rattle.sim_rows.specs.Prelude.{LoadsFromSource, LoadsValue, MachineState, number_of_space, operation_in, OPVAL, Place, place_in, Placed, plus, Reason}
 use Rattle.sim_rows.specs.Prelude.{reads_destination, return_of, row_entry, row_width, shifted, size_of, Source, Sourced, Space, SRL, state_of, StoppedBy}
@@ -74,14 +74,14 @@ pub record LoadedFrom (s : GplState) (bytes : ℕ) (place kept : Place) (next r9
   pub before : w.r.r9 ≡ r9
 
 pub loads : (s : GplState) (bytes : ℕ) (place kept : Place) (next to most : ℕ) (x y z : MachineState) (t u w : ℕ) → even to ≡ to →
-    Comes most x y t u LOAD (Loading s bytes place kept next to) → LoadsValue y z u w →
-    Comes (most + 15) x z t w to (LoadedFrom s bytes place kept next (view y).r.r9)
+    ReachesWithin most x y t u LOAD (Loading s bytes place kept next to) → LoadsValue y z u w →
+    ReachesWithin (most + 15) x z t w to (LoadedFrom s bytes place kept next (view y).r.r9)
 loads s bytes place kept next to most x y z t u w even_to c d =
     let v : View = view y in
     let h = c.holds.holds in
     let e : return_of v ≡ to = ap even c.holds.link ∙ even_to in
     let number = value_at (state_of v) (width_in v.r.r3) (place_in v.r.r5 v.r.r2) in
-    let d2 : Comes most_of_load y z u w to (Loaded v number) = subst (λ (p : ℕ). Comes most_of_load y z u w p (Loaded v number)) e d in
+    let d2 : ReachesWithin most_of_load y z u w to (Loaded v number) = subst (λ (p : ℕ). ReachesWithin most_of_load y z u w p (Loaded v number)) e d in
     comes_as (most + 15) _ (comes_on most 15 c d2 refl) (omega arith) (λ q a. record {
       holds = holds_loaded s bytes next number v q h a;
       from = record { address = ap (λ (u : View). u.r.r2) a.is ∙ c.holds.from.address; space = ap (λ (u : View). u.r.r5) a.is ∙ c.holds.from.space };
@@ -112,10 +112,10 @@ module _ (s : GplState) (place : Place) where
 
   module _ {x y : MachineState} {t u : ℕ} where
     -- its place was found
-    module _ {label : ℕ} (c : Comes 44 x y t u label (Located s bytes place next)) (goes : is_end label ≡ false) where
+    module _ {label : ℕ} (c : ReachesWithin 44 x y t u label (Located s bytes place next)) (goes : is_end label ≡ false) where
       -- ST does not load it
       pub stored : (z : MachineState) (w : ℕ) → bytes ≡ size_of (row_width s) → reads_destination (operation_in s) ≡ false →
-          Exits y z u w (pieces.keep_stored (view y)) → Comes 65 x z t w OPSTWO (Kept s place next)
+          Exits y z u w (pieces.keep_stored (view y)) → ReachesWithin 65 x z t w OPSTWO (Kept s place next)
       stored z w single unread e =
           let h = c.holds.holds in
           comes_as 65 _ (comes_then 44 2 c e (record {
@@ -131,7 +131,7 @@ module _ (s : GplState) (place : Place) where
 
       -- LOAD is asked for its value
       pub asks_value : (link : ℕ) (z : MachineState) (w : ℕ) → Exits y z u w (pieces.load_kept link (view y)) →
-          Comes 47 x z t w LOAD (Loading s bytes place place next link)
+          ReachesWithin 47 x z t w LOAD (Loading s bytes place place next link)
       asks_value link z w e =
           let f = c.holds.from in
           let v : View = view y in
@@ -147,7 +147,7 @@ module _ (s : GplState) (place : Place) where
           }) goes
 
     -- its value was loaded
-    module _ {label r9 : ℕ} (c : Comes 62 x y t u label (LoadedFrom s bytes place place next r9)) (goes : is_end label ≡ false) where
+    module _ {label r9 : ℕ} (c : ReachesWithin 62 x y t u label (LoadedFrom s bytes place place next r9)) (goes : is_end label ≡ false) where
       abbrev v : View
       v = view y
 
@@ -161,7 +161,7 @@ module _ (s : GplState) (place : Place) where
 
       -- MUL and DIV
       pub wide : {z : MachineState} {w : ℕ} → bytes ≡ 2 * size_of (row_width s) → Exits y z u w (pieces.keep_wide v) →
-          Comes 65 x z t w OPSTWO (Kept s place next)
+          ReachesWithin 65 x z t w OPSTWO (Kept s place next)
       wide twice e =
           comes_as 65 _ (comes_then 62 3 c e (record {
             within = omega arith;
@@ -174,14 +174,14 @@ module _ (s : GplState) (place : Place) where
         size : v.r.r3 ≡ size_of (row_width s)
         size = c.holds.holds.bytes_are ∙ single
 
-        pub two : nat_lt (code_byte s) 0xA0 ≡ false → Comes 65 x z t w OPSTWO (Kept s place next)
+        pub two : nat_lt (code_byte s) 0xA0 ≡ false → ReachesWithin 65 x z t w OPSTWO (Kept s place next)
         two above =
             let high : nat_lt v.r.r0 0xA0 ≡ false = ap (λ n. nat_lt n 0xA0) c.holds.holds.code ∙ above in
             comes_as 65 _ (comes_then 62 3 c e (rw (high, pieces.keep_first) (goes_in (omega arith)
             (keeps _ refl refl refl refl refl refl size refl refl refl))) goes) (omega arith) (λ v a. a)
 
         -- a row of one operand has 1 for the source
-        one_by : nat_lt (code_byte s) 0xA0 ≡ true → (b : Bool) → word_of s ≡ b → Comes 69 x z t w GO (Sourced s place unit next)
+        one_by : nat_lt (code_byte s) 0xA0 ≡ true → (b : Bool) → word_of s ≡ b → ReachesWithin 69 x z t w GO (Sourced s place unit next)
         one_by below true is =
             let low : nat_lt v.r.r0 0xA0 ≡ true = ap (λ n. nat_lt n 0xA0) c.holds.holds.code ∙ below in
             let word : (v.r.r3 == 1) ≡ false = ap (λ n. n == 1) (size ∙ ap (λ b. size_of (word_or_byte b)) is) in
@@ -193,7 +193,7 @@ module _ (s : GplState) (place : Place) where
             comes_then 62 7 c e (rw (low, byte, pieces.keep_first) (goes_in (omega arith)
             (sourced (keeps _ refl refl refl refl refl refl size refl refl refl) tt (sym (ap (λ b. in_register (word_or_byte b) 1) is))))) goes
 
-        pub one : nat_lt (code_byte s) 0xA0 ≡ true → Comes 69 x z t w GO (Sourced s place unit next)
+        pub one : nat_lt (code_byte s) 0xA0 ≡ true → ReachesWithin 69 x z t w GO (Sourced s place unit next)
         one below = one_by below (word_of s) refl
 
 -- ---- the second operand's place
@@ -220,16 +220,16 @@ kept_addressed s kept at next v w q a = record {
   destination = λ reads. ap (λ (u : View). u.r.r9) a.is ∙ q.destination reads;
 }
 
-module _ (s : GplState) (kept : Place) (at : ℕ) {x y z : MachineState} {t u w : ℕ} (c : Comes 4 x y t u ADDR (Operand s kept at)) where
-  pub finds_second : (place : Place) (next : ℕ) → Comes most_of_address y z u w (return_of (view y)) (Placed (view y) next place) →
-      Comes 42 x z t w OPVAL (Found s kept place next)
+module _ (s : GplState) (kept : Place) (at : ℕ) {x y z : MachineState} {t u w : ℕ} (c : ReachesWithin 4 x y t u ADDR (Operand s kept at)) where
+  pub finds_second : (place : Place) (next : ℕ) → ReachesWithin most_of_address y z u w (return_of (view y)) (Placed (view y) next place) →
+      ReachesWithin 42 x z t w OPVAL (Found s kept place next)
   finds_second place next d =
-      let d2 : Comes most_of_address y z u w OPVAL (Placed (view y) next place) =
-      subst (λ (p : ℕ). Comes most_of_address y z u w p (Placed (view y) next place)) (ap even c.holds.link) d in
+      let d2 : ReachesWithin most_of_address y z u w OPVAL (Placed (view y) next place) =
+      subst (λ (p : ℕ). ReachesWithin most_of_address y z u w p (Placed (view y) next place)) (ap even c.holds.link) d in
       comes_as 42 (Found s kept place next) (comes_on 4 38 c d2 refl) (omega arith)
       (λ v a. record { kept = kept_addressed s kept at next (view y) v c.holds.kept a; from = from_placed next place (view y) v a })
 
-  pub bars_second : (reason : Reason) → Comes most_of_address y z u w GSTOP (Barred (view y) reason) → Comes 42 x z t w GSTOP (StoppedBy s reason)
+  pub bars_second : (reason : Reason) → ReachesWithin most_of_address y z u w GSTOP (OperandStop (view y) reason) → ReachesWithin 42 x z t w GSTOP (StoppedBy s reason)
   bars_second reason d =
       comes_as 42 (StoppedBy s reason) (comes_on 4 38 c d refl) (omega arith) (λ v a. barred_stops s (size_of (row_width s)) at reason
       (view y) v c.holds.kept.holds a)
@@ -241,8 +241,8 @@ from_again None v w f a b = tt
 from_again (Some place) v w f a b = record { address = a ∙ f.address; space = b ∙ f.space }
 
 pub goes_to_row : (s : GplState) (kept : Place) (source : Source) (next most : ℕ) {x y z : MachineState} {t u w : ℕ} → code_byte s < 256 →
-    is_row (operation_in s) ≡ true → Comes most x y t u GO (Sourced s kept source next) → Exits y z u w (pieces.go_to_row (view y)) →
-    Comes (most + 3) x z t w (row_entry (operation_in s)) (Sourced s kept source next)
+    is_row (operation_in s) ≡ true → ReachesWithin most x y t u GO (Sourced s kept source next) → Exits y z u w (pieces.go_to_row (view y)) →
+    ReachesWithin (most + 3) x z t w (row_entry (operation_in s)) (Sourced s kept source next)
 goes_to_row s kept source next most {y = y} fits row c e =
     let q = c.holds in
     let v : View = view y in

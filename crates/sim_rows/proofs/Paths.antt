@@ -3,7 +3,7 @@ use Rattle.std.proofs.Common.{[], ℕ, ◌+◌, ◌<◌, ◌==◌, ◌∷◌, �
 use Rattle.std.proofs.lemmas.Bool.{eqb-false, ne_eqb}
 use Rattle.sim_view.proofs.Common.{high-join, IsView, join-bytes, Leads, leads, Part, part_then, pick, Rest}
 use Rattle.sim_rows.specs.Prelude.{ADDR, difference_of, even, Exit, exit, GO, GromState, GSTEP, high, INTERP, join, last_out, LOAD, low, OPVAL, past, ROW}
-use Rattle.sim_rows.specs.Prelude.{set_to, shifted, SHOW, SLA, SRL, STO, STORE, STREAM, sum_of, View, WHERE, WIDE, Word}
+use Rattle.sim_rows.specs.Prelude.{with_grom_address, shifted, SHOW, SLA, SRL, STO, STORE, STREAM, sum_of, View, WHERE, WIDE, Word}
 use Rattle.sim_operands.proofs.Facts.{byte_is, down}
 use Rattle.sim_operands.proofs.Paths.{rest_is}
 use Rattle.sim_rows.proofs.Facts.{from_limit, spot_rows, spot_table}
@@ -104,7 +104,7 @@ not_first counter z = let h = eqb-false (low counter) 0 z in ne_eqb (shifted SLA
 
 -- the address behind is set again, and the byte there is read
 abbrev set_again : View → ℕ → GromState
-set_again v word = set_to (difference_of Word word 1) (pieces.read_once (pieces.read_once v.grom))
+set_again v word = with_grom_address (difference_of Word word 1) (pieces.read_once (pieces.read_once v.grom))
 
 abbrev dispatched : ℕ → View → ℕ → Exit
 dispatched count v word =

@@ -1,7 +1,7 @@
 -- A row from its dispatch to the end of the step.
 use Rattle.std.proofs.Common.{ℕ, ◌+◌, ◌<◌, ◌∙◌, ◌≡◌, ◌≤◌, ap, arith, Bool, Err, false, None, Ok, Option, refl, Result, Some, subst, sym, true}
 use Rattle.sim_view.proofs.Common.{comes_on}
-use Rattle.sim_rows.specs.Prelude.{◌>>=◌, AtRow, behind_code, bound, Cell, Changed, Changes, code_byte, Comes, destination_bytes, finished, first_of, gone_on}
+use Rattle.sim_rows.specs.Prelude.{◌>>=◌, AtRow, behind_code, bound, Cell, ShowsChanges, Changes, code_byte, ReachesWithin, destination_bytes, finished, first_of, gone_on}
 use Rattle.sim_rows.specs.Prelude.{GplOperation, GplSource, GplState, GSTEP, GSTOP, has_source, is_end, is_row, MachineState, number_of_space, operand_at}
 use Rattle.sim_rows.specs.Prelude.{operands_of, operation_in, Place, place_of, Reason, result_of, row_entry, row_result, row_width, RunsRow, second_by}
 use Rattle.sim_rows.specs.Prelude.{second_of, SeesResult, size_of, Source, source_of, source_read, StartsRow, step, Stepped, Stopped, StoppedBy, Turn, Turned}
@@ -20,7 +20,7 @@ use Rattle.sim_view.specs.interp_defs.Interpreter.{most_to_dispatch}
 -- ---- at the entry of a row
 
 -- nothing was changed yet
-pub row_changed : (s : GplState) (place : Place) (source : Source) (w : View) → AtRow s place source w → Changed (unchanged (gone_on s)) w
+pub row_changed : (s : GplState) (place : Place) (source : Source) (w : View) → AtRow s place source w → ShowsChanges (unchanged (gone_on s)) w
 row_changed s place source w h =
     record {
       cells = h.holds.sees.cells;
@@ -139,7 +139,7 @@ module _ (s : GplState) (x : MachineState) (t : ℕ) (fits : code_byte s < 256) 
     pub source : Source
     pub is_both : operands_of s ≡ Ok (place, source)
     pub is_operation : operation_in s ≡ Some op
-    pub comes : Comes most_to_row x y t u (row_entry (Some op)) (AtRow s place source)
+    pub comes : ReachesWithin most_to_row x y t u (row_entry (Some op)) (AtRow s place source)
 
   started_by : (op : GplOperation) (y : MachineState) (u : ℕ) (told : Option GplOperation) → told ≡ Some op → (r : Result (Place × Source) Reason) →
       operands_of s ≡ r → StartsRow s x y t u told r → Started op y u
@@ -151,7 +151,7 @@ module _ (s : GplState) (x : MachineState) (t : ℕ) (fits : code_byte s < 256) 
         is_both = is;
         is_operation = same;
         comes =
-            subst (λ (p : Option GplOperation). Comes most_to_row x y t u (row_entry p) (AtRow s o.0 o.1)) same l.1;
+            subst (λ (p : Option GplOperation). ReachesWithin most_to_row x y t u (row_entry p) (AtRow s o.0 o.1)) same l.1;
       }
   started_by op y u told e (Err reason) is l = absurd (none_some op (sym l.0 ∙ e))
 
@@ -166,8 +166,8 @@ module _ (s : GplState) (x : MachineState) (t : ℕ) (fits : code_byte s < 256) 
   stopped_by y u told none (Err reason) e l =
       let op = some_is (operation_in s) row in
       let cell : reason ≡ Cell = reason_is (operands_of s) reason (operands_alone s) e in
-      let run : Comes most_to_row_stop x y t u GSTOP (StoppedBy s Cell) =
-      subst (λ (r : Reason). Comes most_to_row_stop x y t u GSTOP (StoppedBy s r)) cell l.1 in
+      let run : ReachesWithin most_to_row_stop x y t u GSTOP (StoppedBy s Cell) =
+      subst (λ (r : Reason). ReachesWithin most_to_row_stop x y t u GSTOP (StoppedBy s r)) cell l.1 in
       let is : step s ≡ Err Cell = step_row s op.0 fits op.1 (subst (λ (o : Option GplOperation). is_row o ≡ true) op.1 row)
       ∙ ap (λ (r : Result (Place × Source) Reason). r >>= row_after s op.0) (e ∙ ap Err cell) in
       let b = bound_stop s Cell is in
@@ -190,7 +190,7 @@ module _ (s : GplState) (x : MachineState) (t : ℕ) (fits : code_byte s < 256) 
 
   made : (y : MachineState) (u most : ℕ) (place : Place) (source : Source) (op : GplOperation) → operation_in s ≡ Some op → operands_of s ≡ Ok (place, source)
       → most ≤ 411 →
-      (r : Result Changes Reason) → row_result op s place source ≡ r → Comes most x y t u GSTEP (SeesResult r) → Turned s most_to_dispatch x y t u Stepped
+      (r : Result Changes Reason) → row_result op s place source ≡ r → ReachesWithin most x y t u GSTEP (SeesResult r) → Turned s most_to_dispatch x y t u Stepped
   made y u most place source op e is le (Ok c) f run =
       let step_is = step_of place source op e is (Ok c) f in
       let b = bound_row s (finished c) op e (subst (λ (o : Option GplOperation). is_row o ≡ true) e row) step_is in
@@ -212,7 +212,7 @@ module _ (s : GplState) (x : MachineState) (t : ℕ) (fits : code_byte s < 256) 
       (run.0, reaches most_to_dispatch (bound s) run.1 start refl (omega arith), stops s reason y (other reason refl) run.1.stands run.1.holds)
 
   ends_as : (op : GplOperation) (y z : MachineState) (u v most : ℕ) (place : Place) (source : Source) (turn : Turn) →
-      Comes most_to_row x y t u (row_entry (Some op)) (AtRow s place source) →
+      ReachesWithin most_to_row x y t u (row_entry (Some op)) (AtRow s place source) →
       is_end (row_entry (Some op)) ≡ false → (r : Result Changes Reason) → TurnsBy most s y z u v turn r → TurnsBy (127 + most) s x z t v turn r
   ends_as op y z u v most place source turn c entry (Ok d) h = (h.0, comes_on 127 most c h.1 entry)
   ends_as op y z u v most place source turn c entry (Err reason) h = (h.0, comes_on 127 most c h.1 entry)

@@ -2,9 +2,9 @@
 use Rattle.std.proofs.Common.{ℕ, ◌<◌, ◌==◌, ◌∙◌, ◌≡◌, ap, arith, Bool, Err, false, if◌then◌else◌, List, None, not, Ok, refl, Result}
 use Rattle.std.proofs.Common.{slice_index, Some, subst, sym, true}
 use Rattle.sim_view.proofs.Common.{comes, comes_as, comes_then, IsView, previous-next}
-use Rattle.sim_rows.specs.Prelude.{◌>>=◌, ADDR, behind_first, code_byte, Comes, Exit, exit, Exits, Finds, FindsOperand, GO, gone_on, GplOperand, GplSource}
+use Rattle.sim_rows.specs.Prelude.{◌>>=◌, ADDR, behind_first, code_byte, ReachesWithin, Exit, exit, Exits, Finds, FindsOperand, GO, gone_on, GplOperand, GplSource}
 use Rattle.sim_rows.specs.Prelude.{GplState, grom_at, GromState, GSTOP, has_source, in_register, is_immediate, Kept, last_out, LOAD, LoadsBy, LoadsValue}
-use Rattle.sim_rows.specs.Prelude.{MachineState, next_at, next_of, operand_at, OPVAL, Place, place_of, Reason, row_width, second_by, second_of, Sees, shifted}
+use Rattle.sim_rows.specs.Prelude.{MachineState, next_at, next_of, operand_at, OPVAL, Place, place_of, Reason, row_width, second_by, second_of, ShowsState, shifted}
 use Rattle.sim_rows.specs.Prelude.{size_of, Source, source_at, source_of, source_read, Sourced, SRL, STREAM, streamed, value_at, View, view, Width}
 use Rattle.sim_rows.specs.Prelude.{width_in, word_of, word_or_byte}
 use Rattle.sim_view.specs.gpl_defs.Reading.{value_at as value_in}
@@ -17,7 +17,7 @@ use Rattle.sim_rows.specs.sim_operands.Pieces as operands
 use Rattle.sim_rows.specs.Pieces as pieces
 
 -- the code byte is one where the view shows the image
-pub code_fits : (s : GplState) (next : ℕ) (v : View) → IsView v → Sees s next v → code_byte s < 256
+pub code_fits : (s : GplState) (next : ℕ) (v : View) → IsView v → ShowsState s next v → code_byte s < 256
 code_fits s next v i h =
     let P : List ℕ → Type 0 = λ image. slice_index image s.pc < 256 in
     subst P (ap (λ (g : GromState). g.image) h.grom) (i.grom.image.fits s.pc)
@@ -64,10 +64,10 @@ module _ {x a : MachineState} {t t1 : ℕ} (e : Exits x a t t1 (pieces.ask_secon
 
     -- it is there
     loaded : {y : MachineState} {u : ℕ} (source : Source) (b : Bool) → is_immediate s ≡ b → second_of s ≡ Ok source →
-        Comes 59 x y t u GO (Sourced s place source (read_by b).1) → LoadsBy s place x y t u true (second_of s)
+        ReachesWithin 59 x y t u GO (Sourced s place source (read_by b).1) → LoadsBy s place x y t u true (second_of s)
     loaded {y = y} {u = u} source b bit second c =
         subst (λ (r : Result Source Reason). LoadsBy s place x y t u true r) (sym second)
-        (refl, subst (λ (n : ℕ). Comes 59 x y t u GO (Sourced s place source n)) (sym (next_is b bit)) c)
+        (refl, subst (λ (n : ℕ). ReachesWithin 59 x y t u GO (Sourced s place source n)) (sym (next_is b bit)) c)
 
     -- ---- an immediate source
 
@@ -78,10 +78,10 @@ module _ {x a : MachineState} {t t1 : ℕ} (e : Exits x a t t1 (pieces.ask_secon
       abbrev read : ℕ × ℕ
       read = value_in (word_of s) s.image next
 
-      streamed_is : Comes 11 x b t t2 GO (λ w. w ≡ streamed set)
+      streamed_is : ReachesWithin 11 x b t t2 GO (λ w. w ≡ streamed set)
       streamed_is =
           let by : GromState → Exit = λ g. operands.stream (record (told GO) { grom = g }) in
-          let c : Comes 5 x a t t1 STREAM (λ w. w ≡ told GO) = comes (streaming here).1 (record { within = omega arith; to_is = refl; holds = refl }) in
+          let c : ReachesWithin 5 x a t t1 STREAM (λ w. w ≡ told GO) = comes (streaming here).1 (record { within = omega arith; to_is = refl; holds = refl }) in
           comes_then 5 6 c e2 (from operands.stream c.holds (known (ap by k.holds.sees.grom)
           (streams set (ap (grom_at s.image) (sym (previous-next next)))))) refl
 
@@ -131,7 +131,7 @@ module _ {x a : MachineState} {t t1 : ℕ} (e : Exits x a t t1 (pieces.ask_secon
       second_place : second_of s ≡ (source_place >>= λ p. Ok (made_at p))
       second_place = second_is false (sym bit_is ∙ (asking away).0)
 
-      asked : Comes 4 x a t t1 ADDR (Operand s place next)
+      asked : ReachesWithin 4 x a t t1 ADDR (Operand s place next)
       asked = comes (asking away).1 (record {
         within = omega arith;
         to_is = refl;
@@ -162,7 +162,7 @@ module _ {x a : MachineState} {t t1 : ℕ} (e : Exits x a t t1 (pieces.ask_secon
         pub record SourceAt : Type 0 where
           pub source : Place
           pub is_place : source_place ≡ Ok source
-          pub comes : Comes 42 x b t t2 OPVAL (Found s place source operand.1)
+          pub comes : ReachesWithin 42 x b t t2 OPVAL (Found s place source operand.1)
 
         module _ (elsewhere : b.cpu.pc ≡ GSTOP → ⊥) where
           found : SourceAt
@@ -173,7 +173,7 @@ module _ {x a : MachineState} {t t1 : ℕ} (e : Exits x a t t1 (pieces.ask_secon
               by (Err reason) is g = absurd (elsewhere g.stands.pc)
 
           module _ {c d : MachineState} {t3 t4 : ℕ} (e3 : Exits b c t2 t3 (pieces.load_second (view b))) (l : (view c).r.r5 < 2 → LoadsValue c d t3 t4) where
-            loading : Comes 44 x c t t3 LOAD (Loading s (size_of (row_width s)) found.source place operand.1 GO)
+            loading : ReachesWithin 44 x c t t3 LOAD (Loading s (size_of (row_width s)) found.source place operand.1 GO)
             loading =
                 let h = found.comes.holds in
                 comes_then 42 2 found.comes e3 (record {

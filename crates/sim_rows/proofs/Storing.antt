@@ -2,9 +2,9 @@
 use Rattle.std.proofs.Common.{ℕ, ◌%◌, ◌*◌, ◌+◌, ◌<◌, ◌==◌, ◌||◌, ◌∙◌, ◌≡◌, ap, arith, Bool, false, List, refl, slice_index, slice_set, subst, sym, true}
 use Rattle.std.proofs.lemmas.Bool.{ne_eqb}
 use Rattle.sim_view.proofs.Common.{comes, comes_as, comes_on, goes_in, IsView, previous-next}
-use Rattle.sim_rows.specs.Prelude.{Byte, Changed, Changes, Comes, Cpu, EndsRow, even, Exit, exit, Exits, finished, GplState, grom_at, GromState, GSTEP, high}
+use Rattle.sim_rows.specs.Prelude.{Byte, ShowsChanges, Changes, ReachesWithin, Cpu, EndsRow, even, Exit, exit, Exits, finished, GplState, grom_at, GromState, GSTEP, high}
 use Rattle.sim_rows.specs.Prelude.{join, low, MachineState, marked_by, number_of_space, of_register, Place, place_in, PortsAreIdle, previous_in_grom}
-use Rattle.sim_rows.specs.Prelude.{return_of, Sees, shifted, SHOW, shown, size_of, SLA, Space, SRL, Stands, state_of, STORE, Stored, StoresResult}
+use Rattle.sim_rows.specs.Prelude.{return_of, ShowsState, shifted, SHOW, shown, size_of, SLA, Space, SRL, Stands, state_of, STORE, Stored, StoresResult}
 use Rattle.sim_rows.specs.Prelude.{StoresValue, Storing, sum_of, unchanged, Vdp, View, view, Width, width_in, with_byte_in, with_value, Word}
 use Rattle.sim_operands.proofs.Ready.{idle_grom, idle_video}
 use Rattle.sim_rows.proofs.Again.{idle_told}
@@ -62,7 +62,7 @@ value_splits Byte place number c = byte_splits place.space place.address number 
 value_splits Word place number c = word_splits place.space place.address ((place.address + 1) % 65536) (high number) (low number) c
 
 -- the state that a view shows with the changes
-pub state_is : (c : Changes) (v : View) → Changed c v → state_of v ≡ c.state
+pub state_is : (c : Changes) (v : View) → ShowsChanges c v → state_of v ≡ c.state
 state_is c v h =
     same_state v.cells c.state.cells v.vdp.memory c.state.vdp v.vdp.registers c.state.registers (previous_in_grom v.grom.counter) c.state.pc v.grom.image
     c.state.image
@@ -94,18 +94,18 @@ pub record Keeps (v w : View) : Type 0 where
   pub r12 : w.r.r12 ≡ v.r.r12
 
 pub record ChangedFrom (c : Changes) (v w : View) : Type 0 where
-  pub changed : Changed c w
+  pub changed : ShowsChanges c w
   pub keeps : Keeps v w
 
 -- A number is stored after some changes.
 pub store_then : (c : Changes) (width : Width) (place : Place) (number : ℕ) (x y : MachineState) (t u : ℕ) → Storing c width place number (view x) →
     StoresValue x y t u →
-    Comes most_of_store x y t u (return_of (view x)) (ChangedFrom (with_value width place number c) (view x))
+    ReachesWithin most_of_store x y t u (return_of (view x)) (ChangedFrom (with_value width place number c) (view x))
 store_then c width place number x y t u h l =
     let v : View = view x in
     let alone : Changes = with_value width place number (unchanged c.state) in
     let both : Changes = with_value width place number c in
-    let l1 : Comes most_of_store x y t u (return_of v) (Stored v alone) = subst (λ (k : Changes). Comes most_of_store x y t u (return_of v) (Stored v k))
+    let l1 : ReachesWithin most_of_store x y t u (return_of v) (Stored v alone) = subst (λ (k : Changes). ReachesWithin most_of_store x y t u (return_of v) (Stored v k))
     (changes_are c width place number v h) l in
     let splits = value_splits width place number c in
     let keeps = value_keeps width place number c in
@@ -128,7 +128,7 @@ stored_idle x y t u i l =
 
 -- ---- views with the same changes
 
-pub changed_again : (c : Changes) (v w : View) → Changed c v → w.cells ≡ v.cells → w.vdp ≡ v.vdp → w.grom ≡ v.grom → w.r.r13 ≡ v.r.r13 → Changed c w
+pub changed_again : (c : Changes) (v w : View) → ShowsChanges c v → w.cells ≡ v.cells → w.vdp ≡ v.vdp → w.grom ≡ v.grom → w.r.r13 ≡ v.r.r13 → ShowsChanges c w
 changed_again c v w h a d g m = record {
   cells = a ∙ h.cells;
   vdp = ap (λ p. p.memory) d ∙ h.vdp;
@@ -191,10 +191,10 @@ ends_plain {x = x} {y = y} {t = t} {u = u} none_marked e c h =
     let none = mark_none c.shows v.r.r13 h.mark none_marked in
     let same : finished c ≡ c.state = ap (λ b. shown b c.state) none in
     let e2 = exits_by (pieces.show v) (exit 2 GSTEP v) (ends_by v none_marked) e in
-    let run : Comes 2 x y t u GSTEP (Sees c.state c.state.pc) =
+    let run : ReachesWithin 2 x y t u GSTEP (ShowsState c.state c.state.pc) =
     comes e2 (goes_in (omega arith) (record { cells = h.cells; vdp = h.vdp; registers = h.registers; held = h.held; grom = h.grom })) in
-    subst (λ (g : GplState). Comes most_of_show x y t u GSTEP (Sees g g.pc)) (sym same)
-    (comes_as most_of_show (Sees c.state c.state.pc) run (omega arith) (λ w a. a))
+    subst (λ (g : GplState). ReachesWithin most_of_show x y t u GSTEP (ShowsState g g.pc)) (sym same)
+    (comes_as most_of_show (ShowsState c.state c.state.pc) run (omega arith) (λ w a. a))
 
 pub drawing : {x y : MachineState} {t u : ℕ} → ((view x).r.r13 ≡ 0 → ⊥) → Exits x y t u (pieces.show (view x)) → Stands y STORE × (view y ≡ drawn (view x))
 drawing {x = x} some e = let e2 = exits_by (pieces.show (view x)) (exit 13 STORE (drawn (view x))) (draws_by (view x) some) e in (e2.stands, e2.shows)
@@ -226,11 +226,11 @@ ends_drawn {x = x} {y = y} {z = z} {t = t} {u = u} {w = w} i some e store c h =
     ∙ ap (λ n. 32 * n + slice_index v.cells 0x7F) (cell 0x7E)
     ∙ ap (λ n. 32 * slice_index c.state.cells 0x7E + n) (cell 0x7F) in
     let byte : high (drawn v).r.r9 ≡ slice_index c.state.cells 0x7D = high_of (slice_index v.cells 0x7D) v.r.r9 ∙ cell 0x7D in
-    let c1 : Comes 13 x y t u STORE (λ q. q ≡ drawn v) = comes e2 (record { within = omega arith; to_is = refl; holds = refl }) in
+    let c1 : ReachesWithin 13 x y t u STORE (λ q. q ≡ drawn v) = comes e2 (record { within = omega arith; to_is = refl; holds = refl }) in
     let r8 : (view y).r.r8 ≡ 1 = ap (λ (q : View). q.r.r8) c1.holds in
     let s1 = store (omega arith) in
-    let s2 : Comes most_of_store y z u w GSTEP (Stored (drawn v) (with_byte_in Vdp (drawn v).r.r7 (high (drawn v).r.r9) (unchanged (state_of (drawn v))))) =
-    subst (λ (q : View). Comes most_of_store y z u w (return_of q)
+    let s2 : ReachesWithin most_of_store y z u w GSTEP (Stored (drawn v) (with_byte_in Vdp (drawn v).r.r7 (high (drawn v).r.r9) (unchanged (state_of (drawn v))))) =
+    subst (λ (q : View). ReachesWithin most_of_store y z u w (return_of q)
     (Stored q (with_value (width_in q.r.r3) (place_in q.r.r8 q.r.r7) (of_register (width_in q.r.r3) q.r.r9) (unchanged (state_of q))))) c1.holds s1 in
     let memory : slice_set v.vdp.memory ((drawn v).r.r7 % 16384) (high (drawn v).r.r9) ≡ slice_set c.state.vdp at (slice_index c.state.cells 0x7D) =
     ap (λ n. slice_set v.vdp.memory (n % 16384) (high (drawn v).r.r9)) address
@@ -239,8 +239,8 @@ ends_drawn {x = x} {y = y} {z = z} {t = t} {u = u} {w = w} i some e store c h =
     ∙ ap (λ (l : List ℕ). slice_set l at (slice_index c.state.cells 0x7D)) h.vdp in
     let final : GplState = shown true c.state in
     let same : finished c ≡ final = ap (λ b. shown b c.state) one in
-    subst (λ (g : GplState). Comes most_of_show x z t w GSTEP (Sees g g.pc)) (sym same)
-    (comes_as most_of_show (Sees final final.pc) (comes_on 13 15 c1 s2 refl) (omega arith) (λ q b. record {
+    subst (λ (g : GplState). ReachesWithin most_of_show x z t w GSTEP (ShowsState g g.pc)) (sym same)
+    (comes_as most_of_show (ShowsState final final.pc) (comes_on 13 15 c1 s2 refl) (omega arith) (λ q b. record {
       cells = ap (λ (u : View). u.cells) b.is ∙ h.cells;
       vdp = ap (λ (u : View). u.vdp.memory) b.is ∙ memory;
       registers = ap (λ (u : View). u.vdp.registers) b.is ∙ h.registers;
@@ -255,12 +255,12 @@ pub finishes : {x a b y : MachineState} {t t1 t2 t3 : ℕ} → Exits x a t t1 (p
 finishes {x = x} {a = a} {b = b} {t = t} {t1 = t1} {t2 = t2} e l r c width place number h =
     let v : View = view x in
     let u : View = (pieces.store_result v).left in
-    let c1 : Comes 2 x a t t1 STORE (λ w. w ≡ u) = comes e (record { within = omega arith; to_is = refl; holds = refl }) in
+    let c1 : ReachesWithin 2 x a t t1 STORE (λ w. w ≡ u) = comes e (record { within = omega arith; to_is = refl; holds = refl }) in
     let there : Storing c width place number (view a) = subst (λ (w : View). Storing c width place number w) (sym c1.holds)
     (storing_again c width place number v u h refl refl refl refl refl refl refl refl) in
     let s1 = store_then c width place number a b t1 t2 there l in
     let to : return_of (view a) ≡ SHOW = ap (λ (w : View). even w.r.r11) c1.holds in
-    let s2 : Comes most_of_store a b t1 t2 SHOW (ChangedFrom (with_value width place number c) (view a)) =
-    subst (λ (p : ℕ). Comes most_of_store a b t1 t2 p (ChangedFrom (with_value width place number c) (view a))) to s1 in
+    let s2 : ReachesWithin most_of_store a b t1 t2 SHOW (ChangedFrom (with_value width place number c) (view a)) =
+    subst (λ (p : ℕ). ReachesWithin most_of_store a b t1 t2 p (ChangedFrom (with_value width place number c) (view a))) to s1 in
     let c2 = comes_on 2 15 c1 s2 refl in
     comes_on 17 28 c2 (r (with_value width place number c) c2.holds.changed) refl

@@ -1,7 +1,7 @@
 -- The beginning of a row: its destination, its source, and the second dispatch.
 use Rattle.std.proofs.Common.{ℕ, ◌<◌, ◌≡◌, ap, arith, Bool, Err, false, if◌then◌else◌, None, Ok, Option, refl, Result, subst, sym, true}
 use Rattle.sim_view.proofs.Common.{comes_as, comes_on}
-use Rattle.sim_rows.specs.Prelude.{◌>>=◌, behind_first, code_byte, Comes, Exits, first_of, GO, GplOperation, GplState, has_source, is_row, Kept}
+use Rattle.sim_rows.specs.Prelude.{◌>>=◌, behind_first, code_byte, ReachesWithin, Exits, first_of, GO, GplOperation, GplState, has_source, is_row, Kept}
 use Rattle.sim_rows.specs.Prelude.{KeepsDestination, AtRow, LoadsBy, LoadsDestination, LoadsOperands, MachineState, next_of, operands_of, operation_in, Place}
 use Rattle.sim_rows.specs.Prelude.{Reason, second_by, second_of, Source, source_read, Sourced, Stands, StartsRow, unit, view}
 use Rattle.sim_operands.proofs.Facts.{not_both}
@@ -18,8 +18,8 @@ Loads s x y t u went first second = LoadsOperands s x y t u went (first >>= λ p
 
 module _ (s : GplState) (x b : MachineState) (t u : ℕ) where
   -- the destination is not visible
-  pub barred : LoadsDestination s x b t u false (first_of s) → LoadsOperands s x b t u false (operands_of s)
-  barred l = by (first_of s) l
+  pub operand_stop : LoadsDestination s x b t u false (first_of s) → LoadsOperands s x b t u false (operands_of s)
+  operand_stop l = by (first_of s) l
     where
       by : (r : Result Place Reason) → LoadsDestination s x b t u false r → Loads s x b t u false r (second_of s)
       by (Ok place) l = absurd (not_both false l.0 refl)
@@ -51,12 +51,12 @@ module _ (s : GplState) (x b : MachineState) (t u : ℕ) where
         by false has c =
             let next : next_of s ≡ behind_first s = ap (λ (n : Bool). if n then (source_read s).1 else behind_first s) has in
             loads b u true (subst (λ (r : Result Source Reason). Loads s x b t u true (Ok k.place) r) (sym (ap (λ (n : Bool). second_by n s) has))
-            (refl, subst (λ (n : ℕ). Comes 124 x b t u GO (Sourced s k.place unit n)) (sym next) (comes_as 124 _ c (omega arith) (λ v a. a))))
+            (refl, subst (λ (n : ℕ). ReachesWithin 124 x b t u GO (Sourced s k.place unit n)) (sym next) (comes_as 124 _ c (omega arith) (λ v a. a))))
 
     -- one of two
     pub record TwoOperands : Type 0 where
       pub has : has_source s ≡ true
-      pub comes : Comes 65 x b t u OPSTWO (Kept s k.place (behind_first s))
+      pub comes : ReachesWithin 65 x b t u OPSTWO (Kept s k.place (behind_first s))
 
     pub two : b.cpu.pc ≡ OPSTWO → TwoOperands
     two here = by (has_source s) refl k.keeps
@@ -86,7 +86,7 @@ module _ (s : GplState) (x y : MachineState) (t u : ℕ) where
   pub record Ready : Type 0 where
     pub operands : Place × Source
     pub are : operands_of s ≡ Ok operands
-    pub comes : Comes 124 x y t u GO (AtRow s operands.0 operands.1)
+    pub comes : ReachesWithin 124 x y t u GO (AtRow s operands.0 operands.1)
 
   pub ready : LoadsOperands s x y t u true (operands_of s) → Ready
   ready l = by (operands_of s) refl l

@@ -7,7 +7,7 @@ use Rattle.sim_view.specs.Prelude.{grom_address_read, GromState, GSTEP, INTERP, 
 use Rattle.sim_view.specs.Prelude.{OPVAL, origin, shifted, SHOW, SLA, SRL, STORE, STREAM, sum_of, TABLE, View, Word}
 use Rattle.sim_view.specs.grom_defs.declared.size.TheConstants.{GROM_SIZE}
 use Rattle.sim_view.specs.gpl_step_defs.declared.cells.TheConstants.{ROW}
-use Rattle.sim_operands.specs.Pieces.{exit, one_if, past, return_of, set_to}
+use Rattle.sim_operands.specs.Pieces.{exit, one_if, past, return_of, with_grom_address}
 use Rattle.sim_view.specs.native_interp.declared.addresses.TheConstants.{OPSDST, OPSTWO, OPSVAL, STDST, WIDDST, WIDVAL}
 
 -- the numbers of the first words of both tables, among the words of the interpreter
@@ -39,7 +39,7 @@ address_before counter =
 abbrev pub dispatch : View → Exit
 dispatch v =
     let counter = v.grom.counter in
-    let set = set_to (address_before counter) (read_once (read_once v.grom)) in
+    let set = with_grom_address (address_before counter) (read_once (read_once v.grom)) in
     let entry = slice_index INTERP (first_entry + set.fetched) in
     exit (12 + tested counter) (even entry) (record v {
       r = record v.r { r0 = set.fetched; r1 = address_before counter; r4 = entry };

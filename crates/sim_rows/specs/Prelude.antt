@@ -5,7 +5,7 @@ pub use Rattle.sim_view.specs.Prelude.{BACK, behind, bit_of, Boots, bound, bound
 pub use Rattle.sim_view.specs.Prelude.{branched, BTARG, Byte, byte_at, byte_from, byte_in, ByteOp, bytes_or_none}
 pub use Rattle.sim_view.specs.Prelude.{CALL, CALLN, CALLS, CARRY, CARRY_BIT, CASE, CASEN, CASET, CASEV, Cell}
 pub use Rattle.sim_view.specs.Prelude.{cells_at, CEQ, CEQV, CFALSE, CGE, CGEV, CGT, CGTV, CH, Changes, CHARACTER, CHE}
-pub use Rattle.sim_view.specs.Prelude.{CHEV, CHV, CLOG, CLOGV, CLR, CLRV, code_register, COLUMN, Comes, complement_of}
+pub use Rattle.sim_view.specs.Prelude.{CHEV, CHV, CLOG, CLOGV, CLR, CLRV, code_register, COLUMN, ReachesWithin, complement_of}
 pub use Rattle.sim_view.specs.Prelude.{condition, CONDITION_BIT, conjunction_of, copied, COPY, COPYN, COPYS, COUNT}
 pub use Rattle.sim_view.specs.Prelude.{count_in, count_of, Cpu, CTRUE, CZ, CZV, DEC, DECT, DECTV, destination_size}
 pub use Rattle.sim_view.specs.Prelude.{difference_flags, difference_of, DIV, DIVBY, DIVE, divided, division_of, DIVL}
@@ -49,12 +49,12 @@ pub use Rattle.sim_view.specs.Prelude.{with_index, with_overflow, with_pc, with_
 pub use Rattle.sim_view.specs.Prelude.{with_stop, with_tested, with_value, with_word, with_word_in, within_limit}
 pub use Rattle.sim_view.specs.Prelude.{Word, word_at, word_in, word_or_byte, WORKSPACE, WriteSetup, XOR, XORV}
 unfoldable pub use Rattle.sim_view.specs.Prelude.{after, operand_at, reading, view_of, zeros}
-pub use Rattle.sim_operands.specs.Pieces.{exit, past, return_of, set_to, set_video_to}
-pub use Rattle.sim_operands.specs.Subroutines.{Addressed, Barred, Finds, FindsOperand, grom_at, Loaded, LoadsStream}
+pub use Rattle.sim_operands.specs.Pieces.{exit, past, return_of, with_grom_address, with_video_address}
+pub use Rattle.sim_operands.specs.Subroutines.{Addressed, OperandStop, Finds, FindsOperand, grom_at, Loaded, LoadsStream}
 pub use Rattle.sim_operands.specs.Subroutines.{LoadsValue, marked_by, next_at, place_in, Placed, state_of, Stored}
 pub use Rattle.sim_operands.specs.Subroutines.{StoresRegister, StoresValue, streamed}
 pub use Rattle.sim_operands.specs.Values.{in_register, IsVisible, number_of_space, of_register, width_in}
-pub use Rattle.sim_rows.specs.Results.{Changed, EndsRow, HasStarted, result_of, row_result, RunsRow, SeesFinished}
+pub use Rattle.sim_rows.specs.Results.{ShowsChanges, EndsRow, HasStarted, result_of, row_result, RunsRow, SeesFinished}
 pub use Rattle.sim_rows.specs.Results.{SeesResult, StartsRow, StoresResult, Storing, TurnsBy, TurnsRow}
 pub use Rattle.sim_rows.specs.Rows.{Asking, AtEntry, AtRow, behind_destination, behind_first, bytes_by}
 pub use Rattle.sim_rows.specs.Rows.{destination_bytes, first_of, gone_on, has_source, Holds, is_immediate, is_row}
@@ -62,5 +62,5 @@ pub use Rattle.sim_rows.specs.Rows.{KeepsDestination, Kept, loaded_of, LoadsBy, 
 pub use Rattle.sim_rows.specs.Rows.{LoadsFromSource, LoadsOperands, LoadsSource, next_of, operands_of}
 pub use Rattle.sim_rows.specs.Rows.{reads_destination, row_width, second_by, second_of, source_read, Sourced}
 pub use Rattle.sim_rows.specs.Rows.{StoresTo, unit, word_of}
-pub use Rattle.sim_rows.specs.States.{AtDispatch, behind_code, code_byte, Dispatched, Ended, operation_in}
-pub use Rattle.sim_rows.specs.States.{operation_seen, Sees, state_at_dispatch, StoppedBy}
+pub use Rattle.sim_rows.specs.States.{AtDispatch, behind_code, code_byte, Dispatched, ShowsEnd, operation_in}
+pub use Rattle.sim_rows.specs.States.{operation_in_view, ShowsState, state_at_dispatch, StoppedBy}

@@ -1,11 +1,11 @@
 -- What a row makes of its operands, and views of the machine from the row's entry to the end of the step.
 use Rattle.std.specs.Prelude.{ℕ, ◌≡◌, Err, None, Ok, Option, Result, Some}
-use Rattle.sim_view.specs.Prelude.{Changes, Comes, finished, GplOperation, GplState, GSTEP, GSTOP, MachineState, One}
+use Rattle.sim_view.specs.Prelude.{Changes, ReachesWithin, finished, GplOperation, GplState, GSTEP, GSTOP, MachineState, One}
 use Rattle.sim_view.specs.Prelude.{one, Place, Reason, row_entry, size_of, Source, Stepped, Stopped, Turn, Two, two}
 use Rattle.sim_view.specs.Prelude.{unchanged, value_at, View, view, Width, with_value}
 use Rattle.sim_operands.specs.Values.{of_register}
 use Rattle.sim_operands.specs.Subroutines.{grom_at, marked_by}
-use Rattle.sim_rows.specs.States.{operation_in, Sees, StoppedBy}
+use Rattle.sim_rows.specs.States.{operation_in, ShowsState, StoppedBy}
 use Rattle.sim_rows.specs.Rows.{AtRow, gone_on, operands_of, row_width, StoresTo}
 use Rattle.sim_view.specs.Bounds.{most_of_result, most_of_show, most_to_row, most_to_row_stop}
 
@@ -21,7 +21,7 @@ row_result operation s place source =
 
 -- The changes so far: they are seen, GROM gives the byte of the next instruction, both ports are idle, and register 13
 -- is a mark where a byte was stored at the character's cell.
-pub record Changed (c : Changes) (w : View) : Type 0 where
+pub record ShowsChanges (c : Changes) (w : View) : Type 0 where
   pub cells : w.cells ≡ c.state.cells
   pub vdp : w.vdp.memory ≡ c.state.vdp
   pub registers : w.vdp.registers ≡ c.state.registers
@@ -31,14 +31,14 @@ pub record Changed (c : Changes) (w : View) : Type 0 where
 
 -- STORE, or STO, is asked for a number of a width at a place, after some changes.
 pub record Storing (c : Changes) (width : Width) (place : Place) (number : ℕ) (w : View) : Type 0 where
-  pub changed : Changed c w
+  pub changed : ShowsChanges c w
   pub bytes_are : w.r.r3 ≡ size_of width
   pub to_place : StoresTo place w
   pub value : of_register width w.r.r9 ≡ number
 
 -- The step has ended with these changes.
 abbrev pub SeesFinished : Changes → View → Type 0
-SeesFinished c w = Sees (finished c) (finished c).pc w
+SeesFinished c w = ShowsState (finished c) (finished c).pc w
 
 abbrev pub SeesResult : Result Changes Reason → View → Type 0
 SeesResult (Ok c) w = SeesFinished c w
@@ -47,22 +47,22 @@ SeesResult (Err reason) w = ⊥
 -- The end of a row from SHOW on, whatever was changed: the character goes to the screen if it is due.
 abbrev pub EndsRow : MachineState → MachineState → ℕ → ℕ → Type 0
 EndsRow x y before after =
-    (c : Changes) → Changed c (view x) → Comes most_of_show x y before after GSTEP (SeesFinished c)
+    (c : Changes) → ShowsChanges c (view x) → ReachesWithin most_of_show x y before after GSTEP (SeesFinished c)
 
 -- The end of a row from STO on: the result is stored, and the row ends.
 abbrev pub StoresResult : MachineState → MachineState → ℕ → ℕ → Type 0
 StoresResult x y before after =
     (c : Changes) → (width : Width) → (place : Place) → (number : ℕ) → Storing c width place number (view x)
-    → Comes most_of_result x y before after GSTEP (SeesFinished (with_value width place number c))
+    → ReachesWithin most_of_result x y before after GSTEP (SeesFinished (with_value width place number c))
 
 -- A row's operands are loaded, and its operation is told; or it stops.
 abbrev pub StartsRow : GplState → MachineState → MachineState → ℕ → ℕ → Option GplOperation
     → Result (Place × Source) Reason → Type 0
 StartsRow s x y before after told (Ok operands) =
     (told ≡ operation_in s)
-    × Comes most_to_row x y before after (row_entry (operation_in s)) (AtRow s operands.0 operands.1)
+    × ReachesWithin most_to_row x y before after (row_entry (operation_in s)) (AtRow s operands.0 operands.1)
 StartsRow s x y before after told (Err reason) =
-    (told ≡ None) × Comes most_to_row_stop x y before after GSTOP (StoppedBy s reason)
+    (told ≡ None) × ReachesWithin most_to_row_stop x y before after GSTOP (StoppedBy s reason)
 
 pub record HasStarted (s : GplState) (x y : MachineState) (before after : ℕ) (told : Option GplOperation) : Type 0 where
   pub starts : StartsRow s x y before after told (operands_of s)
@@ -72,13 +72,13 @@ abbrev pub RunsRow : GplOperation → ℕ → MachineState → MachineState → 
 RunsRow operation most x y before after =
     (s : GplState) → (place : Place) → (source : Source) → operation_in s ≡ Some operation
     → AtRow s place source (view x) → operands_of s ≡ Ok (place, source)
-    → Comes most x y before after GSTEP (SeesResult (row_result operation s place source))
+    → ReachesWithin most x y before after GSTEP (SeesResult (row_result operation s place source))
 
 -- The same of a row that may stop, with its answer.
 abbrev pub TurnsBy : ℕ → GplState → MachineState → MachineState → ℕ → ℕ → Turn → Result Changes Reason → Type 0
-TurnsBy most s x y before after turn (Ok c) = (turn ≡ Stepped) × Comes most x y before after GSTEP (SeesFinished c)
+TurnsBy most s x y before after turn (Ok c) = (turn ≡ Stepped) × ReachesWithin most x y before after GSTEP (SeesFinished c)
 TurnsBy most s x y before after turn (Err reason) =
-    (turn ≡ Stopped reason) × Comes most x y before after GSTOP (StoppedBy s reason)
+    (turn ≡ Stopped reason) × ReachesWithin most x y before after GSTOP (StoppedBy s reason)
 
 abbrev pub TurnsRow : GplOperation → ℕ → MachineState → MachineState → ℕ → ℕ → Turn → Type 0
 TurnsRow operation most x y before after turn =

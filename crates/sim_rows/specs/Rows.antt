@@ -1,13 +1,13 @@
 -- The operands of a row, and views of the machine up to the row's entry.
 use Rattle.std.specs.Prelude.{ℕ, ◌%◌, ◌/◌, ◌==◌, ◌≡◌, Bool, Err, false, if◌then◌else◌, nat_lt, ◌<◌, None, not, Ok}
 use Rattle.std.specs.Prelude.{Option, Result, Some, true, IsFalse, IsTrue}
-use Rattle.sim_view.specs.Prelude.{◌>>=◌, Comes, destination_size, GO, GplOperation, GplSource, GplState, GSTOP}
+use Rattle.sim_view.specs.Prelude.{◌>>=◌, ReachesWithin, destination_size, GO, GplOperation, GplSource, GplState, GSTOP}
 use Rattle.sim_view.specs.Prelude.{IsFetched, MachineState, One, operand_at, Place, place_of, PortsAreIdle}
 use Rattle.sim_view.specs.Prelude.{Reason, row_entry, size_of, Source, source_at, source_of, Stands, Two, value_at}
 use Rattle.sim_view.specs.Prelude.{View, view, Width, word_or_byte}
 use Rattle.sim_view.specs.gpl_defs.declared.instruction.TwoName.TheVariants.{DIV, MUL, ST}
 use Rattle.sim_operands.specs.Values.{in_register, IsVisible, number_of_space, width_in}
-use Rattle.sim_rows.specs.States.{behind_code, code_byte, operation_in, Sees, StoppedBy}
+use Rattle.sim_rows.specs.States.{behind_code, code_byte, operation_in, ShowsState, StoppedBy}
 use Rattle.sim_view.specs.native_interp.declared.addresses.TheConstants.{OPSDST, OPSTWO, STDST, WIDDST}
 
 -- The operations whose operands are loaded in one way, before a second table leads on to the row of each.
@@ -74,7 +74,7 @@ operands_of s = do
 -- What stays from the dispatch on: the state, the code byte and its address, and that nothing was marked.
 -- Register 3 has a number of bytes.
 pub record Holds (s : GplState) (bytes next : ℕ) (w : View) : Type 0 where
-  pub sees : Sees s next w
+  pub sees : ShowsState s next w
   pub code : w.r.r0 ≡ code_byte s
   pub address : w.r.r1 ≡ s.pc
   pub bytes_are : w.r.r3 ≡ bytes
@@ -139,22 +139,22 @@ AtRow s place source w = Sourced s place source (next_of s) w
 
 -- The destination is found and kept, or the program stops. A row of one operand goes on at GO.
 abbrev pub KeepsDestination : GplState → Place → MachineState → MachineState → ℕ → ℕ → Bool → Type 0
-KeepsDestination s place x y before after true = Comes 65 x y before after OPSTWO (Kept s place (behind_first s))
+KeepsDestination s place x y before after true = ReachesWithin 65 x y before after OPSTWO (Kept s place (behind_first s))
 KeepsDestination s place x y before after false =
-    Comes 69 x y before after GO (Sourced s place unit (behind_first s))
+    ReachesWithin 69 x y before after GO (Sourced s place unit (behind_first s))
 
 abbrev pub LoadsDestination : GplState → MachineState → MachineState → ℕ → ℕ → Bool → Result Place Reason → Type 0
 LoadsDestination s x y before after went (Ok place) =
     IsTrue went × KeepsDestination s place x y before after (has_source s)
 LoadsDestination s x y before after went (Err reason) =
-    IsFalse went × Comes 44 x y before after GSTOP (StoppedBy s reason)
+    IsFalse went × ReachesWithin 44 x y before after GSTOP (StoppedBy s reason)
 
 -- From OPSTWO the value of the source is loaded, or the program stops.
 abbrev pub LoadsBy : GplState → Place → MachineState → MachineState → ℕ → ℕ → Bool → Result Source Reason → Type 0
 LoadsBy s place x y before after went (Ok source) =
-    IsTrue went × Comes 59 x y before after GO (Sourced s place source (next_of s))
+    IsTrue went × ReachesWithin 59 x y before after GO (Sourced s place source (next_of s))
 LoadsBy s place x y before after went (Err reason) =
-    IsFalse went × Comes 42 x y before after GSTOP (StoppedBy s reason)
+    IsFalse went × ReachesWithin 42 x y before after GSTOP (StoppedBy s reason)
 
 abbrev pub LoadsSource : MachineState → MachineState → ℕ → ℕ → Bool → Type 0
 LoadsSource x y before after went =
@@ -165,9 +165,9 @@ LoadsSource x y before after went =
 abbrev pub LoadsOperands : GplState → MachineState → MachineState → ℕ → ℕ → Bool
     → Result (Place × Source) Reason → Type 0
 LoadsOperands s x y before after went (Ok operands) =
-    IsTrue went × Comes 124 x y before after GO (AtRow s operands.0 operands.1)
+    IsTrue went × ReachesWithin 124 x y before after GO (AtRow s operands.0 operands.1)
 LoadsOperands s x y before after went (Err reason) =
-    IsFalse went × Comes 107 x y before after GSTOP (StoppedBy s reason)
+    IsFalse went × ReachesWithin 107 x y before after GSTOP (StoppedBy s reason)
 
 -- A machine at the entry of the row of an operation, which is one of a family: the operands are loaded, the ports are
 -- idle, and a value may be stored at the destination.

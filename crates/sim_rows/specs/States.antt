@@ -6,7 +6,7 @@ use Rattle.sim_view.specs.Prelude.{Stands, View, view}
 use Rattle.sim_operands.specs.Subroutines.{grom_at, state_of}
 
 -- A view shows a state; GROM gives the byte at an address next, and both ports are idle.
-pub record Sees (s : GplState) (next : ℕ) (w : View) : Type 0 where
+pub record ShowsState (s : GplState) (next : ℕ) (w : View) : Type 0 where
   pub cells : w.cells ≡ s.cells
   pub vdp : w.vdp.memory ≡ s.vdp
   pub registers : w.vdp.registers ≡ s.registers
@@ -15,7 +15,7 @@ pub record Sees (s : GplState) (next : ℕ) (w : View) : Type 0 where
 
 -- At the dispatch of a step: the code byte was read, and two registers hold it and its address.
 pub record Dispatched (s : GplState) (w : View) : Type 0 where
-  pub sees : Sees s (next_in_grom s.pc) w
+  pub sees : ShowsState s (next_in_grom s.pc) w
   pub code : slice_index (listed w.r) code_register ≡ slice_index s.image s.pc
   pub address : slice_index (listed w.r) address_register ≡ s.pc
 
@@ -34,22 +34,22 @@ abbrev pub behind_code : GplState → ℕ
 behind_code s = next_in_grom s.pc
 
 -- the operation of the code byte that is shown at dispatch
-abbrev pub operation_seen : View → Option GplOperation
-operation_seen w = operation_in (state_at_dispatch w)
+abbrev pub operation_in_view : View → Option GplOperation
+operation_in_view w = operation_in (state_at_dispatch w)
 
 -- A machine at the dispatch of a step, at the entry of its operation, which is one of a family.
 pub record AtDispatch (belongs : Option GplOperation → Bool) (x : MachineState) : Type 0 where
-  pub stands : Stands x (operation_entry (operation_seen (view x)))
+  pub stands : Stands x (operation_entry (operation_in_view (view x)))
   pub dispatched : Dispatched (state_at_dispatch (view x)) (view x)
-  pub family : IsTrue (belongs (operation_seen (view x)))
+  pub family : IsTrue (belongs (operation_in_view (view x)))
 
 -- What is seen where a program ends.
-pub record Ended (s : GplState) (w : View) : Type 0 where
+pub record ShowsEnd (s : GplState) (w : View) : Type 0 where
   pub cells : w.cells ≡ s.cells
   pub vdp : w.vdp.memory ≡ s.vdp
   pub registers : w.vdp.registers ≡ s.registers
   pub address : w.r.r1 ≡ s.pc
 
 pub record StoppedBy (s : GplState) (reason : Reason) (w : View) : Type 0 where
-  pub ended : Ended s w
+  pub ended : ShowsEnd s w
   pub reason_is : w.r.r0 ≡ number_of reason

@@ -11,7 +11,7 @@ pub use row::{
     ask_first, ask_second, ask_stored, ask_wide, go_to_row, keep_first, keep_stored, keep_wide,
     load_first, load_second, load_wide, start_row,
 };
-pub use step::{begin_step, dispatch, operation_told, where_next};
+pub use step::{begin_step, current_operation, dispatch, where_next};
 pub use tail::{end_row, finish_row, show, store_result};
 
 // what a family speaks of

@@ -1,7 +1,7 @@
 //! The operands of a row.
 
 ghost use Rattle.std.specs.Prelude.{◌+◌, ◌<◌, ◌≡◌, ◌≤◌};
-ghost use Rattle.sim_rows.specs.Prelude.{Asking, AtDispatch, behind_code, behind_destination, Comes, destination_bytes};
+ghost use Rattle.sim_rows.specs.Prelude.{Asking, AtDispatch, behind_code, behind_destination, ReachesWithin, destination_bytes};
 ghost use Rattle.sim_rows.specs.Prelude.{Exits, first_of, HasStarted, is_row, IsFetched, IsVisible, LoadsDestination};
 ghost use Rattle.sim_rows.specs.Prelude.{LoadsOperands, LoadsSource, operands_of, operation_in, PortsAreIdle, Stands};
 ghost use Rattle.sim_rows.specs.Prelude.{state_at_dispatch, view};
@@ -109,7 +109,7 @@ pub fn go_to_row<L: Ledger>(machine: &mut Machine, steps: &mut Steps<L>)
 fn ask_destination<L: Ledger>(machine: &mut Machine, steps: &mut Steps<L>)
     requires { AtDispatch is_row machine.old }
     ensures { let s = state_at_dispatch (view machine.old) in
-        Comes 6 machine.old machine.new steps.old steps.new address.ADDR
+        ReachesWithin 6 machine.old machine.new steps.old steps.new address.ADDR
         (Asking s (destination_bytes s) (behind_code s) (behind_destination (operation_in s))) }
 {
     if machine.pc() == WIDE {

@@ -1,8 +1,8 @@
 //! A step up to its dispatch.
 
 ghost use Rattle.std.specs.Prelude.{◌+◌, ◌≡◌, slice_index};
-ghost use Rattle.sim_rows.specs.Prelude.{Comes, Dispatched, Exits, IsMatching, most_to_dispatch, operation_at};
-ghost use Rattle.sim_rows.specs.Prelude.{operation_entry, operation_seen, shown_by, Stands, state_at_dispatch, view};
+ghost use Rattle.sim_rows.specs.Prelude.{ReachesWithin, Dispatched, Exits, IsMatching, most_to_dispatch, operation_at};
+ghost use Rattle.sim_rows.specs.Prelude.{operation_entry, operation_in_view, shown_by, Stands, state_at_dispatch, view};
 ghost use Rattle.sim_view.specs.native_interp.declared.addresses.TheConstants as address;
 ghost use Rattle.sim_rows.specs.Pieces as piece;
 
@@ -32,7 +32,7 @@ pub fn dispatch<L: Ledger>(machine: &mut Machine, steps: &mut Steps<L>)
 pub fn begin_step<L: Ledger>(machine: &mut Machine, steps: &mut Steps<L>)
     requires { IsMatching machine.old }
     ensures { let s = shown_by machine.old.cpu.memory in
-        Comes most_to_dispatch machine.old machine.new steps.old steps.new
+        ReachesWithin most_to_dispatch machine.old machine.new steps.old steps.new
         (operation_entry (operation_at (slice_index s.image s.pc))) (Dispatched s) }
 {
     machine.holds_bounds();
@@ -40,10 +40,10 @@ pub fn begin_step<L: Ledger>(machine: &mut Machine, steps: &mut Steps<L>)
 }
 
 /// The operation of the step that is dispatched, by the code byte in register 0.
-pub fn operation_told(machine: &Machine) -> Option<GplOperation>
+pub fn current_operation(machine: &Machine) -> Option<GplOperation>
     requires wp { machine.now.cpu.wp ≡ address.WORKSPACE }
     requires dispatched { let v = view machine.now in Dispatched (state_at_dispatch v) v }
-    ensures { result ≡ operation_seen (view machine.now) }
+    ensures { result ≡ operation_in_view (view machine.now) }
 {
     machine.holds_bounds();
     operation_at(register(machine, 0) as u8)

@@ -1,7 +1,7 @@
 -- The pieces of a shift, one after the other, to the end of the step.
 use Rattle.std.proofs.Common.{ℕ, ◌<◌, ◌∙◌, ◌≡◌, ◌≤◌, ap, arith, Bool, eqb, false, not, refl, Some, subst, sym, true}
 use Rattle.std.proofs.lemmas.Bool.{eqb-true}
-use Rattle.sim_rows.proofs.Common.{AtRow, Changes, Comes, comes, comes_as, comes_on, comes_then, COUNT, count_of, even, Exits, gone_on, GplState, GSTEP, is_end}
+use Rattle.sim_rows.proofs.Common.{AtRow, Changes, ReachesWithin, comes, comes_as, comes_on, comes_then, COUNT, count_of, even, Exits, gone_on, GplState, GSTEP, is_end}
 use Rattle.sim_rows.proofs.Common.{is_view, IsMachine, MachineState, operation_in, Place, return_of, row_result, row_width, SeesFinished, SeesResult, ShiftOp}
 use Rattle.sim_rows.proofs.Common.{SLA, Source, SRA, SRC, SRL, Stands, STO, StoresResult, Storing, Two, unchanged, value_at, View, view}
 use Rattle.sim_shift.specs.Pieces.{low_four}
@@ -82,20 +82,20 @@ module _ (op : ShiftOp) {x y z : MachineState} {t u w : ℕ} (e1 : Exits x y t u
     tells : Told s place source (pieces.take_count (view y)).left
     tells = told_at op s place source (view x) (view y) known a (is_view x h) e1.shows
 
-    asks : Comes 1 x y t u COUNT (λ v. v ≡ (pieces.asking (shift_entry op) (view x)).left)
+    asks : ReachesWithin 1 x y t u COUNT (λ v. v ≡ (pieces.asking (shift_entry op) (view x)).left)
     asks = comes e1 (record { within = omega arith; to_is = refl; holds = refl })
 
-    finished_row : (q : MachineState) (k : ℕ) (most : ℕ) (p : MachineState) (j : ℕ) → most ≤ 16 → Comes most x p t j STO (StoringRow op s place source) →
+    finished_row : (q : MachineState) (k : ℕ) (most : ℕ) (p : MachineState) (j : ℕ) → most ≤ 16 → ReachesWithin most x p t j STO (StoringRow op s place source) →
         StoresResult p q j k →
-        Comes 61 x q t k GSTEP (SeesResult (row_result (Two (name_of op)) s place source))
+        ReachesWithin 61 x q t k GSTEP (SeesResult (row_result (Two (name_of op)) s place source))
     finished_row q k most p j le c f =
         let width = row_width s in
         let d = comes_on most 45 c (f (unchanged (gone_on s)) width place (number_of_row op s place source) c.holds) refl in
-        subst (λ (c : Changes). Comes 61 x q t k GSTEP (SeesFinished c)) (sym (two_is op width place (value_at s width place) source (unchanged (gone_on s))))
+        subst (λ (c : Changes). ReachesWithin 61 x q t k GSTEP (SeesFinished c)) (sym (two_is op width place (value_at s width place) source (unchanged (gone_on s))))
         (comes_as 61 _ d (omega arith) (λ v b. b))
 
     pub runs_none : (q : MachineState) (k : ℕ) → not (eqb (pieces.take_count (view y)).to STO) ≡ false → StoresResult z q w k →
-        Comes 61 x q t k GSTEP (SeesResult (row_result (Two (name_of op)) s place source))
+        ReachesWithin 61 x q t k GSTEP (SeesResult (row_result (Two (name_of op)) s place source))
     runs_none q k e f =
         let zero : count_of source.number ≡ 0 = sym tells.count ∙ ap (λ (v : View). v.r.r0) (told_is (view y)) ∙ no_count e in
         let c = comes_then 1 8 asks e2 (record
@@ -104,12 +104,12 @@ module _ (op : ShiftOp) {x y z : MachineState} {t u w : ℕ} (e1 : Exits x y t u
 
     pub runs_some : (p q : MachineState) (j k : ℕ) → not (eqb (pieces.take_count (view y)).to STO) ≡ true → Exits z p w j (pieces.shifts op (view z)) →
         StoresResult p q j k →
-        Comes 61 x q t k GSTEP (SeesResult (row_result (Two (name_of op)) s place source))
+        ReachesWithin 61 x q t k GSTEP (SeesResult (row_result (Two (name_of op)) s place source))
     runs_some p q j k e e3 f =
-        let c : Comes 9 x z t w (shift_entry op) (λ v. v ≡ (pieces.take_count (view y)).left) =
+        let c : ReachesWithin 9 x z t w (shift_entry op) (λ v. v ≡ (pieces.take_count (view y)).left) =
         comes_then 1 8 asks e2 (record { within = counts_few (view y); to_is = goes_to e; holds = refl }) refl in
         let d = shifts op (view z) in
         let at : Told s place source (view z) = subst (λ (v : View). Told s place source v) (sym e2.shows) tells in
-        let b : Comes 16 x p t j STO (StoringRow op s place source) =
+        let b : ReachesWithin 16 x p t j STO (StoringRow op s place source) =
         comes_then 9 7 c e3 (record { within = d.few; to_is = d.to_is; holds = stores_some op s place source (view z) at }) (entry_goes_on op) in
         finished_row q k 16 p j (omega arith) b f

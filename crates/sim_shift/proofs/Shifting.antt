@@ -1,7 +1,7 @@
 -- A shift from its row to STO.
 use Rattle.std.proofs.Common.{ℕ, ◌+◌, ◌<◌, ◌==◌, ◌∙◌, ◌≡◌, ◌≤◌, ap, arith, eqb, false, if◌then◌else◌, List, refl, Some, subst, sym, true}
 use Rattle.std.proofs.lemmas.Bool.{eqb-false, eqb-true}
-use Rattle.sim_rows.proofs.Common.{AtRow, Byte, bytes_by, Changed, changed_again, Changes, count_of, destination_bytes, even, Exit, exit, gone_on, GplState}
+use Rattle.sim_rows.proofs.Common.{AtRow, Byte, bytes_by, ShowsChanges, changed_again, Changes, count_of, destination_bytes, even, Exit, exit, gone_on, GplState}
 use Rattle.sim_rows.proofs.Common.{GromState, in_register, is_grom_idle, is_vdp_idle, IsView, IsVisible, Memory, modulus, of_register, ones_set, operation_in}
 use Rattle.sim_rows.proofs.Common.{pick, Place, PortsAreIdle, reads_destination, repeated, repeated_sign, return_of, row_changed, row_width, shifted}
 use Rattle.sim_rows.proofs.Common.{shifted_left, shifted_right, ShiftOp, size_of, SLA, Source, SRA, SRC, SRL, STO, StoresTo, Storing, swapped, Two, two}
@@ -37,7 +37,7 @@ near_kept v w k h = subst (λ (a : Kept). a.space < 2) (sym k) h
 pub visible_kept : (v w : View) → Keeps v w → IsVisible v.r.r8 v.r.r7 v.r.r3 → IsVisible w.r.r8 w.r.r7 w.r.r3
 visible_kept v w k h = subst (λ (a : Kept). IsVisible a.space a.address a.bytes) (sym k) h
 
-changed_kept : (c : Changes) (v w : View) → Changed c v → Keeps v w → Changed c w
+changed_kept : (c : Changes) (v w : View) → ShowsChanges c v → Keeps v w → ShowsChanges c w
 changed_kept c v w h k =
     changed_again c v w h (ap (λ (a : Kept). a.cells) k) (ap (λ (a : Kept). a.vdp) k) (ap (λ (a : Kept). a.grom) k) (ap (λ (a : Kept). a.mark) k)
 
@@ -208,7 +208,7 @@ entry_even SRC = (refl, refl)
 
 -- The count is told, and nothing else has happened.
 pub record Told (s : GplState) (place : Place) (source : Source) (w : View) : Type 0 where
-  pub changed : Changed (unchanged (gone_on s)) w
+  pub changed : ShowsChanges (unchanged (gone_on s)) w
   pub bytes_are : w.r.r3 ≡ size_of (row_width s)
   pub to_place : StoresTo place w
   pub value : w.r.r9 ≡ in_register (row_width s) (value_at s (row_width s) place)

@@ -2,7 +2,7 @@
 use Rattle.std.proofs.Common.{ℕ, ◌+◌, ◌<◌, ◌==◌, ◌||◌, ◌∙◌, ◌≡◌, ◌≤◌, ap, arith, Bool, Err, false, if◌then◌else◌, List, nat_lt, Ok, Option}
 use Rattle.std.proofs.Common.{refl, Result, slice_index, slice_set, Some, subst, sym, true}
 use Rattle.std.proofs.lemmas.Bool.{agree_below_at}
-use Rattle.sim_rows.proofs.Common.{◌>>=◌, at_most, back_is, behind_code, bound, bound_made, CALL, CALLN, CALLS, Changed, Changes, Comes, comes, comes_on}
+use Rattle.sim_rows.proofs.Common.{◌>>=◌, at_most, back_is, behind_code, bound, bound_made, CALL, CALLN, CALLS, ShowsChanges, Changes, ReachesWithin, comes, comes_on}
 use Rattle.sim_rows.proofs.Common.{comes_then, Dispatched, EndsRow, Exit, exit, Exits, finished, first_way, from, GOCALL, Goes, goes_in, GplOperation, GplState}
 use Rattle.sim_rows.proofs.Common.{grom_at, GromState, grown_by, GSTOP, high, idle_told, is_end, is_view, join, Jump, just, known, lost, low, MachineState}
 use Rattle.sim_rows.proofs.Common.{marked_by, matches, most_to_dispatch, next_in_grom, on_stack, operation_in, past, plus, PortsAreIdle, reaches, Reason}
@@ -101,7 +101,7 @@ module _ (s : GplState) {x a : MachineState} {t t1 : ℕ} (stands : Stands x GOC
   stopped here =
       let k = first_way GSTOP x a t t1 (nat_lt 0xC0 offset) (pieces.full 10 told) (exit 7 CALLN told) went_by (λ q. absurd (omega arith)) here in
       let full : on_stack 2 (top_in s) ≡ Err Stack = no_room 0xC0 2 (top_in s) refl (ap (nat_lt 0xC0) (sym offset_top) ∙ k.0) in
-      let c : Comes 10 x a t t1 GSTOP (StoppedBy s Stack) = comes k.1 (goes_in (omega arith)
+      let c : ReachesWithin 10 x a t t1 GSTOP (StoppedBy s Stack) = comes k.1 (goes_in (omega arith)
       (record { ended = record { cells = d.sees.cells; vdp = d.sees.vdp; registers = d.sees.registers; address = d.address }; reason_is = refl })) in
       stop_turned s x a t t1 10 start (step_by s (Err Stack) family full) c (omega arith)
 
@@ -134,9 +134,9 @@ module _ (s : GplState) {x a : MachineState} {t t1 : ℕ} (stands : Stands x GOC
         known (ap to (back_is at at_fits)) (just (to at) 7 CALLS (one_at_most (at_first (next_in_grom at))) refl)
 
     module _ {b : MachineState} {t2 : ℕ} (find : Exits a b t1 t2 (pieces.find_next (view a))) where
-      found : Comes 14 x b t t2 CALLS (λ w. w ≡ located)
+      found : ReachesWithin 14 x b t t2 CALLS (λ w. w ≡ located)
       found =
-          let c : Comes 7 x a t t1 CALLN (λ w. w ≡ told) = comes went.1 (record { within = omega arith; to_is = refl; holds = refl }) in
+          let c : ReachesWithin 7 x a t t1 CALLN (λ w. w ≡ told) = comes went.1 (record { within = omega arith; to_is = refl; holds = refl }) in
           comes_then 7 7 c find (from pieces.find_next c.holds finds) refl
 
       pub stands_storing : Stands b CALLS
@@ -152,7 +152,7 @@ module _ (s : GplState) {x a : MachineState} {t t1 : ℕ} (stands : Stands x GOC
       abbrev stored : List ℕ → ℕ → ℕ → ℕ → List ℕ
       stored cells pointer top second = slice_set (slice_set (slice_set cells 0x73 pointer) top (high at)) second (low at)
 
-      stores : Goes (pieces.store_next located) 12 SHOW (Changed after)
+      stores : Goes (pieces.store_next located) 12 SHOW (ShowsChanges after)
       stores = record {
         within = twelve_at_most (nat_lt 0x7D offset) (nat_lt offset 0x7C);
         to_is = refl;
@@ -170,7 +170,7 @@ module _ (s : GplState) {x a : MachineState} {t t1 : ℕ} (stands : Stands x GOC
       }
 
       module _ {c : MachineState} {t3 : ℕ} (store : Exits b c t2 t3 (pieces.store_next (view b))) where
-        ending : Comes 26 x c t t3 SHOW (Changed after)
+        ending : ReachesWithin 26 x c t t3 SHOW (ShowsChanges after)
         ending = comes_then 14 12 found store (from pieces.store_next found.holds stores) refl
 
         pub idle_ending : PortsAreIdle c.cpu.memory

@@ -1,7 +1,7 @@
 -- FETCH and PUSH are rows; the others of this family are not.
 use Rattle.std.proofs.Common.{ℕ, ◌∙◌, ◌≡◌, ap, Option, refl, Some, subst, sym, true}
 use Rattle.sim_rows.proofs.Common.{AtDispatch, CALL, GOCALL, GoOp, GORTN, GplOperation, is_row, Jump, MachineState, One, OneName, operation_entry}
-use Rattle.sim_rows.proofs.Common.{operation_seen, Plain, PlainOp, RTN, RTNC, Stands, view}
+use Rattle.sim_rows.proofs.Common.{operation_in_view, Plain, PlainOp, RTN, RTNC, Stands, view}
 use Rattle.sim_rows.specs.gpl_defs.declared.instruction.OneName.TheVariants as one
 use Rattle.sim_stack.specs.Family.{is_call, is_return, is_stack, is_stack_row}
 
@@ -24,25 +24,25 @@ of_one one.PUSH e = refl
 of_one _ e = absurd (cc)
 
 module _ {x : MachineState} (at : AtDispatch is_stack x) where
-  here : {o : Option GplOperation} → operation_seen (view x) ≡ o → is_stack o ≡ true
+  here : {o : Option GplOperation} → operation_in_view (view x) ≡ o → is_stack o ≡ true
   here is = subst (λ (p : Option GplOperation). is_stack p ≡ true) is at.family
 
-  stands_at : {o : Option GplOperation} {n : ℕ} → operation_seen (view x) ≡ o → operation_entry o ≡ n → Stands x n
+  stands_at : {o : Option GplOperation} {n : ℕ} → operation_in_view (view x) ≡ o → operation_entry o ≡ n → Stands x n
   stands_at is e = subst (λ (n : ℕ). Stands x n) (ap operation_entry is ∙ e) at.stands
 
-  pub stands_return : {op : PlainOp} → operation_seen (view x) ≡ Some (Plain op) → Stands x GORTN
+  pub stands_return : {op : PlainOp} → operation_in_view (view x) ≡ Some (Plain op) → Stands x GORTN
   stands_return {op = op} is = stands_at is (of_plain op (here is)).0
 
-  pub is_return_here : {op : PlainOp} → operation_seen (view x) ≡ Some (Plain op) → is_return (operation_seen (view x)) ≡ true
+  pub is_return_here : {op : PlainOp} → operation_in_view (view x) ≡ Some (Plain op) → is_return (operation_in_view (view x)) ≡ true
   is_return_here {op = op} is = ap is_return is ∙ (of_plain op (here is)).1
 
-  pub stands_call : {op : GoOp} → operation_seen (view x) ≡ Some (Jump op) → Stands x GOCALL
+  pub stands_call : {op : GoOp} → operation_in_view (view x) ≡ Some (Jump op) → Stands x GOCALL
   stands_call {op = op} is = stands_at is (of_jump op (here is)).0
 
-  pub is_call_here : {op : GoOp} → operation_seen (view x) ≡ Some (Jump op) → is_call (operation_seen (view x)) ≡ true
+  pub is_call_here : {op : GoOp} → operation_in_view (view x) ≡ Some (Jump op) → is_call (operation_in_view (view x)) ≡ true
   is_call_here {op = op} is = ap is_call is ∙ (of_jump op (here is)).1
 
-  pub row_here : {op : OneName} → operation_seen (view x) ≡ Some (One op) → AtDispatch is_stack_row x
+  pub row_here : {op : OneName} → operation_in_view (view x) ≡ Some (One op) → AtDispatch is_stack_row x
   row_here {op = op} is = record {
     stands = at.stands;
     dispatched = at.dispatched;

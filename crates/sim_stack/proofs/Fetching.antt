@@ -1,6 +1,6 @@
 -- The parts of FETCH.
 use Rattle.std.proofs.Common.{ℕ, ◌+◌, ◌<◌, ◌∙◌, ◌≡◌, ◌≤◌, ap, arith, refl, subst, sym}
-use Rattle.sim_rows.proofs.Common.{Byte, cells_at, Changed, changed_again, ChangedFrom, Changes, Comes, comes, comes_as, comes_on, comes_then, Cpu, Exit, exit}
+use Rattle.sim_rows.proofs.Common.{Byte, cells_at, ShowsChanges, changed_again, ChangedFrom, Changes, ReachesWithin, comes, comes_as, comes_on, comes_then, Cpu, Exit, exit}
 use Rattle.sim_rows.proofs.Common.{Exits, FETCH, FETCHA, FETCHD, FETCHK, FETCHR, from, grom_at, GromState, high, idle_again, is_view, IsVisible, just, known}
 use Rattle.sim_rows.proofs.Common.{LOAD, Loaded, LoadsValue, MachineState, most_of_load, most_of_store, place_in, PortsAreIdle, RESUME, return_of, SEEK, Space}
 use Rattle.sim_rows.proofs.Common.{Stands, state_of, STORE, store_then, stored_idle, StoresValue, Storing, unchanged, value_at, value_keeps, Vdp, View, view}
@@ -25,12 +25,12 @@ module _ {x a : MachineState} {t t1 : ℕ} (e : Exits x a t t1 (pieces.ask_stack
   loads y t2 visible may =
       let v : View = view x in
       let asked : View = (pieces.ask_stacked v).left in
-      let by : View → Type 0 = λ w. Comes most_of_load a y t1 t2 (return_of w) (Loaded w (value_at (state_of w) (width_in w.r.r3) (place_in w.r.r5 w.r.r2))) in
-      let l : Comes most_of_load a y t1 t2 FETCHA (Loaded asked (value_at (state_of asked) Word (place_in 0 v.r.r2))) = subst by e.shows (may near_loading) in
+      let by : View → Type 0 = λ w. ReachesWithin most_of_load a y t1 t2 (return_of w) (Loaded w (value_at (state_of w) (width_in w.r.r3) (place_in w.r.r5 w.r.r2))) in
+      let l : ReachesWithin most_of_load a y t1 t2 FETCHA (Loaded asked (value_at (state_of asked) Word (place_in 0 v.r.r2))) = subst by e.shows (may near_loading) in
       let near : v.r.r2 + 2 ≤ 0xC2 = visible refl in
       let number : value_at (state_of asked) Word (place_in 0 v.r.r2) ≡ word_in v.cells v.r.r2 = stacked_is (state_of asked) v.r.r2 v.r.r2 refl (omega arith) in
-      let c : Comes 4 x a t t1 LOAD (λ w. w ≡ asked) = comes e (record { within = omega arith; to_is = refl; holds = refl }) in
-      subst (λ (n : ℕ). Comes 19 x y t t2 FETCHA (Loaded asked n)) number (comes_on 4 15 c l refl)
+      let c : ReachesWithin 4 x a t t1 LOAD (λ w. w ≡ asked) = comes e (record { within = omega arith; to_is = refl; holds = refl }) in
+      subst (λ (n : ℕ). ReachesWithin 19 x y t t2 FETCHA (Loaded asked n)) number (comes_on 4 15 c l refl)
 
 -- ---- the byte there
 
@@ -43,14 +43,14 @@ fetches x a b c d y t t1 t2 t3 t4 t5 stands e1 e2 e3 e4 e5 image next grom =
     let at : ℕ = v.r.r6 in
     let asked : View = (pieces.seek_stacked v).left in
     let sought_by : GromState → View = λ g. record asked { grom = g } in
-    let sought : View = sought_by (grom_at image at) in
+    let after_seek : View = sought_by (grom_at image at) in
     let seek_by : GromState → Exit = λ g. exit 3 FETCHR (sought_by g) in
-    let seek_is : operands.seek asked ≡ exit 3 FETCHR sought = ap seek_by (set_from v.grom image next at at grom refl ((is_view x stands.machine).r 6)) in
-    let bid : View = (pieces.ask_byte sought).left in
+    let seek_is : operands.seek asked ≡ exit 3 FETCHR after_seek = ap seek_by (set_from v.grom image next at at grom refl ((is_view x stands.machine).r 6)) in
+    let bid : View = (pieces.ask_byte after_seek).left in
     let read : View = (operands.fetch bid).left in
     let c1 = comes e1 (just (pieces.seek_stacked v) 1 SEEK (omega arith) refl) in
-    let c2 = comes_then 1 3 c1 e2 (from operands.seek c1.holds (known seek_is (just (exit 3 FETCHR sought) 3 FETCHR (omega arith) refl))) refl in
-    let c3 = comes_then 4 1 c2 e3 (from pieces.ask_byte c2.holds (just (pieces.ask_byte sought) 1 FETCH (omega arith) refl)) refl in
+    let c2 = comes_then 1 3 c1 e2 (from operands.seek c1.holds (known seek_is (just (exit 3 FETCHR after_seek) 3 FETCHR (omega arith) refl))) refl in
+    let c3 = comes_then 4 1 c2 e3 (from pieces.ask_byte c2.holds (just (pieces.ask_byte after_seek) 1 FETCH (omega arith) refl)) refl in
     let c4 = comes_then 5 3 c3 e4 (from operands.fetch c3.holds (just (operands.fetch bid) 3 FETCHK (omega arith) refl)) refl in
     comes_then 8 2 c4 e5 (from pieces.keep_byte c4.holds (just (pieces.keep_byte read) 2 WHERE (omega arith) refl)) refl
 
@@ -104,10 +104,10 @@ module _ {x a : MachineState} {t t1 : ℕ} (e1 : Exits x a t t1 (pieces.store_st
             to_place = record { address = h.top_is; space = refl };
             value = h.number_is;
           }) in
-          let c1 : Comes 2 x a t t1 STORE (λ v. v ≡ (pieces.store_stacked (view x)).left) =
+          let c1 : ReachesWithin 2 x a t t1 STORE (λ v. v ≡ (pieces.store_stacked (view x)).left) =
           comes e1 (record { within = omega arith; to_is = refl; holds = refl }) in
-          let c2 : Comes most_of_store a b t1 t2 FETCHD (ChangedFrom between (view a)) =
-          subst (λ (n : ℕ). Comes most_of_store a b t1 t2 n (ChangedFrom between (view a))) (ap return_of e1.shows)
+          let c2 : ReachesWithin most_of_store a b t1 t2 FETCHD (ChangedFrom between (view a)) =
+          subst (λ (n : ℕ). ReachesWithin most_of_store a b t1 t2 n (ChangedFrom between (view a))) (ap return_of e1.shows)
           (store_then base Word (cells_at top) number a b t1 t2 storing1 stored1) in
           let k = c2.holds.keeps in
           let storing2 : Storing between Byte place byte (view c) = subst (λ (v : View). Storing between Byte place byte v) (sym e2.shows) (record {
@@ -119,13 +119,13 @@ module _ {x a : MachineState} {t t1 : ℕ} (e1 : Exits x a t t1 (pieces.store_st
             };
             value = ap high (k.r12 ∙ ap (λ (v : View). v.r.r12) e1.shows ∙ h.byte_is) ∙ byte_back byte;
           }) in
-          let c3 : Comes 23 x c t t3 STORE (λ v. v ≡ (pieces.store_fetched (view b)).left) =
+          let c3 : ReachesWithin 23 x c t t3 STORE (λ v. v ≡ (pieces.store_fetched (view b)).left) =
           comes_then 17 6 (comes_on 2 15 c1 c2 refl) e2 (record { within = omega arith; to_is = refl; holds = refl }) refl in
-          let c4 : Comes most_of_store c d t3 t4 RESUME (ChangedFrom (with_value Byte place byte between) (view c)) =
-          subst (λ (n : ℕ). Comes most_of_store c d t3 t4 n (ChangedFrom (with_value Byte place byte between) (view c))) (ap return_of e2.shows)
+          let c4 : ReachesWithin most_of_store c d t3 t4 RESUME (ChangedFrom (with_value Byte place byte between) (view c)) =
+          subst (λ (n : ℕ). ReachesWithin most_of_store c d t3 t4 n (ChangedFrom (with_value Byte place byte between) (view c))) (ap return_of e2.shows)
           (store_then between Byte place byte c d t3 t4 storing2 stored2) in
-          let changed : Changed (with_pc next after) (view d) =
-          subst (λ (g : Changes). Changed g (view d)) (pc_aside place.space place.address byte next stacked) c4.holds.changed in
+          let changed : ShowsChanges (with_pc next after) (view d) =
+          subst (λ (g : Changes). ShowsChanges g (view d)) (pc_aside place.space place.address byte next stacked) c4.holds.changed in
           let back : (view d).r.r14 ≡ after.state.pc =
           ap (λ (v : View). v.r.r14) stored2.holds.is
           ∙ ap (λ (v : View). v.r.r14) e2.shows

@@ -1,6 +1,6 @@
 -- PUSH, from its row to the end of the step.
 use Rattle.std.proofs.Common.{ℕ, ◌<◌, ◌∙◌, ◌≡◌, ap, arith, Err, false, List, nat_lt, Ok, Option, refl, Result, slice_index, slice_set, Some, subst, sym}
-use Rattle.sim_rows.proofs.Common.{◌>>=◌, Byte, bytes_by, cells_at, Changes, Comes, comes, comes_as, comes_on, destination_bytes, exit, Exits, first_way}
+use Rattle.sim_rows.proofs.Common.{◌>>=◌, Byte, bytes_by, cells_at, Changes, ReachesWithin, comes, comes_as, comes_on, destination_bytes, exit, Exits, first_way}
 use Rattle.sim_rows.proofs.Common.{goes_in, gone_on, GplOperation, GplState, grown_by, GSTEP, GSTOP, high, idle_again, in_register, is_view, MachineState}
 use Rattle.sim_rows.proofs.Common.{most_of_stack_row, on_stack, One, operation_in, PortsAreIdle, PUSH, PUSHV, reads_destination, Reason, row_result, row_width}
 use Rattle.sim_rows.proofs.Common.{second_way, SeesFinished, size_of, Stack, Stands, Stepped, STO, Stopped, StoppedBy, StoresResult, Storing, sum_of, TurnsBy}
@@ -59,7 +59,7 @@ module _ {x a : MachineState} {t u : ℕ} (stands : Stands x PUSHV) (e : Exits x
       let h = at.holds in
       let full : on_stack 1 (top_in s) ≡ Err Stack = no_room 0xC1 1 (top_in s) refl (ap (nat_lt 0xC1) (sym (offset_top s h.sees.cells)) ∙ k.0) in
       let result : row_result (One PUSH) s place source ≡ Err Stack = ap (by_push s (value_at s (row_width s) place)) full in
-      let c : Comes 131 x a t u GSTOP (StoppedBy s Stack) = comes k.1 (goes_in (omega arith)
+      let c : ReachesWithin 131 x a t u GSTOP (StoppedBy s Stack) = comes k.1 (goes_in (omega arith)
       (record { ended = record { cells = h.sees.cells; vdp = h.sees.vdp; registers = h.sees.registers; address = h.address }; reason_is = refl })) in
       subst (λ (r : Result Changes Reason). TurnsBy 131 s x a t u (Stopped Stack) r) (sym result) (refl, c)
 
@@ -99,8 +99,8 @@ module _ {x a : MachineState} {t u : ℕ} (stands : Stands x PUSHV) (e : Exits x
           to_place = record { address = offset_top s h.sees.cells; space = refl };
           value = value;
         }) in
-        let c1 : Comes 10 x a t u STO (λ v. v ≡ placed) = comes went.1 (record { within = omega arith; to_is = refl; holds = refl }) in
-        let c2 : Comes 55 x y t w GSTEP (SeesFinished (with_cell top byte before)) = comes_on 10 45 c1 (stores before Byte (cells_at top) byte storing) refl in
-        let c3 : Comes 131 x y t w GSTEP (SeesFinished (with_cell top byte before)) =
+        let c1 : ReachesWithin 10 x a t u STO (λ v. v ≡ placed) = comes went.1 (record { within = omega arith; to_is = refl; holds = refl }) in
+        let c2 : ReachesWithin 55 x y t w GSTEP (SeesFinished (with_cell top byte before)) = comes_on 10 45 c1 (stores before Byte (cells_at top) byte storing) refl in
+        let c3 : ReachesWithin 131 x y t w GSTEP (SeesFinished (with_cell top byte before)) =
         comes_as 131 (SeesFinished (with_cell top byte before)) c2 (omega arith) (λ v q. q) in
         subst (λ (r : Result Changes Reason). TurnsBy 131 s x y t w Stepped r) (sym result) (refl, c3)

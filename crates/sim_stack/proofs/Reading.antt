@@ -1,6 +1,6 @@
 -- FETCH, from its row to the end of the step.
 use Rattle.std.proofs.Common.{ℕ, ◌<◌, ◌∙◌, ◌≡◌, ◌≤◌, ap, arith, Err, false, List, nat_lt, Ok, refl, Result, slice_index, subst, sym}
-use Rattle.sim_rows.proofs.Common.{◌>>=◌, at_most, Changes, Comes, comes, comes_as, comes_on, exit, Exits, FETCHB, FETCHN, FETCHP, FETCHS, FETCHV, first_way}
+use Rattle.sim_rows.proofs.Common.{◌>>=◌, at_most, Changes, ReachesWithin, comes, comes_as, comes_on, exit, Exits, FETCHB, FETCHN, FETCHP, FETCHS, FETCHV, first_way}
 use Rattle.sim_rows.proofs.Common.{goes_in, gone_on, GplState, grom_at, GromState, GSTEP, GSTOP, idle_told, idle_video, is_view, IsVisible, join, low}
 use Rattle.sim_rows.proofs.Common.{MachineState, most_of_stack_row, next_in_grom, next_of, on_stack, One, Place, PortsAreIdle, Reason, row_result, second_way}
 use Rattle.sim_rows.proofs.Common.{SeesFinished, Stack, Stands, Stepped, Stopped, StoppedBy, TurnsBy, TurnsRow, unchanged, View, view, WHERE, with_byte_from}
@@ -43,7 +43,7 @@ module _ {x a : MachineState} {t t1 : ℕ} (stands : Stands x FETCHV) (e : Exits
       let h = at.holds in
       let full : on_stack 2 (top_in s) ≡ Err Stack = no_room 0xC0 2 (top_in s) refl (ap (nat_lt 0xC0) (sym (offset_top s h.sees.cells)) ∙ k.0) in
       let result : row_result (One FETCH) s place source ≡ Err Stack = ap (by_fetch s place) full in
-      let c : Comes 131 x a t t1 GSTOP (StoppedBy s Stack) = comes k.1 (goes_in (omega arith)
+      let c : ReachesWithin 131 x a t t1 GSTOP (StoppedBy s Stack) = comes k.1 (goes_in (omega arith)
       (record { ended = record { cells = h.sees.cells; vdp = h.sees.vdp; registers = h.sees.registers; address = h.address }; reason_is = refl })) in
       subst (λ (r : Result Changes Reason). TurnsBy 131 s x a t t1 (Stopped Stack) r) (sym result) (refl, c)
 
@@ -59,7 +59,7 @@ module _ {x a : MachineState} {t t1 : ℕ} (stands : Stands x FETCHV) (e : Exits
       fits : at < 65536
       fits = next_fits at (subst (λ (g : GromState). g.counter < 65536) grom (is_view x stands.machine).grom.counter)
 
-      set : Comes 13 a b t1 t2 FETCHP (SetAside (view a) image at)
+      set : ReachesWithin 13 a b t1 t2 FETCHP (SetAside (view a) image at)
       set = sets image at fits (ap (λ (v : View). v.grom) went.1.shows ∙ grom)
 
       abbrev set_of : View → View
@@ -96,7 +96,7 @@ module _ {x a : MachineState} {t t1 : ℕ} (stands : Stands x FETCHV) (e : Exits
         seen_c = loads.holds.is ∙ ap loaded_of seen_b
 
         module _ {d : MachineState} {t4 : ℕ} (fetches : FetchesStacked c d t3 t4) where
-          fetched : Comes 10 c d t3 t4 WHERE (λ w. w ≡ fetched_at (view c) image (view c).r.r6)
+          fetched : ReachesWithin 10 c d t3 t4 WHERE (λ w. w ≡ fetched_at (view c) image (view c).r.r6)
           fetched = fetches image at (ap (λ (v : View). v.grom) seen_c)
 
           abbrev fetched_of : View → View
@@ -119,7 +119,7 @@ module _ {x a : MachineState} {t t1 : ℕ} (stands : Stands x FETCHV) (e : Exits
             abbrev next : ℕ
             next = next_in_grom (view c).r.r6
 
-            located : Comes 13 d f t4 t5 FETCHS (Located (view d) image next)
+            located : ReachesWithin 13 d f t4 t5 FETCHS (Located (view d) image next)
             located = locates image next (later_fits (view c).r.r6 ((is_view c loads.stands.machine).r 6)) (ap (λ (v : View). v.grom) fetched.holds)
 
             abbrev located_of : View → View
@@ -162,9 +162,9 @@ module _ {x a : MachineState} {t t1 : ℕ} (stands : Stands x FETCHV) (e : Exits
                   ap (λ (v : View). v.r.r12) seen_f
                   ∙ ap (λ (n : ℕ). join (slice_index image n) 0) (sym (ap (λ (v : View). v.r.r6) seen_c) ∙ word_is)
 
-              comes_storing : Comes 62 x f t t5 FETCHS (Located (view d) image next)
+              comes_storing : ReachesWithin 62 x f t t5 FETCHS (Located (view d) image next)
               comes_storing =
-                  let c1 : Comes 7 x a t t1 WHERE (λ v. v ≡ placed) = comes went.1 (record { within = omega arith; to_is = refl; holds = refl }) in
+                  let c1 : ReachesWithin 7 x a t t1 WHERE (λ v. v ≡ placed) = comes went.1 (record { within = omega arith; to_is = refl; holds = refl }) in
                   let c2 = comes_on 7 13 c1 set refl in
                   let c3 = comes_on 20 19 c2 loads refl in
                   let c4 = comes_on 39 10 c3 fetched refl in
@@ -203,7 +203,7 @@ module _ {x a : MachineState} {t t1 : ℕ} (stands : Stands x FETCHV) (e : Exits
         let after : Changes = with_byte_from word top place (unchanged (gone_on s)) in
         let result : row_result (One FETCH) s place source ≡ Ok after = ap (by_fetch s place) room in
         let c1 = comes_storing image (next_of s) grom sets loads fetches locates s cells in
-        let c2 : Comes 131 x y t t6 GSTEP (SeesFinished after) =
+        let c2 : ReachesWithin 131 x y t t6 GSTEP (SeesFinished after) =
         comes_on 62 69 c1 (ends (gone_on s) place top (next_in_grom word) (slice_index image word) (next_in_grom word) fetching) refl in
-        let c3 : Comes 131 x y t t6 GSTEP (SeesFinished after) = comes_as 131 (SeesFinished after) c2 (omega arith) (λ v q. q) in
+        let c3 : ReachesWithin 131 x y t t6 GSTEP (SeesFinished after) = comes_as 131 (SeesFinished after) c2 (omega arith) (λ v q. q) in
         subst (λ (r : Result Changes Reason). TurnsBy 131 s x y t t6 Stepped r) (sym result) (refl, c3)

@@ -2,10 +2,10 @@
 use Rattle.std.proofs.Common.{ℕ, ◌<◌, ◌==◌, ◌∙◌, ◌≡◌, ap, arith, Bool, eqb, Err, false, if◌then◌else◌, List, nat_lt, Ok, Option, refl, Result}
 use Rattle.std.proofs.Common.{slice_index, slice_set, Some, subst, sym, true}
 use Rattle.std.proofs.lemmas.Bool.{agree_below_at, eqb-true}
-use Rattle.sim_rows.proofs.Common.{◌>>=◌, behind_code, bound, bound_made, Changes, code_byte, code_fits, Comes, comes, comes_as, comes_on, difference_of}
+use Rattle.sim_rows.proofs.Common.{◌>>=◌, behind_code, bound, bound_made, Changes, code_byte, code_fits, ReachesWithin, comes, comes_as, comes_on, difference_of}
 use Rattle.sim_rows.proofs.Common.{Dispatched, Exit, exit, Exits, finished, first_way, GORTN, GOTO, GplOperation, GplState, GSTEP, GSTOP, if_true, is_end}
 use Rattle.sim_rows.proofs.Common.{is_view, join, low, MachineState, matches, most_to_dispatch, on_stack, operation_at, operation_in, Plain, reaches, Reason}
-use Rattle.sim_rows.proofs.Common.{RTN, RTNC, second_way, Sees, SeesFinished, Stack, Stands, step, step_plain, Stepped, Stopped, StoppedBy, TAKE, Turned}
+use Rattle.sim_rows.proofs.Common.{RTN, RTNC, second_way, ShowsState, SeesFinished, Stack, Stands, step, step_plain, Stepped, Stopped, StoppedBy, TAKE, Turned}
 use Rattle.sim_rows.proofs.Common.{turned_by, View, view, with_condition, Word, word_in}
 use Rattle.sim_jumps.specs.Jumps.{GoesOn, TakesBranch}
 use Rattle.sim_stack.specs.Pieces.{offset_of}
@@ -74,7 +74,7 @@ bound_back s next _ r e is = absurd (cc)
 
 -- the word is taken off the stack, and is in register 6
 record Taken (s : GplState) (next : ℕ) (w : View) : Type 0 where
-  pub sees : Sees s next w
+  pub sees : ShowsState s next w
   pub to : w.r.r6 ≡ s.pc
 
 module _ (s : GplState) {x a : MachineState} {t u : ℕ} (stands : Stands x GORTN) (d : Dispatched s (view x)) (family : is_return (operation_in s) ≡ true)
@@ -85,8 +85,8 @@ module _ (s : GplState) {x a : MachineState} {t u : ℕ} (stands : Stands x GORT
   abbrev offset : ℕ
   offset = offset_of (join (slice_index v.cells 0x73) (low v.r.r2))
 
-  abbrev barred : Exit
-  barred = pieces.full 7 (record v { r = record v.r { r2 = offset } })
+  abbrev operand_stop : Exit
+  operand_stop = pieces.full 7 (record v { r = record v.r { r2 = offset } })
 
   abbrev taken : View
   taken =
@@ -118,9 +118,9 @@ module _ (s : GplState) {x a : MachineState} {t u : ℕ} (stands : Stands x GORT
 
   pub stopped : a.cpu.pc ≡ GSTOP → Turned s most_to_dispatch x a t u (Stopped Stack)
   stopped here =
-      let k = first_way GSTOP x a t u (nat_lt 0xC0 offset) barred gone e goes_elsewhere here in
+      let k = first_way GSTOP x a t u (nat_lt 0xC0 offset) operand_stop gone e goes_elsewhere here in
       let full : on_stack 2 (top_in s) ≡ Err Stack = no_room 0xC0 2 (top_in s) refl (ap (nat_lt 0xC0) (sym offset_top) ∙ k.0) in
-      let c : Comes 7 x a t u GSTOP (StoppedBy s Stack) = comes k.1 (record {
+      let c : ReachesWithin 7 x a t u GSTOP (StoppedBy s Stack) = comes k.1 (record {
         within = omega arith;
         to_is = refl;
         holds = record { ended = record { cells = d.sees.cells; vdp = d.sees.vdp; registers = d.sees.registers; address = d.address }; reason_is = refl };
@@ -145,17 +145,17 @@ module _ (s : GplState) {x a : MachineState} {t u : ℕ} (stands : Stands x GORT
 
   module _ (elsewhere : a.cpu.pc ≡ GSTOP → ⊥) (y : MachineState) (w : ℕ) where
     went : (nat_lt 0xC0 offset ≡ false) × Exits x a t u gone
-    went = second_way GSTOP x a t u (nat_lt 0xC0 offset) barred gone e refl elsewhere
+    went = second_way GSTOP x a t u (nat_lt 0xC0 offset) operand_stop gone e refl elsewhere
 
-    turned : (b : Bool) → (v.r.r0 == 0) ≡ b → Comes 15 x y t w GSTEP (SeesFinished (if b then with_condition false back else back)) →
+    turned : (b : Bool) → (v.r.r0 == 0) ≡ b → ReachesWithin 15 x y t w GSTEP (SeesFinished (if b then with_condition false back else back)) →
         Turned s most_to_dispatch x y t w Stepped
     turned b zero run =
         let fits = code_fits s (behind_code s) v (is_view x stands.machine) d.sees in
         let room : on_stack 2 (top_in s) ≡ Ok (top_in s) = with_room 0xC0 2 (top_in s) refl (ap (nat_lt 0xC0) (sym offset_top) ∙ went.0) in
         let is = step_back s (operation_in s) family refl fits room in
         let next = finished (returned_by (code_byte s) (before s) (top_in s)) in
-        let c : Comes 15 x y t w GSTEP (SeesFinished (returned_by (code_byte s) (before s) (top_in s))) =
-        subst (λ (b : Bool). Comes 15 x y t w GSTEP (SeesFinished (if b then with_condition false back else back)))
+        let c : ReachesWithin 15 x y t w GSTEP (SeesFinished (returned_by (code_byte s) (before s) (top_in s))) =
+        subst (λ (b : Bool). ReachesWithin 15 x y t w GSTEP (SeesFinished (if b then with_condition false back else back)))
         (sym zero ∙ ap (λ (n : ℕ). n == 0) d.code) run in
         let b = bound_back s next (operation_in s) family refl is in
         turned_by x y t w most_to_dispatch Stepped s (Ok next) is (refl, reaches most_to_dispatch (bound s) c start refl (omega arith), matches next y c.stands c.holds)
@@ -163,12 +163,12 @@ module _ (s : GplState) {x a : MachineState} {t u : ℕ} (stands : Stands x GORT
     pub turned_rtn : a.cpu.pc ≡ TAKE → TakesBranch a y u w → Turned s most_to_dispatch x y t w Stepped
     turned_rtn here ends =
         let k = first_way TAKE x a t u (v.r.r0 == 0) (exit 10 TAKE taken) (exit 11 GOTO taken) went.1 (λ q. absurd (omega arith)) here in
-        let c : Comes 10 x a t u TAKE (Taken back.state (behind_code s)) = comes k.1 (record { within = omega arith; to_is = refl; holds = takes }) in
+        let c : ReachesWithin 10 x a t u TAKE (Taken back.state (behind_code s)) = comes k.1 (record { within = omega arith; to_is = refl; holds = takes }) in
         turned true k.0 (comes_on 10 5 c (ends back.state (behind_code s) c.holds.sees c.holds.to) refl)
 
     pub turned_rtnc : (a.cpu.pc ≡ TAKE → ⊥) → GoesOn a y u w → Turned s most_to_dispatch x y t w Stepped
     turned_rtnc away ends =
         let k = second_way TAKE x a t u (v.r.r0 == 0) (exit 10 TAKE taken) (exit 11 GOTO taken) went.1 refl away in
-        let c : Comes 11 x a t u GOTO (Taken back.state (behind_code s)) = comes k.1 (record { within = omega arith; to_is = refl; holds = takes }) in
+        let c : ReachesWithin 11 x a t u GOTO (Taken back.state (behind_code s)) = comes k.1 (record { within = omega arith; to_is = refl; holds = takes }) in
         turned false k.0 (comes_as 15 (SeesFinished back) (comes_on 11 2 c (ends back.state (behind_code s) c.holds.sees c.holds.to) refl) (omega arith)
         (λ w q. q))

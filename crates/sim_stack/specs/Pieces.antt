@@ -3,7 +3,7 @@
 use Rattle.std.specs.Prelude.{ℕ, ◌&&◌, ◌+◌, ◌==◌, Bool, if◌then◌else◌, nat_lt, not, slice_index, slice_set}
 use Rattle.sim_rows.specs.Prelude.{CALLN, CALLS, difference_of, Exit, exit, FETCH, FETCHA, FETCHB, FETCHD, FETCHK}
 use Rattle.sim_rows.specs.Prelude.{FETCHN, FETCHP, FETCHR, FETCHS, GOTO, GSTOP, high, join, LOAD, low, marked_by}
-use Rattle.sim_rows.specs.Prelude.{past, RESUME, RETURN_STACK, SEEK, set_to, shifted, SHOW, SLA, SRL, STO, STORE}
+use Rattle.sim_rows.specs.Prelude.{past, RESUME, RETURN_STACK, SEEK, with_grom_address, shifted, SHOW, SLA, SRL, STO, STORE}
 use Rattle.sim_rows.specs.Prelude.{sum_of, TAKE, VALUE_STACK, View, WHERE, Word, word_in}
 use Rattle.sim_rows.specs.Pieces.{address_before, at_first, read_once}
 use Rattle.sim_rows.specs.sim_operands.Pieces.{one_if}
@@ -66,7 +66,7 @@ store_next v =
     exit count SHOW (record v {
       r = record v.r { r13 = marked_by (shows_at v.r.r7) 0 };
       cells = slice_set (slice_set pointed v.r.r7 (high v.r.r9)) (v.r.r7 + 1) (low v.r.r9);
-      grom = set_to v.r.r14 v.grom;
+      grom = with_grom_address v.r.r14 v.grom;
     })
 
 -- PUSHV: the pointer is stored, and the byte is to go to the stack, if there is room for it.

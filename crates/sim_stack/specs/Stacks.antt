@@ -1,6 +1,6 @@
 -- Parts of CALL, RTN, PUSH and FETCH, for all states that may be there.
 use Rattle.std.specs.Prelude.{ℕ, ◌<◌, ◌==◌, ◌≡◌, false, if◌then◌else◌, List, slice_index}
-use Rattle.sim_rows.specs.Prelude.{Changed, Changes, Comes, FETCHA, FETCHB, FETCHP, FETCHS, GplState, grom_at}
+use Rattle.sim_rows.specs.Prelude.{ShowsChanges, Changes, ReachesWithin, FETCHA, FETCHB, FETCHP, FETCHS, GplState, grom_at}
 use Rattle.sim_rows.specs.Prelude.{grown_by, GSTEP, join, Loaded, MachineState, next_in_grom, number_of_space, Place}
 use Rattle.sim_rows.specs.Prelude.{RETURN_STACK, SeesFinished, unchanged, View, view, WHERE, with_byte, with_cell}
 use Rattle.sim_rows.specs.Prelude.{with_condition, with_pc, with_word, word_in}
@@ -39,12 +39,12 @@ pub record SetAside (v : View) (image : List ℕ) (at : ℕ) (w : View) : Type 0
 abbrev pub Locates : MachineState → MachineState → ℕ → ℕ → Type 0
 Locates x y before after =
     (image : List ℕ) → (at : ℕ) → at < 65536 → (view x).grom ≡ grom_at image at
-    → Comes 13 x y before after FETCHS (Located (view x) image at)
+    → ReachesWithin 13 x y before after FETCHS (Located (view x) image at)
 
 abbrev pub SetsAside : MachineState → MachineState → ℕ → ℕ → Type 0
 SetsAside x y before after =
     (image : List ℕ) → (at : ℕ) → at < 65536 → (view x).grom ≡ grom_at image at
-    → Comes 13 x y before after FETCHP (SetAside (view x) image at)
+    → ReachesWithin 13 x y before after FETCHP (SetAside (view x) image at)
 
 -- CALL
 
@@ -57,7 +57,7 @@ gone_to s top target = with_pc target (with_word top s.pc (with_cell RETURN_STAC
 abbrev pub LoadsStacked : MachineState → MachineState → ℕ → ℕ → Type 0
 LoadsStacked x y before after =
     let v = view x in
-    Comes 19 x y before after FETCHA (Loaded (ask_stacked v).left (word_in v.cells v.r.r2))
+    ReachesWithin 19 x y before after FETCHA (Loaded (ask_stacked v).left (word_in v.cells v.r.r2))
 
 -- From FETCHA the byte of GROM at the address in register 6 comes into register 12.
 abbrev pub fetched_at : View → List ℕ → ℕ → View
@@ -69,12 +69,12 @@ abbrev pub FetchesStacked : MachineState → MachineState → ℕ → ℕ → Ty
 FetchesStacked x y before after =
     let v = view x in
     (image : List ℕ) → (next : ℕ) → v.grom ≡ grom_at image next
-    → Comes 10 x y before after WHERE (λ w. w ≡ fetched_at v image v.r.r6)
+    → ReachesWithin 10 x y before after WHERE (λ w. w ≡ fetched_at v image v.r.r6)
 
 -- At FETCHS: the top of the stack in register 7, the address to store there in register 9, the byte in register 12, its
 -- place in registers 10 and 15, and where GROM goes on in register 14.
 pub record Fetching (s : GplState) (place : Place) (top number byte next : ℕ) (w : View) : Type 0 where
-  pub changed : Changed (with_pc next (unchanged s)) w
+  pub changed : ShowsChanges (with_pc next (unchanged s)) w
   pub bytes_are : w.r.r3 ≡ 2
   pub top_is : w.r.r7 ≡ top
   pub number_is : w.r.r9 ≡ number
@@ -86,4 +86,4 @@ pub record Fetching (s : GplState) (place : Place) (top number byte next : ℕ) 
 abbrev pub EndsFetch : MachineState → MachineState → ℕ → ℕ → Type 0
 EndsFetch x y before after =
     (s : GplState) → (place : Place) → (top number byte next : ℕ) → Fetching s place top number byte next (view x)
-    → Comes 69 x y before after GSTEP (SeesFinished (with_byte place byte (with_word top number (unchanged s))))
+    → ReachesWithin 69 x y before after GSTEP (SeesFinished (with_byte place byte (with_word top number (unchanged s))))

@@ -12,7 +12,7 @@ use crate::push::run_push;
 use crate::returns::run_return;
 use sim_rows::gpl::{GplOperation, OneName};
 use sim_rows::processor::{Machine, Steps};
-use sim_rows::{Reason, Turn, operation_told, start_row};
+use sim_rows::{Reason, Turn, current_operation, start_row};
 use std::sync::ledger::Ledger;
 
 /// Runs FETCH or PUSH from its row to the end of the step.
@@ -45,7 +45,7 @@ pub fn run_stack<L: Ledger>(machine: &mut Machine, steps: &mut Steps<L>) -> Turn
     ensures { let s = state_at_dispatch (view machine.old) in
         Turned s most_to_dispatch machine.old machine.new steps.old steps.new result }
 {
-    match operation_told(machine) {
+    match current_operation(machine) {
         Some(GplOperation::Plain(_)) => run_return(machine, steps),
         Some(GplOperation::Jump(_)) => run_call(machine, steps),
         Some(GplOperation::One(_)) => run_stack_row(machine, steps),

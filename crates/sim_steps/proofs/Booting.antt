@@ -1,6 +1,6 @@
 -- From boot to the first step.
 use Rattle.std.proofs.Common.{ℕ, ◌<◌, ◌||◌, ◌∙◌, ◌≡◌, ap, arith, Bool, eqb, false, None, refl, suc, sym, true, zero}
-use Rattle.sim_rows.proofs.Common.{comes, comes_then, Exits, from, GBOOT, given, Gives, Goes, goes_in, GSTEP, just, MachineState, matches, Runs, SEEK, Sees}
+use Rattle.sim_rows.proofs.Common.{comes, comes_then, Exits, from, GBOOT, given, Gives, Goes, goes_in, GSTEP, just, MachineState, matches, Runs, SEEK, ShowsState}
 use Rattle.sim_rows.proofs.Common.{set_is, Stands, steps, View, view}
 use Rattle.sim_rows.specs.sim_operands.Pieces as operands
 use Rattle.sim_steps.specs.Starting.{Begins, booted}
@@ -21,14 +21,14 @@ module _ (x a y : MachineState) (t u v : ℕ) (stands : Stands x GBOOT) (held : 
   abbrev booting : View
   booting = (pieces.boot (view x)).left
 
-  sought : Goes (operands.seek booting) 3 GSTEP (Sees (booted (view x)) (booted (view x)).pc)
-  sought =
+  after_seek : Goes (operands.seek booting) 3 GSTEP (ShowsState (booted (view x)) (booted (view x)).pc)
+  after_seek =
       goes_in (omega arith) (record { cells = refl; vdp = refl; registers = refl; held = held; grom = set_is (view x).grom (view x).r.r0 idle fits })
 
   pub begins : Exits x a t u (pieces.boot (view x)) → Exits a y u v (operands.seek (view a)) → Begins (booted (view x)) 10 x y t v
   begins e1 e2 =
       let c1 = comes e1 (just (pieces.boot (view x)) 7 SEEK (omega arith) refl) in
-      let c = comes_then 7 3 c1 e2 (from operands.seek c1.holds sought) refl in
+      let c = comes_then 7 3 c1 e2 (from operands.seek c1.holds after_seek) refl in
       record {
         count = c.count;
         within = c.within;

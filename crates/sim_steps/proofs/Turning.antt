@@ -1,7 +1,7 @@
 -- The turn from the dispatch of a step.
 use Rattle.std.proofs.Common.{ℕ, ◌≡◌, Bool, None, Option, refl, slice_index, Some, subst, sym, true}
-use Rattle.sim_rows.proofs.Common.{AtDispatch, code_byte, Comes, Dispatched, Exits, GplOperation, GplState, MachineState, most_to_dispatch, Opcode}
-use Rattle.sim_rows.proofs.Common.{operation_at, operation_entry, operation_seen, Stands, state_at, state_at_dispatch, step_none, Stopped, Turn, Turned}
+use Rattle.sim_rows.proofs.Common.{AtDispatch, code_byte, ReachesWithin, Dispatched, Exits, GplOperation, GplState, MachineState, most_to_dispatch, Opcode}
+use Rattle.sim_rows.proofs.Common.{operation_at, operation_entry, operation_in_view, Stands, state_at, state_at_dispatch, step_none, Stopped, Turn, Turned}
 use Rattle.sim_rows.proofs.Common.{turned_from, UNKN, view}
 use Rattle.sim_steps.specs.declared.family.Family.TheVariants.{Refused}
 use Rattle.sim_steps.specs.Families.{belongs}
@@ -9,17 +9,17 @@ use Rattle.sim_steps.proofs.Refusing.{refuses}
 use Rattle.sim_steps.specs.Pieces as pieces
 use Rattle.sim_steps.proofs.Families as families
 
-module _ (s : GplState) (x y : MachineState) (t u : ℕ) (c : Comes most_to_dispatch x y t u (operation_entry (operation_at (code_byte s))) (Dispatched s)) where
+module _ (s : GplState) (x y : MachineState) (t u : ℕ) (c : ReachesWithin most_to_dispatch x y t u (operation_entry (operation_at (code_byte s))) (Dispatched s)) where
   seen : state_at_dispatch (view y) ≡ s
   seen = state_at (view y) s c.holds
 
   pub dispatched : Dispatched (state_at_dispatch (view y)) (view y)
   dispatched = subst (λ (z : GplState). Dispatched z (view y)) (sym seen) c.holds
 
-  pub stands : Stands y (operation_entry (operation_seen (view y)))
+  pub stands : Stands y (operation_entry (operation_in_view (view y)))
   stands = subst (λ (z : GplState). Stands y (operation_entry (operation_at (slice_index z.image z.pc)))) (sym seen) c.stands
 
-  pub at_dispatch : (is_one : Option GplOperation → Bool) → is_one (operation_seen (view y)) ≡ true → AtDispatch is_one y
+  pub at_dispatch : (is_one : Option GplOperation → Bool) → is_one (operation_in_view (view y)) ≡ true → AtDispatch is_one y
   at_dispatch is_one family = record { stands = stands; dispatched = dispatched; family = family }
 
   pub turned : (z : MachineState) (after : ℕ) (turn : Turn) → Turned (state_at_dispatch (view y)) most_to_dispatch y z u after turn
@@ -32,10 +32,10 @@ none_of None e = refl
 none_of (Some op) e = absurd (cc)
 
 pub stands_stop : (y : MachineState) → AtDispatch (belongs Refused) y → Stands y UNKN
-stands_stop y at = subst (λ (o : Option GplOperation). Stands y (operation_entry o)) (none_of (operation_seen (view y)) at.family) at.stands
+stands_stop y at = subst (λ (o : Option GplOperation). Stands y (operation_entry o)) (none_of (operation_in_view (view y)) at.family) at.stands
 
 pub refused : (y z : MachineState) (u after : ℕ) → AtDispatch (belongs Refused) y → Exits y z u after (pieces.stop_code (view y)) →
     Turned (state_at_dispatch (view y)) most_to_dispatch y z u after (Stopped Opcode)
 refused y z u after at run =
     let s = state_at_dispatch (view y) in
-    refuses s y z u after at.dispatched (step_none s (none_of (operation_seen (view y)) at.family)) (stands_stop y at) run
+    refuses s y z u after at.dispatched (step_none s (none_of (operation_in_view (view y)) at.family)) (stands_stop y at) run

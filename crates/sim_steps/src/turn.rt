@@ -13,7 +13,7 @@ use sim_misc::run_misc;
 use sim_move::run_move;
 use sim_muldiv::run_muldiv;
 use sim_rows::processor::{Machine, Steps};
-use sim_rows::{Reason, Turn, begin_step, operation_told};
+use sim_rows::{Reason, Turn, begin_step, current_operation};
 use sim_shift::run_shift;
 use sim_stack::run_stack;
 use std::sync::ledger::Ledger;
@@ -28,7 +28,7 @@ pub fn gpl_turn<L: Ledger>(machine: &mut Machine, steps: &mut Steps<L>) -> Turn
     ensures { Turned (shown_by machine.old.cpu.memory) 0 machine.old machine.new steps.old steps.new result }
 {
     begin_step(machine, steps);
-    run_family(machine, steps, family_of(operation_told(machine)))
+    run_family(machine, steps, family_of(current_operation(machine)))
 }
 
 /// Runs the instructions of a family, from the dispatch of a step to its end.

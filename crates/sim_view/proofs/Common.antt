@@ -7,7 +7,7 @@ pub use Rattle.sim_view.proofs.Lists.{high-join, join-bytes}
 pub use Rattle.sim_view.proofs.Parts.{leads, Part, part_then, Rest}
 pub use Rattle.sim_view.proofs.Places.{off, on, pick}
 pub use Rattle.sim_view.proofs.Seen.{Cell, Code, spot}
-pub use Rattle.sim_view.specs.Prelude.{◌>>=◌, ADDR, APTR, ASPACE, Byte, Comes, Exit, Exits, FETCH, GplOperand, GromState, GSTOP, high, HoldsBytes, INDEX}
+pub use Rattle.sim_view.specs.Prelude.{◌>>=◌, ADDR, APTR, ASPACE, Byte, ReachesWithin, Exit, Exits, FETCH, GplOperand, GromState, GSTOP, high, HoldsBytes, INDEX}
 pub use Rattle.sim_view.specs.Prelude.{index_at, indexed, is_grom_idle, is_visible, IsFetched, join, last_out, LDATA, LOAD, low, MachineState, Memory}
 pub use Rattle.sim_view.specs.Prelude.{next_in_grom, next_in_vdp, NoOperation, pair_kind, PairKind, Place, place_of, plus, pointed, PortsAreIdle}
 pub use Rattle.sim_view.specs.Prelude.{previous_in_grom, ranged, ReadSetup, Reason, RegisterWrite, SDATA, SEEK, shifted, signed, size_of, SLA, space_at, SREG}

@@ -1,7 +1,7 @@
 -- One stretch after another.
 use Rattle.std.proofs.Common.{refl, ◌≡◌, ℕ, ◌+◌, ◌-◌, ◌<◌, ◌≤◌, false, sym, ap, subst, ◌∙◌, arith, ⊎_elim}
 use Rattle.std.proofs.lemmas.Bool.{cases_order}
-use Rattle.sim_view.specs.Prelude.{Comes, Exit, Exits, is_end, MachineState, Runs, Stands, steps, View, view}
+use Rattle.sim_view.specs.Prelude.{ReachesWithin, Exit, Exits, is_end, MachineState, Runs, Stands, steps, View, view}
 use Rattle.tms_defs.specs.Accesses.{Answer, Gives, ◌>>=◌}
 use Rattle.console_defs.proofs.RunLaws.{steps-add}
 use Rattle.sim_view.proofs.Answers.{given, given_by}
@@ -41,7 +41,7 @@ pub goes_in : {P : View → Type 0} {n most to : ℕ} {w : View} → n ≤ most 
 goes_in within holds = record { within = within; to_is = refl; holds = holds }
 
 pub comes : {x y : MachineState} {before after most to : ℕ} {e : Exit} {Q : View → Type 0} → Exits x y before after e → Goes e most to Q →
-    Comes most x y before after to Q
+    ReachesWithin most x y before after to Q
 comes {y = y} {e = e} {Q = Q} x g = record {
   count = e.count;
   within = g.within;
@@ -52,8 +52,8 @@ comes {y = y} {e = e} {Q = Q} x g = record {
 }
 
 -- A stretch within bounds, and then another.
-pub comes_then : (a b : ℕ) {x y z : MachineState} {before middle after p q : ℕ} {e : Exit} {Q R : View → Type 0} → Comes a x y before middle p Q →
-    Exits y z middle after e → Goes e b q R → is_end p ≡ false → Comes (a + b) x z before after q R
+pub comes_then : (a b : ℕ) {x y z : MachineState} {before middle after p q : ℕ} {e : Exit} {Q R : View → Type 0} → ReachesWithin a x y before middle p Q →
+    Exits y z middle after e → Goes e b q R → is_end p ≡ false → ReachesWithin (a + b) x z before after q R
 comes_then a b {x = x} {y = y} {z = z} {e = e} {R = R} c d g end =
     let u = c.counted in
     let v = d.counted in
@@ -68,15 +68,15 @@ comes_then a b {x = x} {y = y} {z = z} {e = e} {R = R} c d g end =
       stands = subst (λ (p : ℕ). Stands z p) g.to_is d.stands;
     }
 
-pub comes_as : {most to : ℕ} {x y : MachineState} {before after : ℕ} {Q : View → Type 0} (more : ℕ) (R : View → Type 0) → Comes most x y before after to Q →
-    most ≤ more → ((v : View) → Q v → R v) → Comes more x y before after to R
+pub comes_as : {most to : ℕ} {x y : MachineState} {before after : ℕ} {Q : View → Type 0} (more : ℕ) (R : View → Type 0) → ReachesWithin most x y before after to Q →
+    most ≤ more → ((v : View) → Q v → R v) → ReachesWithin more x y before after to R
 comes_as {y = y} more R c le f =
     let w = c.within in
     record { count = c.count; within = omega arith; counted = c.counted; runs = c.runs; holds = f (view y) c.holds; stands = c.stands }
 
 -- The same for a stretch within bounds that was said of the view in the middle.
-pub comes_on : (a b : ℕ) {x y z : MachineState} {before middle after p q : ℕ} {Q R : View → Type 0} → Comes a x y before middle p Q →
-    Comes b y z middle after q R → is_end p ≡ false → Comes (a + b) x z before after q R
+pub comes_on : (a b : ℕ) {x y z : MachineState} {before middle after p q : ℕ} {Q R : View → Type 0} → ReachesWithin a x y before middle p Q →
+    ReachesWithin b y z middle after q R → is_end p ≡ false → ReachesWithin (a + b) x z before after q R
 comes_on a b {x = x} {y = y} {z = z} c d end =
     let u = c.counted in
     let v = d.counted in

@@ -2,7 +2,7 @@
 use Rattle.std.proofs.Common.{◌≡◌, ℕ, zero, suc, ◌+◌, ◌<◌, List, Bool, true, false, refl, ap, subst, ◌∙◌, arith}
 use Rattle.std.specs.Prelude.{◌||◌}
 use Rattle.sim_view.specs.Prelude.{Answer, Gives, is_end, Memory, Runs, View}
-use Rattle.count_defs.specs.Counts.{raised}
+use Rattle.count_defs.specs.Counts.{saturating_sum}
 use Rattle.tms_defs.specs.Operand.{Cpu}
 use Rattle.tms_defs.specs.Step.{execution}
 use Rattle.console_defs.specs.Machine.{MachineState, machine_step, steps}
@@ -20,7 +20,7 @@ machine m y n = record { cpu = carry m y; count = n }
 -- A step of the view is a step of the machine.
 record Stepped (m : Memory) (y : Cpu View) (n word : ℕ) (z : Cpu View) : Type 0 where
   memory : Memory
-  step : machine_step (machine m y n) ≡ (Done word, machine memory z (raised n 1))
+  step : machine_step (machine m y n) ≡ (Done word, machine memory z (saturating_sum n 1))
   shows : Shows memory z.memory
 
 do_step : (m : Memory) (y : Cpu View) (n : ℕ) (done : ℕ × Cpu View) → Shows m y.memory →
@@ -78,17 +78,17 @@ last ends made most m y n z done s c e =
     (record {
       count = 1;
       memory = s.memory;
-      raised_to = raised n 1;
+      raised_to = saturating_sum n 1;
       made = omega arith;
       some = omega arith;
-      ran = ran_once ends most done.0 (machine m y n) (machine s.memory done.1 (raised n 1)) s.step c;
-      runs = one_run (machine m y n) (machine s.memory done.1 (raised n 1)) done.0 s.step;
+      ran = ran_once ends most done.0 (machine m y n) (machine s.memory done.1 (saturating_sum n 1)) s.step c;
+      runs = one_run (machine m y n) (machine s.memory done.1 (saturating_sum n 1)) done.0 s.step;
       shows = s.shows;
     })
 
 -- a step before others
 more : (ends : List ℕ) (made most : ℕ) (m : Memory) (y : Cpu View) (n : ℕ) (z done : ℕ × Cpu View) → (s : Stepped m y n done.0 done.1) →
-    ends_piece ends done.0 done.1.pc ≡ false → Followed ends (suc made) most s.memory done.1 (raised n 1) z →
+    ends_piece ends done.0 done.1.pc ≡ false → Followed ends (suc made) most s.memory done.1 (saturating_sum n 1) z →
     Followed ends made (suc most) m y n z
 more ends made most m y n z done s c f =
     let made_more = f.made in
@@ -98,9 +98,9 @@ more ends made most m y n z done s c f =
       raised_to = f.raised_to;
       made = omega arith;
       some = omega arith;
-      ran = ran_again ends most done.0 (machine m y n) (machine s.memory done.1 (raised n 1))
+      ran = ran_again ends most done.0 (machine m y n) (machine s.memory done.1 (saturating_sum n 1))
           (record { count = f.count; left = machine f.memory z.1 f.raised_to }) s.step c f.ran;
-      runs = later f.count (machine m y n) (machine s.memory done.1 (raised n 1)) (machine f.memory z.1 f.raised_to) done.0 f.some s.step
+      runs = later f.count (machine m y n) (machine s.memory done.1 (saturating_sum n 1)) (machine f.memory z.1 f.raised_to) done.0 f.some s.step
           (not_end _ (is_end done.1.pc) _ c) f.runs;
       shows = f.shows;
     }
@@ -113,4 +113,4 @@ followed ends made (suc most) m y n z h e =
     let s = do_step m y n g.0 h g.1 in
     pick (ends_piece ends g.0.0 g.0.1.pc)
     (λ c. last ends made most m y n z g.0 s c (rw (c, goes_on) at g.2))
-    (λ c. more ends made most m y n z g.0 s c (followed ends (suc made) most s.memory g.0.1 (raised n 1) z s.shows (rw (c, goes_on) at g.2)))
+    (λ c. more ends made most m y n z g.0 s c (followed ends (suc made) most s.memory g.0.1 (saturating_sum n 1) z s.shows (rw (c, goes_on) at g.2)))

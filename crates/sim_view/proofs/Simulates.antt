@@ -38,7 +38,7 @@ use Rattle.tms_defs.specs.forms.One.{one}
 use Rattle.tms_defs.specs.forms.Jump.{jump_target, jump_where, condition}
 use Rattle.tms_defs.specs.forms.Imm.{immediate, imm}
 use Rattle.tms_defs.specs.forms.Bare.{bare}
-use Rattle.tms_defs.specs.Step.{executed, executed_where, execution, is_stopping}
+use Rattle.tms_defs.specs.Step.{executed, executed_where, execution, is_unsupported}
 use Rattle.sim_view.specs.View.{View, Registers, listed, relisted}
 use Rattle.interp_defs.specs.Interpreter.{HoldsInterpreter}
 use Rattle.sim_view.proofs.Answers.{given}
@@ -453,7 +453,7 @@ module _ (y : Cpu View) (m : Memory) (h : Shows m y.memory) where
   do_instr (instr.Bare o) = do_bare y m h o
 
   do_where : (i : Option Instr) → SimCpu (executed_where Memory console i (carry m y)) (executed_where View shown i y)
-  do_where (Some i) = pick (is_stopping i) (λ e. rw e (record { by = λ z e. absurd (cc) })) (λ e. rw e (do_instr i))
+  do_where (Some i) = pick (is_unsupported i) (λ e. rw e (record { by = λ z e. absurd (cc) })) (λ e. rw e (do_instr i))
   do_where None = record { by = λ z e. absurd (cc) }
 
 module _ (y : Cpu View) (m : Memory) (h : Shows m y.memory) where

@@ -107,6 +107,6 @@ pub use Rattle.interp_defs.specs.Turned.{Reaches, Turned, TurnedBy}
 pub use Rattle.interp_defs.specs.Turns.{Boots, IsTurn}
 pub use Rattle.interp_defs.specs.declared.turn.Turn.{Turn}
 pub use Rattle.interp_defs.specs.declared.turn.Turn.TheVariants.{Stepped, Stopped}
-pub use Rattle.sim_view.specs.Exits.{Comes, Exit, Exits}
+pub use Rattle.sim_view.specs.Exits.{ReachesWithin, Exit, Exits}
 pub use Rattle.sim_view.specs.View.{listed, Stands, view, View}
 unfoldable pub use Rattle.sim_view.specs.View.{view_of}

@@ -13,8 +13,8 @@ word_digits word =
     ∷ hexadecimal_digit (word / 16 % 16) ∷ hexadecimal_digit (word % 16) ∷ []
 
 -- Editor/Assembler manual, "Constants": a hexadecimal number stands behind the sign >.
-abbrev pub marked_word : ℕ → List ℕ
-marked_word word = 0x3E ∷ word_digits word
+abbrev pub hex_word : ℕ → List ℕ
+hex_word word = 0x3E ∷ word_digits word
 
-abbrev pub marked_byte : ℕ → List ℕ
-marked_byte byte = 0x3E ∷ byte_digits byte
+abbrev pub hex_byte : ℕ → List ℕ
+hex_byte byte = 0x3E ∷ byte_digits byte

@@ -11,13 +11,13 @@ abbrev pub Grows : Names → Names → Type 0
 Grows old new = (name : List ℕ) (value : Value) → look_up old name ≡ Some value → look_up new name ≡ Some value
 
 -- a refusal that more names may lift
-abbrev pub is_open : ExprError → Bool
-is_open UnknownName = true
-is_open BadToken = false
-is_open BadRelocation = false
-is_open TooLarge = false
-is_open DivideByZero = false
-is_open Memory = false
+abbrev pub is_unresolved : ExprError → Bool
+is_unresolved UnknownName = true
+is_unresolved BadToken = false
+is_unresolved BadRelocation = false
+is_unresolved TooLarge = false
+is_unresolved DivideByZero = false
+is_unresolved Memory = false
 
 -- an answer that more names leave as it is, by the refusals that they may lift
 abbrev pub is_closed : {A E : Type 0} → (E → Bool) → Result A E → Bool

@@ -16,23 +16,23 @@ written [] = Err Form
 written (byte ∷ bytes) = Ok (byte ∷ bytes)
 
 -- the one operand
-abbrev pub one_of : List (List ℕ) → Result (List ℕ) OperandError
-one_of [] = Err Count
-one_of (text ∷ []) = written text
-one_of (first ∷ second ∷ others) = Err Count
+abbrev pub one_operand : List (List ℕ) → Result (List ℕ) OperandError
+one_operand [] = Err Count
+one_operand (text ∷ []) = written text
+one_operand (first ∷ second ∷ others) = Err Count
 
 -- the operand, where there is one
-abbrev pub at_most_one_of : List (List ℕ) → Result (Option (List ℕ)) OperandError
-at_most_one_of [] = Ok None
-at_most_one_of (text ∷ []) = do
+abbrev pub optional_operand : List (List ℕ) → Result (Option (List ℕ)) OperandError
+optional_operand [] = Ok None
+optional_operand (text ∷ []) = do
   text ← written text
   Ok (Some text)
-at_most_one_of (first ∷ second ∷ others) = Err Count
+optional_operand (first ∷ second ∷ others) = Err Count
 
-abbrev pub all_written : List (List ℕ) → Bool
-all_written texts = list_all (λ text. not (is_empty text)) texts
+abbrev pub none_empty : List (List ℕ) → Bool
+none_empty texts = list_all (λ text. not (is_empty text)) texts
 
 -- one operand or more
-abbrev pub some_of : List (List ℕ) → Result (List (List ℕ)) OperandError
-some_of [] = Err Count
-some_of (text ∷ texts) = if all_written (text ∷ texts) then Ok (text ∷ texts) else Err Form
+abbrev pub operand_list : List (List ℕ) → Result (List (List ℕ)) OperandError
+operand_list [] = Err Count
+operand_list (text ∷ texts) = if none_empty (text ∷ texts) then Ok (text ∷ texts) else Err Form

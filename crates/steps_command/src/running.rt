@@ -33,7 +33,7 @@ pub fn steps<O: Sink, E: Sink>(
 {
     let mut machine = match start_input(alloc, input) {
         Ok(machine) => machine,
-        Err(unreported) => return finish(&Err(unreported), out, err),
+        Err(command_error) => return finish(&Err(command_error), out, err),
     };
     let mut seen = match Seen::new(alloc, &machine) {
         Ok(seen) => seen,

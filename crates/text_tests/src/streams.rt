@@ -5,7 +5,7 @@ ghost use Rattle.bench_io.specs.Stream.{opened_once};
 
 use bench_io::{
     Failed, MemSink, MemSource, ReadError, Sink, Source, StdSink, StdSource, SteadySink,
-    SteadySource, put_piece, read_all,
+    SteadySource, put_chunk, read_all,
 };
 use std::alloc::{AllocError, Global};
 use std::io;
@@ -179,7 +179,7 @@ fn passes_a_pipe(rt: &HostRuntime) -> io::Result<bool> {
     let (reader, writer) = io::pipe(rt)?;
     {
         let mut sink = StdSink::new(writer);
-        if put_piece(&mut sink, b"through ").is_err() || sink.put(b"a pipe").is_err() {
+        if put_chunk(&mut sink, b"through ").is_err() || sink.put(b"a pipe").is_err() {
             return Ok(false);
         }
     }

@@ -22,19 +22,19 @@ use Rattle.tms_defs.specs.declared.step_end.StepEnd.TheVariants.{Done, Refused, 
 
 -- Profile: these operations are not executed: those of the communication register unit, those of external devices, and
 -- the execution of a word elsewhere.
-abbrev pub is_stopping : Instr → Bool
-is_stopping (Reg LDCR number src) = true
-is_stopping (Reg STCR number src) = true
-is_stopping (One X at) = true
-is_stopping (Jump SBO disp) = true
-is_stopping (Jump SBZ disp) = true
-is_stopping (Jump TB disp) = true
-is_stopping (Bare IDLE) = true
-is_stopping (Bare RSET) = true
-is_stopping (Bare CKON) = true
-is_stopping (Bare CKOF) = true
-is_stopping (Bare LREX) = true
-is_stopping _ = false
+abbrev pub is_unsupported : Instr → Bool
+is_unsupported (Reg LDCR number src) = true
+is_unsupported (Reg STCR number src) = true
+is_unsupported (One X at) = true
+is_unsupported (Jump SBO disp) = true
+is_unsupported (Jump SBZ disp) = true
+is_unsupported (Jump TB disp) = true
+is_unsupported (Bare IDLE) = true
+is_unsupported (Bare RSET) = true
+is_unsupported (Bare CKON) = true
+is_unsupported (Bare CKOF) = true
+is_unsupported (Bare LREX) = true
+is_unsupported _ = false
 
 module _ (M : Type 0) (access : Accesses M) where
   -- An instruction is executed; the program counter stands behind its first word.
@@ -51,7 +51,7 @@ module _ (M : Type 0) (access : Accesses M) where
   -- Profile: a word that belongs to no row is no instruction; nor is an operation that is not executed, whatever its
   -- operands are.
   abbrev pub executed_where : Option Instr → Cpu M → Answer (Cpu M)
-  executed_where (Some instr) x = if is_stopping instr then NoInstruction else executed instr x
+  executed_where (Some instr) x = if is_unsupported instr then NoInstruction else executed instr x
   executed_where None x = NoInstruction
 
   -- The instruction at the program counter is read and executed: its word, and the state after it.

@@ -96,10 +96,10 @@ module _ (a : VdpState → VdpState) (b : GromState → GromState)
   indexed x number (AtPort address) = refl
   indexed x number NoInstruction = refl
 
-  grown : (x : Cpu Memory) (address place word : ℕ) →
+  auto_incremented : (x : Cpu Memory) (address place word : ℕ) →
       before x (with_word Memory console (moved x) place word >>= λ y. Gives (address, y))
       ≡ after (with_word Memory console x place word >>= λ y. Gives (address, y))
-  grown x address place word =
+  auto_incremented x address place word =
       ap (λ (written : Answer Memory). before x ((written >>= λ memory. Gives (record (moved x) { memory = memory })) >>= λ y. Gives (address, y)))
       (word_written_past_ports x.memory (a x.memory.vdp) (b x.memory.grom) place word)
       ∙ by (word_written x.memory place word) refl
@@ -117,7 +117,7 @@ module _ (a : VdpState → VdpState) (b : GromState → GromState)
   incremented : (x : Cpu Memory) (place more : ℕ) (word : Answer ℕ) →
       before x (word >>= λ w. with_word Memory console (moved x) place (plus w more) >>= λ y. Gives (w, y))
       ≡ after (word >>= λ w. with_word Memory console x place (plus w more) >>= λ y. Gives (w, y))
-  incremented x place more (Gives word) = grown x word place (plus word more)
+  incremented x place more (Gives word) = auto_incremented x word place (plus word more)
   incremented x place more (AtPort address) = refl
   incremented x place more NoInstruction = refl
 

@@ -11,7 +11,7 @@ use Rattle.tms_defs.specs.declared.port_stop.PortStop.{PortStop}
 use Rattle.console_defs.specs.Memory.{Memory, Region, Rom, LowExpansion, HighExpansion, Scratchpad, PortOf, Unmapped}
 use Rattle.console_defs.specs.Memory.{IsMemory, region, word_read_in, word_written_in, word_read, word_written, console}
 use Rattle.tms_step.specs.declared.cpu.Kept.{Kept}
-use Rattle.tms_step.specs.Undo.{taken, put_back, grown_by, SameButPc}
+use Rattle.tms_step.specs.Undo.{taken, put_back, auto_incremented_by, SameButPc}
 
 -- two bytes of a list, written over and set back
 items_back : (l : List ℕ) (i a b : ℕ) →
@@ -89,12 +89,12 @@ wp_back middle None = refl
 wp_back middle (Some kept) = refl
 
 -- The register that has grown with an operand is put back, where the program counter alone has gone on since.
-pub grown_later : (place : Place) (address : ℕ) (old middle later : Cpu Memory) → SameButPc middle later →
-    SameButPc old (put_back (grown_by place address old.wp) middle) →
-    SameButPc old (put_back (grown_by place address later.wp) later)
-grown_later place address old middle later then first =
+pub auto_incremented_later : (place : Place) (address : ℕ) (old middle later : Cpu Memory) → SameButPc middle later →
+    SameButPc old (put_back (auto_incremented_by place address old.wp) middle) →
+    SameButPc old (put_back (auto_incremented_by place address later.wp) later)
+auto_incremented_later place address old middle later then first =
     let there : later.wp ≡ middle.wp = ap (λ (x : Cpu Memory). x.wp) then.same in
     let here : middle.wp ≡ old.wp =
-    sym (wp_back middle (grown_by place address old.wp)) ∙ ap (λ (x : Cpu Memory). x.wp) first.same in
-    subst (λ (wp : ℕ). SameButPc old (put_back (grown_by place address wp) later)) (sym (there ∙ here))
-    (put_back_later (grown_by place address old.wp) old middle later then first)
+    sym (wp_back middle (auto_incremented_by place address old.wp)) ∙ ap (λ (x : Cpu Memory). x.wp) first.same in
+    subst (λ (wp : ℕ). SameButPc old (put_back (auto_incremented_by place address wp) later)) (sym (there ∙ here))
+    (put_back_later (auto_incremented_by place address old.wp) old middle later then first)

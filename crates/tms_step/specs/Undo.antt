@@ -22,8 +22,8 @@ abbrev pub grown_register : ℕ → ℕ → ℕ → Kept
 grown_register number word wp = record { address = register_in wp number; word = word }
 
 -- The register that has grown with an operand at an address, as it was before: what it held is the address.
-abbrev pub grown_by : Place → ℕ → ℕ → Option Kept
-grown_by place address wp =
+abbrev pub auto_incremented_by : Place → ℕ → ℕ → Option Kept
+auto_incremented_by place address wp =
     if place.mode == 3 then Some (grown_register place.reg address wp) else None
 
 -- The new state is the old one but for the program counter.

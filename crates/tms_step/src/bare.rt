@@ -2,7 +2,7 @@
 
 ghost use Rattle.std.specs.Prelude.{◌≡◌, OnErr, IsFalse};
 ghost use Rattle.console_defs.specs.Memory.{Memory, console};
-ghost use Rattle.tms_defs.specs.Step.{is_stopping};
+ghost use Rattle.tms_defs.specs.Step.{is_unsupported};
 ghost use Rattle.tms_defs.specs.forms.Bare.{bare};
 ghost use Rattle.tms_defs.specs.declared.instruction.BareOp.TheVariants.{RTWP};
 ghost use Rattle.tms_defs.specs.declared.instruction.Instr.TheVariants.{Bare};
@@ -18,7 +18,7 @@ impl Cpu {
     /// manual, "Internal register load immediate instructions", "Return workspace pointer (RTWP) instruction").
     #[inline(never)]
     pub(crate) fn bare(&mut self, op: BareOp) -> Result<(), PortStop>
-        requires { IsFalse (is_stopping (Bare op)) }
+        requires { IsFalse (is_unsupported (Bare op)) }
         ensures value { left_by result (λ _. self.new) ≡ bare Memory console op self.old }
         ensures stopped { OnErr result (SameButPc self.old self.new) }
     {

@@ -44,7 +44,7 @@ impl Cpu {
         let (word, found) = self.immediate(number)?;
         let address = self.register_address(number);
         if op == ImmOp::AI {
-            self.stored_out(address, add16(found, word))
+            self.stored_with_flags(address, add16(found, word))
         } else if op == ImmOp::ANDI {
             self.stored_by_result(false, address, found & word)
         } else if op == ImmOp::ORI {

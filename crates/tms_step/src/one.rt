@@ -17,7 +17,7 @@ use tms_words::{abs16, add16, neg16, sub16};
 impl Cpu {
     /// An operation on an operand in any mode (TMS9900 data manual, "Single operand instructions").
     #[inline(never)]
-    #[tactic(auto, using(crate::proofs::PutBack::grown_later))]
+    #[tactic(auto, using(crate::proofs::PutBack::auto_incremented_later))]
     pub(crate) fn one_operand(&mut self, op: OneOp, at: Place) -> Result<(), PortStop>
         requires place { IsPlace at }
         requires executes { op ≢ X }
@@ -26,7 +26,7 @@ impl Cpu {
     {
         let address = self.operand(at, false)?;
         let end = self.one(op, address);
-        self.settle(end, self.grown_by(at, address))
+        self.undo_on_stop(end, self.auto_incremented_by(at, address))
     }
 
     /// An operation on the operand at an address. Those that programs make most are told first, by tests, and not by a
@@ -60,13 +60,13 @@ impl Cpu {
     {
         let found = self.word_at(address)?;
         if op == OneOp::INC {
-            self.stored_out(address, add16(found, 1))
+            self.stored_with_flags(address, add16(found, 1))
         } else if op == OneOp::INCT {
-            self.stored_out(address, add16(found, 2))
+            self.stored_with_flags(address, add16(found, 2))
         } else if op == OneOp::DEC {
-            self.stored_out(address, sub16(found, 1))
+            self.stored_with_flags(address, sub16(found, 1))
         } else {
-            self.stored_out(address, sub16(found, 2))
+            self.stored_with_flags(address, sub16(found, 2))
         }
     }
 
@@ -85,7 +85,7 @@ impl Cpu {
             OneOp::BLWP => self.switched(address),
             OneOp::NEG => {
                 let found = self.word_at(address)?;
-                self.stored_out(address, neg16(found))
+                self.stored_with_flags(address, neg16(found))
             }
             OneOp::INV => {
                 let found = self.word_at(address)?;
@@ -97,7 +97,7 @@ impl Cpu {
             }
             OneOp::ABS => {
                 let found = self.word_at(address)?;
-                self.stored_out(address, abs16(found))
+                self.stored_with_flags(address, abs16(found))
             }
             OneOp::SETO => self.write_word(address, 0xFFFF),
             OneOp::INC

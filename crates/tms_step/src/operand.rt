@@ -6,7 +6,7 @@ ghost use Rattle.console_defs.specs.Memory.{Memory, console};
 ghost use Rattle.tms_defs.specs.Operand.{mode_of, index_of, operand, value_at, with_value};
 ghost use Rattle.tms_defs.specs.Instructions.{IsPlace};
 ghost use Rattle.tms_step.specs.Stops.{left_by};
-ghost use Rattle.tms_step.specs.Undo.{put_back, grown_by, grown_register, SameButPc};
+ghost use Rattle.tms_step.specs.Undo.{put_back, auto_incremented_by, grown_register, SameButPc};
 
 use crate::cpu::{Cpu, Kept};
 use tms_defs::{Place, PortStop};
@@ -31,7 +31,7 @@ impl Cpu {
         ensures value { left_by result (λ address. (address, self.new))
             ≡ operand Memory console (mode_of place.mode) (byte_or_word byte) place.reg self.old }
         ensures undo { IfOk result (λ address. SameButPc self.old
-            (put_back (grown_by place address self.old.wp) self.new)) }
+            (put_back (auto_incremented_by place address self.old.wp) self.new)) }
         ensures stopped { OnErr result (SameButPc self.old self.new) }
     {
         if place.mode == 0 {
@@ -48,13 +48,13 @@ impl Cpu {
         ensures value { left_by result (λ address. (address, self.new))
             ≡ operand Memory console (mode_of place.mode) (byte_or_word byte) place.reg self.old }
         ensures undo { IfOk result (λ address. SameButPc self.old
-            (put_back (grown_by place address self.old.wp) self.new)) }
+            (put_back (auto_incremented_by place address self.old.wp) self.new)) }
         ensures stopped { OnErr result (SameButPc self.old self.new) }
     {
         match place.mode {
             1 => self.word_at(self.register_address(place.reg)),
             2 => self.indexed(place.reg),
-            _ => self.grown(place.reg, byte),
+            _ => self.auto_incremented(place.reg, byte),
         }
     }
 
@@ -73,7 +73,7 @@ impl Cpu {
 
     /// The address in a register, which then grows by the bytes of the operand.
     #[inline]
-    fn grown(&mut self, number: u8, byte: bool) -> Result<u16, PortStop>
+    fn auto_incremented(&mut self, number: u8, byte: bool) -> Result<u16, PortStop>
         requires { number < 16 }
         ensures value { left_by result (λ address. (address, self.new))
             ≡ operand Memory console (mode_of 3) (byte_or_word byte) number self.old }
@@ -90,9 +90,9 @@ impl Cpu {
 
     /// The register that has grown with an operand at an address, as it was before.
     #[inline(always)]
-    pub(crate) fn grown_by(&self, place: Place, address: u16) -> Option<Kept>
+    pub(crate) fn auto_incremented_by(&self, place: Place, address: u16) -> Option<Kept>
         requires { IsPlace place }
-        ensures { result ≡ grown_by place address self.now.wp }
+        ensures { result ≡ auto_incremented_by place address self.now.wp }
     {
         if place.mode != 3 {
             return None;

@@ -17,7 +17,7 @@ impl Cpu {
     /// An operation on a source in any mode (TMS9900 data manual, "Dual operand instructions with multiple addressing
     /// modes for the source operand and workspace register addressing for the destination").
     #[inline(never)]
-    #[tactic(auto, using(crate::proofs::PutBack::grown_later))]
+    #[tactic(auto, using(crate::proofs::PutBack::auto_incremented_later))]
     pub(crate) fn with_source(&mut self, op: RegOp, number: u8, src: Place) -> Result<(), PortStop>
         requires number { number < 16 }
         requires src { IsPlace src }
@@ -28,7 +28,7 @@ impl Cpu {
     {
         let source = self.operand(src, false)?;
         let end = self.reg(op, number, source);
-        self.settle(end, self.grown_by(src, source))
+        self.undo_on_stop(end, self.auto_incremented_by(src, source))
     }
 
     /// An operation on a source at an address, and a register or a number.

@@ -1,7 +1,7 @@
 //! Runs of steps up to an address, a jump to itself, a limit or a stop.
 
 ghost use Rattle.std.specs.Prelude.{◌≡◌, ◌≤◌, ◌+◌, ◌-◌};
-ghost use Rattle.count_defs.specs.Counts.{raised};
+ghost use Rattle.count_defs.specs.Counts.{saturating_sum};
 ghost use Rattle.tms_defs.specs.Accesses.{Gives};
 ghost use Rattle.console_defs.specs.Machine.{machine_step};
 ghost use Rattle.console_defs.specs.Machine as machine;
@@ -31,7 +31,7 @@ impl Machine {
         ensures run { IsRun stop limit (steps.new - steps.old) self.old result self.new }
         // so many steps that all executed an instruction lead to the machine
         ensures steps { machine.steps (steps.new - steps.old) self.old ≡ Gives self.new }
-        ensures count { self.new.count ≡ raised self.old.count (steps.new - steps.old) }
+        ensures count { self.new.count ≡ saturating_sum self.old.count (steps.new - steps.old) }
         ensures limit { steps.new - steps.old ≤ limit }
     {
         self.run(stop, limit, steps)

@@ -8,7 +8,7 @@ ghost use Rattle.std.specs.Prelude.{◌≡◌, OnErr, IsFalse};
 ghost use Rattle.tms_defs.specs.Instructions.{HasRoom};
 ghost use Rattle.console_defs.specs.Machine.{WhereStopped};
 ghost use Rattle.console_defs.specs.Memory.{Memory, console};
-ghost use Rattle.tms_defs.specs.Step.{executed, is_stopping, step};
+ghost use Rattle.tms_defs.specs.Step.{executed, is_unsupported, step};
 ghost use Rattle.tms_step.specs.Stops.{left_by};
 ghost use Rattle.tms_step.specs.Undo.{SameButPc};
 
@@ -34,7 +34,7 @@ impl Cpu {
             self.pc = start;
             return StepEnd::Refused(start);
         };
-        if is_stopping(&instr) {
+        if is_unsupported(&instr) {
             self.pc = start;
             return StepEnd::Refused(start);
         }
@@ -52,7 +52,7 @@ impl Cpu {
     #[inline(always)]
     pub(crate) fn executed(&mut self, instr: Instr) -> Result<(), PortStop>
         requires room { HasRoom instr }
-        requires executes { IsFalse (is_stopping instr) }
+        requires executes { IsFalse (is_unsupported instr) }
         ensures value { left_by result (λ _. self.new) ≡ executed Memory console instr self.old }
         ensures stopped { OnErr result (SameButPc self.old self.new) }
     {
@@ -74,8 +74,8 @@ impl Cpu {
 /// The operation is not executed here: one of the communication register unit, of external devices, or the execution
 /// of a word elsewhere.
 #[inline(always)]
-fn is_stopping(instr: &Instr) -> bool
-    ensures { result ≡ is_stopping instr.now }
+fn is_unsupported(instr: &Instr) -> bool
+    ensures { result ≡ is_unsupported instr.now }
 {
     matches!(
         instr,

@@ -42,7 +42,7 @@ impl Cpu {
 
     /// Stores a word with its status bits.
     #[inline(always)]
-    pub(crate) fn stored_out(&mut self, address: u16, out: Out16) -> Result<(), PortStop>
+    pub(crate) fn stored_with_flags(&mut self, address: u16, out: Out16) -> Result<(), PortStop>
         ensures value { left_by result (λ _. self.new)
             ≡ stored Memory console Word address out.value out.flags self.old }
         ensures stopped { OnErr result (self.new ≡ self.old) }

@@ -18,7 +18,7 @@ use tms_defs::{Place, PortStop, TwoOp};
 impl Cpu {
     /// An operation on two operands: the source is derived first.
     #[inline(always)]
-    #[tactic(auto, using(crate::proofs::PutBack::grown_later))]
+    #[tactic(auto, using(crate::proofs::PutBack::auto_incremented_later))]
     pub(crate) fn two_operands(
         &mut self,
         op: TwoOp,
@@ -34,12 +34,12 @@ impl Cpu {
     {
         let source = self.operand(src, byte)?;
         let end = self.from_source(op, byte, source, dst);
-        self.settle(end, self.grown_by(src, source))
+        self.undo_on_stop(end, self.auto_incremented_by(src, source))
     }
 
     /// What follows once the source is derived: it is read, and the destination is derived.
     #[inline(always)]
-    #[tactic(auto, using(crate::proofs::PutBack::grown_later))]
+    #[tactic(auto, using(crate::proofs::PutBack::auto_incremented_later))]
     fn from_source(
         &mut self,
         op: TwoOp,
@@ -59,7 +59,7 @@ impl Cpu {
 
     /// The same, where the source is no byte of a port, so that its reading changes nothing.
     #[inline(always)]
-    #[tactic(auto, using(crate::proofs::PutBack::grown_later))]
+    #[tactic(auto, using(crate::proofs::PutBack::auto_incremented_later))]
     fn from_memory(
         &mut self,
         op: TwoOp,
@@ -75,12 +75,12 @@ impl Cpu {
         let value = self.value_at(byte, source)?;
         let destination = self.operand(dst, byte)?;
         let end = self.two(op, byte, value, destination);
-        self.settle(end, self.grown_by(dst, destination))
+        self.undo_on_stop(end, self.auto_incremented_by(dst, destination))
     }
 
     /// The same, where the source is a byte of a port. The port is read last: words, which alone can stop the
     /// instruction, neither see nor change a port.
-    #[tactic(auto, using(crate::proofs::PutBack::grown_later))]
+    #[tactic(auto, using(crate::proofs::PutBack::auto_incremented_later))]
     #[inline(never)]
     fn from_port(&mut self, op: TwoOp, source: u16, dst: Place) -> Result<(), PortStop>
         requires { IsPlace dst }
@@ -89,7 +89,7 @@ impl Cpu {
     {
         let destination = self.operand(dst, true)?;
         let end = self.two_from_port(op, source, destination);
-        self.settle(end, self.grown_by(dst, destination))
+        self.undo_on_stop(end, self.auto_incremented_by(dst, destination))
     }
 
     /// An operation on a byte that is read from a port and a destination.

@@ -23,7 +23,7 @@ impl Cpu {
         };
         let kept = self.replace(*address, *word)?;
         let end = self.write_words(rest);
-        self.settle(end, Some(kept))
+        self.undo_on_stop(end, Some(kept))
     }
 
     /// Writes a word over the one that stands there, which is kept.
@@ -54,7 +54,7 @@ impl Cpu {
     /// How an instruction ends, where a word was written over before: unless it was executed, the word is put back.
     #[inline(always)]
     #[tactic(auto, using(crate::proofs::PutBack::put_back_later))]
-    pub(crate) fn settle(
+    pub(crate) fn undo_on_stop(
         &mut self,
         end: Result<(), PortStop>,
         kept: Option<Kept>,

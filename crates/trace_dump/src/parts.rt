@@ -7,7 +7,7 @@ ghost use Rattle.report_defs.specs.Rows.{rows_lines};
 ghost use Rattle.bench_io.specs.Written.{Written};
 
 use crate::workspace::put_workspace;
-use bench_io::{Failed, Sink, put_piece};
+use bench_io::{Failed, Sink, put_chunk};
 use grom_counter::Grom;
 use report_lines::{Line, append, append_count, append_spaced, append_word, put_rows};
 use tms_step::Machine;
@@ -47,7 +47,7 @@ fn put_registers<O: Sink>(machine: &Machine, out: &mut O) -> Result<(), Failed>
         (spec.grom_line machine.now.cpu.memory.grom ∷ spec.count_line machine.now
         ∷ spec.workspace_lines machine.now.cpu) }
 {
-    put_piece(out, grom_line(machine.bus().grom()).as_slice())?;
+    put_chunk(out, grom_line(machine.bus().grom()).as_slice())?;
     put_processor(machine, out)
 }
 
@@ -57,7 +57,7 @@ fn put_processor<O: Sink>(machine: &Machine, out: &mut O) -> Result<(), Failed>
     ensures { Written result (O.state out.old) (O.state out.new)
         (spec.count_line machine.now ∷ spec.workspace_lines machine.now.cpu) }
 {
-    put_piece(out, count_line(machine).as_slice())?;
+    put_chunk(out, count_line(machine).as_slice())?;
     put_workspace(machine, out)
 }
 
@@ -67,7 +67,7 @@ fn put_pad<O: Sink>(scratchpad: &[u8], out: &mut O) -> Result<(), Failed>
     requires { length scratchpad.now ≡ 256 }
     ensures { Written result (O.state out.old) (O.state out.new) (spec.pad_lines scratchpad.now) }
 {
-    put_piece(out, b"pad\n")?;
+    put_chunk(out, b"pad\n")?;
     put_rows(0x8300, scratchpad, out)
 }
 
@@ -76,7 +76,7 @@ fn put_pad<O: Sink>(scratchpad: &[u8], out: &mut O) -> Result<(), Failed>
 fn put_vdp<O: Sink>(vdp: &Vdp, out: &mut O) -> Result<(), Failed>
     ensures { Written result (O.state out.old) (O.state out.new) (spec.vdp_lines vdp.now) }
 {
-    put_piece(out, b"vdp\n")?;
+    put_chunk(out, b"vdp\n")?;
     put_vdp_state(vdp, out)
 }
 
@@ -87,7 +87,7 @@ fn put_vdp_state<O: Sink>(vdp: &Vdp, out: &mut O) -> Result<(), Failed>
         (rows_lines 0 vdp.now.memory ++ spec.vdp_registers_line vdp.now.registers ∷ []) }
 {
     put_rows(0, vdp.memory(), out)?;
-    put_piece(out, vdp_registers_line(vdp).as_slice())
+    put_chunk(out, vdp_registers_line(vdp).as_slice())
 }
 
 #[tactic(auto, using(std::proofs::Common::append_assoc), unfolding(report_defs::specs::Dump::vdp_registers_line))]

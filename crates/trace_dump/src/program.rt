@@ -7,7 +7,7 @@ ghost use Rattle.report_defs.specs.Program as spec;
 
 use crate::parts::dump;
 use crate::state::{state_line, stop_line};
-use bench_io::{Failed, Sink, put_piece};
+use bench_io::{Failed, Sink, put_chunk};
 use gpl_run::Session;
 use gpl_step_defs::Reason;
 use report_defs::Status;
@@ -19,7 +19,7 @@ pub fn put_stop<O: Sink>(session: &Session, out: &mut O) -> Result<(), Failed>
         (spec.stop_lines session.now.ended (seen session.now).pc) }
 {
     match session.ended() {
-        Some(reason) => put_piece(out, stop_line(reason, session.pc()).as_bytes()),
+        Some(reason) => put_chunk(out, stop_line(reason, session.pc()).as_bytes()),
         None => Ok(()),
     }
 }
@@ -29,7 +29,7 @@ pub fn put_state<O: Sink>(session: &Session, out: &mut O) -> Result<(), Failed>
     ensures { Written result (O.state out.old) (O.state out.new)
         (spec.state_lines (seen session.now) session.now.machine) }
 {
-    put_piece(out, state_line(session).as_bytes())?;
+    put_chunk(out, state_line(session).as_bytes())?;
     dump(session.machine(), out)
 }
 

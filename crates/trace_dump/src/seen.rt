@@ -3,7 +3,7 @@
 ghost use Rattle.std.specs.Prelude.{◌≡◌, ◌≤◌, ◌<◌, ◌+◌, ◌++◌, length, codes, IfOk};
 ghost use Rattle.std.specs.Fmt.{decimal};
 ghost use Rattle.arrayvec.specs.ArrayString.{array_string_len};
-ghost use Rattle.source_defs.specs.Digits.{byte_digits, marked_word};
+ghost use Rattle.source_defs.specs.Digits.{byte_digits, hex_word};
 ghost use Rattle.interp_defs.specs.Match.{shown_by};
 ghost use Rattle.report_defs.specs.Trace as spec;
 
@@ -120,7 +120,7 @@ fn show_video(line: &mut ArrayString<120>, kept: &mut [u8], now: &[u8])
     requires kept { length kept.old ≡ VIDEO_SIZE }
     requires now { length now.now ≡ VIDEO_SIZE }
     requires room { array_string_len line.old + 16 ≤ 120 }
-    ensures text { line.new.bytes ≡ line.old.bytes ++ spec.changed_text (codes " V") marked_word kept.old now.now }
+    ensures text { line.new.bytes ≡ line.old.bytes ++ spec.changed_text (codes " V") hex_word kept.old now.now }
     ensures size { array_string_len line.new ≤ array_string_len line.old + 16 }
     ensures kept { kept.new ≡ now.now }
 {

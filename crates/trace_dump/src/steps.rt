@@ -8,7 +8,7 @@ ghost use Rattle.trace_dump.specs.Plays.{Plays};
 use crate::line::trace_line;
 use crate::seen::Seen;
 use crate::step_line::StepLine;
-use bench_io::{Failed, Sink, put_piece};
+use bench_io::{Failed, Sink, put_chunk};
 use gpl_run::Session;
 use interp_defs::Turn;
 use std::sync::ledger::Ledger;
@@ -43,7 +43,7 @@ pub fn play<T: StepLine, O: Sink, L: Ledger>(
             return Ok(made);
         }
         line.end(seen, session.machine());
-        put_piece(out, line.as_bytes())?;
+        put_chunk(out, line.as_bytes())?;
     }
     Ok(limit)
 }

@@ -6,7 +6,7 @@ ghost use Rattle.console_defs.specs.Machine.{has_workspace};
 ghost use Rattle.report_defs.specs.Dump as spec;
 ghost use Rattle.bench_io.specs.Written.{Written};
 
-use bench_io::{Failed, Sink, put_piece};
+use bench_io::{Failed, Sink, put_chunk};
 use report_lines::{Line, append, append_word};
 use tms_step::Machine;
 
@@ -16,10 +16,10 @@ pub(crate) fn put_workspace<O: Sink>(machine: &Machine, out: &mut O) -> Result<(
     ensures { Written result (O.state out.old) (O.state out.new) (spec.workspace_lines machine.now.cpu) }
 {
     if !machine.has_workspace() {
-        return put_piece(out, b"R none\n");
+        return put_chunk(out, b"R none\n");
     }
-    put_piece(out, registers_line(b"R0", machine, 0).as_slice())?;
-    put_piece(out, registers_line(b"R8", machine, 8).as_slice())
+    put_chunk(out, registers_line(b"R0", machine, 0).as_slice())?;
+    put_chunk(out, registers_line(b"R8", machine, 8).as_slice())
 }
 
 /// Eight registers from a number on, each after a blank, behind the name of the first.

@@ -17,7 +17,7 @@ use Rattle.asm_defs.specs.declared.location.Part.{Part}
 use Rattle.asm_defs.specs.declared.location.Part.TheVariants as part
 use Rattle.asm_defs.specs.Statements.{statement_in}
 use Rattle.asm_defs.specs.Locations.{Line, location, place, reached, relocatable, behind, value_of}
-use Rattle.asm_defs.specs.FirstChecks.{Before, Checked, said, moved, checked, check, known_of, line_of, names, refs, defs}
+use Rattle.asm_defs.specs.FirstChecks.{EarlierLines, Checked, parsed, moved, checked, check, known_of, line_of, names, refs, defs}
 use Rattle.asm_defs.specs.SecondChecks.{Outcome, Words}
 use Rattle.asm_defs.specs.Memory.{Settled}
 use Rattle.asm_defs.specs.Modules.{settle, settle_at, with_room, module_by, title, entry}
@@ -65,8 +65,8 @@ module _ (at : ℕ) (text : List ℕ) (size : ℕ) (last : Bool) (answer : Resul
   in_part : nat_le (at + (0 + size)) 65536 ≡ true
   in_part = grind (arith, nat_tests, fits)
 
-  let_through : (before : Before) → before.location ≡ absolute_at at → checked before (listed text) ≡ Ok found
-  unfolding said moved statement_in
+  let_through : (before : EarlierLines) → before.location ≡ absolute_at at → checked before (listed text) ≡ Ok found
+  unfolding parsed moved statement_in
   let_through before there =
       rw (back.cut.fields_are, back.cut.name_is, back.cut.field_is, back.says, back.own.refs)
       (rw (there, back.own.moves before.names before.reached, back.own.few before, back.own.good before, in_part) refl)

@@ -5,7 +5,7 @@ use Rattle.std.specs.Option.{option_map}
 use Rattle.std.specs.Prelude.{Err, ◌||◌, map, nat_le, nat_lt, slice_get, codes}
 use Rattle.std.proofs.lemmas.Bool.Decides.{nat_tests}
 use Rattle.source_defs.specs.Refusals.{Refusal, ◌>>=◌}
-use Rattle.source_defs.specs.Digits.{marked_byte}
+use Rattle.source_defs.specs.Digits.{hex_byte}
 use Rattle.source_defs.specs.Layout.{settled}
 use Rattle.source_defs.specs.Symbols.{predefined}
 use Rattle.tms_defs.specs.Words.{join}
@@ -228,7 +228,7 @@ module _ (entered : Option ℕ) (is_entry : IsEntry entered) where
   -- BYTE before it
   module _ (end byte : ℕ) (fits : end < 65536) (small : byte < 256) where
     abbrev byte_text : List ℕ
-    byte_text = codes "BYTE " ++ marked_byte byte
+    byte_text = codes "BYTE " ++ hex_byte byte
 
     pub closes_byte : (half : ℕ) (words : List ℕ) → end ≡ 2 * (half + length words) → (before : List Line) (lines : List Settled) (number : ℕ) → Stands before end
         → Holds before lines (2 * half) words

@@ -20,7 +20,7 @@ use Rattle.listed_lines.proofs.LineTexts.{plain_byte, field_of}
 use Rattle.std.proofs.Common.{◌⊎◌, inl, inr, ℕ, ◌+◌, ◌*◌, Bool, List, [], ◌∷◌, length-append, ap, subst, Ok, Option}
 use Rattle.std.specs.Int.{w8}
 use Rattle.source_defs.specs.Refusals.{◌>>=◌}
-use Rattle.source_defs.specs.Digits.{marked_word}
+use Rattle.source_defs.specs.Digits.{hex_word}
 use Rattle.source_defs.specs.Expression.{Value, Absolute}
 use Rattle.source_defs.specs.ListedLines.{two_texts}
 use Rattle.tms_defs.specs.Instructions.{HasRoom, HasSignedByte, operation_of, word_of}
@@ -33,13 +33,13 @@ use Rattle.tms_defs.specs.declared.instruction.Instr.{Instr}
 use Rattle.tms_defs.specs.declared.instruction.Instr.TheVariants.{Two, Reg, Shift, One, Jump, Imm, Bare}
 use Rattle.instruction_defs.specs.declared.causes.FormError.{FormError}
 use Rattle.instruction_defs.specs.declared.causes.FormError.TheVariants.{JumpTooFar}
-use Rattle.instruction_defs.specs.declared.slot.Slot.{Slot}
-use Rattle.instruction_defs.specs.declared.slot.Slot.TheVariants as slot
+use Rattle.instruction_defs.specs.declared.operand_kind.OperandKind.{OperandKind}
+use Rattle.instruction_defs.specs.declared.operand_kind.OperandKind.TheVariants as kind
 use Rattle.instruction_defs.specs.Forms.{Form, Symbolic, Indexed}
-use Rattle.instruction_defs.specs.Operands.{following_words, words_of, slots_of, reg_slots, jump_slots, has_immediate, has_value}
+use Rattle.instruction_defs.specs.Operands.{following_words, words_of, kinds_of, reg_kinds, jump_kinds, has_immediate, has_value}
 use Rattle.instruction_defs.specs.FirstChecks.{Skeleton, Instruction, first_checks, form_in, following, forms_of, all_following, size_of}
 use Rattle.instruction_defs.specs.SecondChecks as second
-use Rattle.instruction_defs.specs.SecondChecks.{Ready, Located, Counted, Displaced, Followed, all_valued, all_ranged, second_checks, displaced}
+use Rattle.instruction_defs.specs.SecondChecks.{EncodedOperand, Located, Counted, Displaced, Followed, all_valued, all_ranged, second_checks, displaced}
 use Rattle.instruction_defs.specs.SecondChecks.{instruction_of, following_in}
 use Rattle.tms_defs.specs.Words.{plus}
 use Rattle.tms_defs.specs.forms.Jump.{jump_target}
@@ -79,26 +79,26 @@ names _ = record { no_directive = refl; reads = refl; some = omega arith; short 
 
 -- ---- A listed instruction by the first and the second checks
 
--- an operand field by its slots, and what the checks make of it
-pub record FieldBack (here : Value) (slots : List Slot) (operands : Option (List ℕ)) (answer : Result (List Ready) FormError) (count : ℕ) : Type 0 where
+-- an operand field by its kinds, and what the checks make of it
+pub record FieldBack (here : Value) (kinds : List OperandKind) (operands : Option (List ℕ)) (answer : Result (List EncodedOperand) FormError) (count : ℕ) : Type 0 where
   pub forms : List Form
-  pub forms_are : forms_of slots (field_of operands) ≡ Ok forms
-  pub readies_are : (all_valued known here slots forms >>= all_ranged here) ≡ answer
-  pub count_is : all_following slots forms ≡ count
+  pub forms_are : forms_of kinds (field_of operands) ≡ Ok forms
+  pub readies_are : (all_valued known here kinds forms >>= all_ranged here) ≡ answer
+  pub count_is : all_following kinds forms ≡ count
   pub few : count ≤ 2
   pub short : length (field_of operands) ≤ 11 + 6 * count
   pub is_plain : list_all plain_byte (field_of operands) ≡ true
   pub some : (operands ≡ None) ⊎ (0 < length (field_of operands))
 
-following_few : (slot : Slot) (form : Form) → following slot form ≤ 1
-following_few slot.General (Indexed text index) = omega arith
-following_few slot.General (Symbolic text) = omega arith
-following_few slot.General _ = omega arith
+following_few : (kind : OperandKind) (form : Form) → following kind form ≤ 1
+following_few kind.General (Indexed text index) = omega arith
+following_few kind.General (Symbolic text) = omega arith
+following_few kind.General _ = omega arith
 following_few _ form = omega arith
 
-some_text : (slot : Slot) (text : List ℕ) (form : Form) → form_in slot text ≡ Ok form → 0 < length text
-some_text slot [] form e = cc e
-some_text slot (byte ∷ bytes) form e = omega arith
+some_text : (kind : OperandKind) (text : List ℕ) (form : Form) → form_in kind text ≡ Ok form → 0 < length text
+some_text kind [] form e = cc e
+some_text kind (byte ∷ bytes) form e = omega arith
 
 is_whole : (text : List ℕ) → list_all letter text ≡ true → list_all whole text ≡ true
 is_whole = all_also letter whole (λ x. and_left (whole x) (plain_byte x))
@@ -106,11 +106,11 @@ is_whole = all_also letter whole (λ x. and_left (whole x) (plain_byte x))
 is_plain : (text : List ℕ) → list_all letter text ≡ true → list_all plain_byte text ≡ true
 is_plain = all_also letter plain_byte (λ x. and_right (whole x) (plain_byte x))
 
-abbrev alone : Result Ready FormError → Result (List Ready) FormError
+abbrev alone : Result EncodedOperand FormError → Result (List EncodedOperand) FormError
 alone (Ok ready) = Ok (ready ∷ [])
 alone (Err cause) = Err cause
 
-one_ready : (answer : Result Ready FormError) → (answer >>= λ ready. Ok [] >>= λ readies. Ok (ready ∷ readies)) ≡ alone answer
+one_ready : (answer : Result EncodedOperand FormError) → (answer >>= λ ready. Ok [] >>= λ readies. Ok (ready ∷ readies)) ≡ alone answer
 one_ready (Ok ready) = refl
 one_ready (Err cause) = refl
 
@@ -118,7 +118,7 @@ module _ {here : Value} where
   no_field : FieldBack here [] None (Ok []) 0
   no_field = record { some = inl refl; forms = []; forms_are = refl; readies_are = refl; count_is = refl; few = omega arith; short = omega arith; is_plain = refl }
 
-  one_field : {s : Slot} {text : List ℕ} {answer : Result Ready FormError} {count : ℕ} → SlotBack here s text answer count →
+  one_field : {s : OperandKind} {text : List ℕ} {answer : Result EncodedOperand FormError} {count : ℕ} → SlotBack here s text answer count →
       FieldBack here (s ∷ []) (Some text) (alone answer) (count + 0)
   one_field {s = s} {text = text} {answer = answer} back =
       let some = some_text s text back.form back.form_is in
@@ -133,7 +133,7 @@ module _ {here : Value} where
         some = inr some;
       }
 
-  two_field : {a b : Slot} {first next : List ℕ} {x y : Ready} {m n : ℕ} → SlotBack here a first (Ok x) m → SlotBack here b next (Ok y) n →
+  two_field : {a b : OperandKind} {first next : List ℕ} {x y : EncodedOperand} {m n : ℕ} → SlotBack here a first (Ok x) m → SlotBack here b next (Ok y) n →
       FieldBack here (a ∷ b ∷ []) (Some (two_texts first next)) (Ok (x ∷ y ∷ [])) (m + (n + 0))
   two_field {a = a} {b = b} {first = first} {next = next} back too =
       let size = length-append first (0x2C ∷ next) in
@@ -151,7 +151,7 @@ module _ {here : Value} where
 -- ---- an instruction
 
 -- the values of an instruction's words, or its refusal
-abbrev pub values_of : Operation → Result (List Ready) FormError → Result (List Value) FormError
+abbrev pub values_of : Operation → Result (List EncodedOperand) FormError → Result (List Value) FormError
 values_of operation answer = answer >>= λ readies. Ok (Absolute (word_of (instruction_of operation readies)) ∷ second.all_following readies)
 
 pub record InstrBack (here : Value) (operation : Operation) (field : List ℕ) (answer : Result (List Value) FormError) (count : ℕ) : Type 0 where
@@ -162,19 +162,19 @@ pub record InstrBack (here : Value) (operation : Operation) (field : List ℕ) (
   pub few : length field ≤ 47
   pub is_plain : list_all plain_byte field ≡ true
 
-valued_all : (operation : Operation) (here : Value) (forms : List Form) (answer : Result (List Ready) FormError)
-    → (all_valued known here (slots_of operation) forms >>= all_ranged here) ≡ answer
+valued_all : (operation : Operation) (here : Value) (forms : List Form) (answer : Result (List EncodedOperand) FormError)
+    → (all_valued known here (kinds_of operation) forms >>= all_ranged here) ≡ answer
     → second_checks known here (Instruction operation forms) ≡ values_of operation answer
 unfolding second_checks
-valued_all operation here forms answer e = both_checks (all_valued known here (slots_of operation) forms) ∙ ap (values_of operation) e
+valued_all operation here forms answer e = both_checks (all_valued known here (kinds_of operation) forms) ∙ ap (values_of operation) e
   where
     both_checks : (values : Result (List second.Operand) FormError) →
         (values >>= λ operands. values_of operation (all_ranged here operands)) ≡ values_of operation (values >>= all_ranged here)
     both_checks (Ok operands) = refl
     both_checks (Err cause) = refl
 
-pub instr_back : (here : Value) (operation : Operation) (operands : Option (List ℕ)) (answer : Result (List Ready) FormError) (count : ℕ)
-    → FieldBack here (slots_of operation) operands answer count → InstrBack here operation (field_of operands) (values_of operation answer) (1 + count)
+pub instr_back : (here : Value) (operation : Operation) (operands : Option (List ℕ)) (answer : Result (List EncodedOperand) FormError) (count : ℕ)
+    → FieldBack here (kinds_of operation) operands answer count → InstrBack here operation (field_of operands) (values_of operation answer) (1 + count)
 unfolding first_checks
 instr_back here operation operands answer count back =
     let n = names operation in
@@ -192,7 +192,7 @@ abbrev pub AreWords : List ℕ → Type 0
 AreWords words = (k : ℕ) → slice_index words k < 65536
 
 -- the operands of an instruction at an address, with the words from its first on
-abbrev pub readies_of : Instr → ℕ → List ℕ → Result (List Ready) FormError
+abbrev pub readies_of : Instr → ℕ → List ℕ → Result (List EncodedOperand) FormError
 readies_of (Two op byte dst src) at words =
     Ok (Located src (followed src (slice_index words 1)) ∷ Located dst (followed dst (slice_index words (1 + following_words src))) ∷ [])
 readies_of (Reg op number src) at words = Ok (Located src (followed src (slice_index words 1)) ∷ Counted number ∷ [])
@@ -208,11 +208,11 @@ module _ (at : ℕ) (inside : at < 65536) (words : List ℕ) (are : AreWords wor
   here = Absolute at
 
   abbrev Comes : Instr → Type 0
-  Comes found = (n : ℕ) × (1 + n ≡ words_of found) × FieldBack here (slots_of (operation_of found)) (operands_text found at words) (readies_of found at words) n
+  Comes found = (n : ℕ) × (1 + n ≡ words_of found) × FieldBack here (kinds_of (operation_of found)) (operands_text found at words) (readies_of found at words) n
 
   abbrev RegField : RegOp → ℕ → Place → Type 0
   RegField op number src =
-      FieldBack here (reg_slots op) (Some (two_texts (operand_text src (slice_index words 1)) (number_text op number)))
+      FieldBack here (reg_kinds op) (Some (two_texts (operand_text src (slice_index words 1)) (number_text op number)))
       (Ok (Located src (followed src (slice_index words 1)) ∷ Counted number ∷ [])) (following_words src + (0 + 0))
 
   reg_field : (op : RegOp) (number : ℕ) (src : Place) → HasRoom (Reg op number src) → RegField op number src
@@ -223,9 +223,9 @@ module _ (at : ℕ) (inside : at < 65536) (words : List ℕ) (are : AreWords wor
 
   abbrev JumpField : JumpOp → ℤ → Type 0
   JumpField op disp =
-      FieldBack here (jump_slots op) (Some (target_text op (plus at 2) disp)) (if jump_wraps op (at + 2) disp then Err JumpTooFar else Ok (Displaced disp ∷ [])) 0
+      FieldBack here (jump_kinds op) (Some (target_text op (plus at 2) disp)) (if jump_wraps op (at + 2) disp then Err JumpTooFar else Ok (Displaced disp ∷ [])) 0
 
-  bit_field : (disp : ℤ) → FitsSigned w8 disp → FieldBack here (slot.Displacement ∷ []) (Some (signed_text disp)) (Ok (Displaced disp ∷ [])) 0
+  bit_field : (disp : ℤ) → FitsSigned w8 disp → FieldBack here (kind.Displacement ∷ []) (Some (signed_text disp)) (Ok (Displaced disp ∷ [])) 0
   bit_field disp fits = one_field (bit_back here disp fits)
 
   gone : (out : Bool) (disp : ℤ) → alone (displaced (if out then None else Some disp)) ≡ (if out then Err JumpTooFar else Ok (Displaced disp ∷ []))
@@ -233,9 +233,9 @@ module _ (at : ℕ) (inside : at < 65536) (words : List ℕ) (are : AreWords wor
   gone false disp = refl
 
   to_field : (disp : ℤ) → FitsSigned w8 disp
-      → FieldBack here (slot.Target ∷ []) (Some (marked_word (jump_target (plus at 2) disp))) (if leads_out (at + 2) disp then Err JumpTooFar else Ok (Displaced disp ∷ [])) 0
+      → FieldBack here (kind.Target ∷ []) (Some (hex_word (jump_target (plus at 2) disp))) (if leads_out (at + 2) disp then Err JumpTooFar else Ok (Displaced disp ∷ [])) 0
   to_field disp fits =
-      subst (λ answer. FieldBack here (slot.Target ∷ []) (Some (marked_word (jump_target (plus at 2) disp))) answer 0) (gone (leads_out (at + 2) disp) disp)
+      subst (λ answer. FieldBack here (kind.Target ∷ []) (Some (hex_word (jump_target (plus at 2) disp))) answer 0) (gone (leads_out (at + 2) disp) disp)
       (one_field (target_back at inside disp fits))
 
   jump_field : (op : JumpOp) (disp : ℤ) → FitsSigned w8 disp → JumpField op disp
@@ -248,8 +248,8 @@ module _ (at : ℕ) (inside : at < 65536) (words : List ℕ) (are : AreWords wor
   imm_field op number lt = by (has_immediate op)
     where
       by : (b : Bool) → (n : ℕ) × (1 + n ≡ 1 + one_if b)
-          × FieldBack here (if b then slot.Register ∷ slot.Immediate ∷ [] else slot.Register ∷ [])
-          (Some (if b then two_texts (register_text number) (marked_word (slice_index words 1)) else register_text number))
+          × FieldBack here (if b then kind.Register ∷ kind.Immediate ∷ [] else kind.Register ∷ [])
+          (Some (if b then two_texts (register_text number) (hex_word (slice_index words 1)) else register_text number))
           (if b then Ok (Counted number ∷ Followed (Absolute (slice_index words 1)) ∷ []) else Ok (Counted number ∷ [])) n
       by true = (1, refl, two_field (register_back here number lt) (immediate_back here _ (are 1)))
       by false = (0, refl, one_field (register_back here number lt))
@@ -258,7 +258,7 @@ module _ (at : ℕ) (inside : at < 65536) (words : List ℕ) (are : AreWords wor
   bare_field op = by (has_value op)
     where
       by : (b : Bool) → (n : ℕ) × (1 + n ≡ 1 + one_if b)
-          × FieldBack here (if b then slot.Immediate ∷ [] else []) (if b then Some (marked_word (slice_index words 1)) else None)
+          × FieldBack here (if b then kind.Immediate ∷ [] else []) (if b then Some (hex_word (slice_index words 1)) else None)
           (if b then Ok (Followed (Absolute (slice_index words 1)) ∷ []) else Ok []) n
       by true = (1, refl, one_field (immediate_back here _ (are 1)))
       by false = (0, refl, no_field)
@@ -352,14 +352,14 @@ module _ (at word : ℕ) (rest : List ℕ) where
   two_words (first ∷ rest) le = refl
 
   imm_again : (found : Instr) (number : ℕ) (operation : Operation) (b : Bool) → word_of found ≡ word → 1 + one_if b ≤ length (word ∷ rest)
-      → ((readies : List Ready) → instruction_of operation (Counted number ∷ readies) ≡ found)
+      → ((readies : List EncodedOperand) → instruction_of operation (Counted number ∷ readies) ≡ found)
       → values_of operation (if b then Ok (Counted number ∷ Followed (Absolute (slice_index (word ∷ rest) 1)) ∷ []) else Ok (Counted number ∷ []))
       ≡ Ok (map Absolute (take (1 + one_if b) (word ∷ rest)))
   imm_again found number operation false e le same = rw (same [], e) refl
   imm_again found number operation true e le same = rw (same (Followed (Absolute (slice_index (word ∷ rest) 1)) ∷ []), e) (two_words rest le)
 
   bare_again : (found : Instr) (operation : Operation) (b : Bool) → word_of found ≡ word → 1 + one_if b ≤ length (word ∷ rest)
-      → ((readies : List Ready) → instruction_of operation readies ≡ found)
+      → ((readies : List EncodedOperand) → instruction_of operation readies ≡ found)
       → values_of operation (if b then Ok (Followed (Absolute (slice_index (word ∷ rest) 1)) ∷ []) else Ok [])
       ≡ Ok (map Absolute (take (1 + one_if b) (word ∷ rest)))
   bare_again found operation false e le same = rw (same [], e) refl

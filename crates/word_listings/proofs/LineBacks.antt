@@ -5,7 +5,7 @@ use Rattle.std.specs.Prelude.{Result, Err, IfSome, map, nat_le, codes, if◌then
 use Rattle.std.specs.List.{list_all}
 use Rattle.std.proofs.lemmas.Bool.Decides.{nat_tests}
 use Rattle.source_defs.specs.Refusals.{◌>>=◌}
-use Rattle.source_defs.specs.Digits.{marked_word, marked_byte, word_digits, byte_digits}
+use Rattle.source_defs.specs.Digits.{hex_word, hex_byte, word_digits, byte_digits}
 use Rattle.source_defs.specs.ListedLines.{listed, with_operands}
 use Rattle.source_defs.specs.Expression.{Value, Absolute}
 use Rattle.source_defs.specs.Names.{is_word}
@@ -28,7 +28,7 @@ use Rattle.asm_defs.specs.declared.location.Part.TheVariants as part
 use Rattle.asm_defs.specs.Locations.{behind, value_of}
 use Rattle.asm_defs.specs.Directives.{directive}
 use Rattle.asm_defs.specs.Statements.{Statement, Instruction, Data, Byte, End, operation_statement, as_form}
-use Rattle.asm_defs.specs.FirstChecks.{Before, move, refs_in, defs_in, is_end, lists_too_many, is_bad}
+use Rattle.asm_defs.specs.FirstChecks.{EarlierLines, move, refs_in, defs_in, is_end, lists_too_many, is_bad}
 use Rattle.asm_defs.specs.SecondChecks.{Outcome, outcome}
 use Rattle.asm_defs.specs.SecondChecks as out
 use Rattle.asm_defs.specs.Modules.{title_by}
@@ -50,8 +50,8 @@ pub record IsOwn (at size : ℕ) (last : Bool) (statement : Statement) : Type 0 
   pub refs : refs_in statement ≡ []
   pub defs : defs_in statement ≡ []
   pub last_is : is_end statement ≡ last
-  pub few : (before : Before) → lists_too_many before statement ≡ false
-  pub good : (before : Before) → is_bad before None statement ≡ false
+  pub few : (before : EarlierLines) → lists_too_many before statement ≡ false
+  pub good : (before : EarlierLines) → is_bad before None statement ≡ false
   pub title_kept : (title : List ℕ) → title_by title statement ≡ title
 
 -- a line at an absolute place
@@ -126,27 +126,27 @@ module _ (at : ℕ) (inside : at < 65536) (even : at % 2 ≡ 0) (word : ℕ) (re
       (ap (λ answer. answer >>= λ skeleton. second_checks known (Absolute (at % 65536)) skeleton) b.first_is
       ∙ (ap (λ place. second_checks known (Absolute place) b.skeleton) own_place ∙ (b.second_is ∙ again at word rest found is.encoded le))))
 
-data_line : (at : ℕ) → at % 2 ≡ 0 → (word : ℕ) → word < 65536 → LineBack at (codes "DATA " ++ marked_word word) 2 false (Ok (out.Words (Absolute word ∷ [])))
+data_line : (at : ℕ) → at % 2 ≡ 0 → (word : ℕ) → word < 65536 → LineBack at (codes "DATA " ++ hex_word word) 2 false (Ok (out.Words (Absolute word ∷ [])))
 unfolding outcome directive word_digits
 data_line at even word lt =
-    line_back (codes "DATA") (Some (marked_word word)) (Data (marked_word word ∷ []))
+    line_back (codes "DATA") (Some (hex_word word)) (Data (hex_word word ∷ []))
     (number_fit _ _ (omega arith) (omega arith) refl (omega arith) (word_passes plain_byte word refl refl)) (inr (omega arith)) refl
-    (rw (one_text (marked_word word) (omega arith) (word_passes whole word refl refl)) refl) (own_data at even (marked_word word))
+    (rw (one_text (hex_word word) (omega arith) (word_passes whole word refl refl)) refl) (own_data at even (hex_word word))
     (rw (word_value known (Absolute (at % 65536)) word lt) refl)
 
-pub byte_line : (at : ℕ) (byte : ℕ) → byte < 256 → LineBack at (codes "BYTE " ++ marked_byte byte) 1 false (Ok (out.Bytes (byte ∷ [])))
+pub byte_line : (at : ℕ) (byte : ℕ) → byte < 256 → LineBack at (codes "BYTE " ++ hex_byte byte) 1 false (Ok (out.Bytes (byte ∷ [])))
 unfolding outcome directive byte_digits
 byte_line at byte lt =
     let small : nat_le byte 0xFF ≡ true = grind (arith, nat_tests, lt) in
-    line_back (codes "BYTE") (Some (marked_byte byte)) (Byte (marked_byte byte ∷ []))
+    line_back (codes "BYTE") (Some (hex_byte byte)) (Byte (hex_byte byte ∷ []))
     (number_fit _ _ (omega arith) (omega arith) refl (omega arith) (byte_passes plain_byte byte refl refl)) (inr (omega arith)) refl
-    (rw (one_text (marked_byte byte) (omega arith) (byte_passes whole byte refl refl)) refl) (own_byte at (marked_byte byte))
+    (rw (one_text (hex_byte byte) (omega arith) (byte_passes whole byte refl refl)) refl) (own_byte at (hex_byte byte))
     (rw (byte_value known (Absolute (at % 65536)) byte lt, small) refl)
 
 -- the last line, by the entry that it names, and what it comes to
 abbrev pub end_text : Option ℕ → List ℕ
 end_text None = codes "END"
-end_text (Some entry) = codes "END " ++ marked_word entry
+end_text (Some entry) = codes "END " ++ hex_word entry
 
 abbrev pub end_outcome : Option ℕ → Outcome
 end_outcome None = out.Nothing
@@ -161,9 +161,9 @@ unfolding outcome directive word_digits
 end_line at None is =
     line_back (codes "END") None (End None) (number_fit _ _ (omega arith) (omega arith) refl (omega arith) refl) (inl refl) refl refl (own_end at None) refl
 end_line at (Some entry) is =
-    line_back (codes "END") (Some (marked_word entry)) (End (Some (marked_word entry)))
+    line_back (codes "END") (Some (hex_word entry)) (End (Some (hex_word entry)))
     (number_fit _ _ (omega arith) (omega arith) refl (omega arith) (word_passes plain_byte entry refl refl)) (inr (omega arith)) refl
-    (rw (one_text (marked_word entry) (omega arith) (word_passes whole entry refl refl)) refl) (own_end at (Some (marked_word entry)))
+    (rw (one_text (hex_word entry) (omega arith) (word_passes whole entry refl refl)) refl) (own_end at (Some (hex_word entry)))
     (rw (word_value known (Absolute (at % 65536)) entry is) refl)
 
 -- ---- the line of the words from a place on

@@ -6,7 +6,7 @@ use Rattle.std.specs.Prelude.{Result, Option, map, nat_le, slice_index, codes}
 use Rattle.std.specs.List.{list_all, concat, AllByRecursion}
 use Rattle.std.proofs.lemmas.Bool.Decides.{nat_tests}
 use Rattle.source_defs.specs.Refusals.{Refusal, ◌>>=◌}
-use Rattle.source_defs.specs.Digits.{marked_word, marked_byte, word_digits}
+use Rattle.source_defs.specs.Digits.{hex_word, hex_byte, word_digits}
 use Rattle.source_defs.specs.ListedLines.{listed, listing_line}
 use Rattle.source_defs.specs.Operands.{operand_texts}
 use Rattle.source_defs.specs.Expression.{Relocatable}
@@ -20,7 +20,7 @@ use Rattle.asm_defs.specs.declared.causes.AsmCause.{AsmCause}
 use Rattle.asm_defs.specs.Directives.{directive}
 use Rattle.asm_defs.specs.Statements.{Aorg, statement_in, Statement, operation_statement}
 use Rattle.asm_defs.specs.Locations.{Line, start}
-use Rattle.asm_defs.specs.FirstChecks.{Checked, said, moved, check, line_of, names, set_to, is_end}
+use Rattle.asm_defs.specs.FirstChecks.{Checked, parsed, moved, check, line_of, names, set_to, is_end}
 use Rattle.asm_defs.specs.SecondChecks.{Nothing, outcome, Outcome}
 use Rattle.asm_defs.specs.Modules.{settle, module_by, module_behind, module_of_source}
 use Rattle.line_laws.proofs.Placing.{HoldWords}
@@ -61,31 +61,31 @@ hold_none half = record {
 
 module _ (at : ℕ) (inside : at < 65536) where
   abbrev pub aorg_text : List ℕ
-  aorg_text = codes "AORG " ++ marked_word at
+  aorg_text = codes "AORG " ++ hex_word at
 
-  aorg_fit : Fit (codes "AORG") (marked_word at)
+  aorg_fit : Fit (codes "AORG") (hex_word at)
   unfolding word_digits
   aorg_fit = number_fit _ _ (omega arith) (omega arith) refl (omega arith) (word_passes plain_byte at refl refl)
 
-  pub aorg_cut : Cut (listed aorg_text) (codes "AORG") (marked_word at)
+  pub aorg_cut : Cut (listed aorg_text) (codes "AORG") (hex_word at)
   unfolding word_digits
-  aorg_cut = cut_listed (codes "AORG") (Some (marked_word at)) aorg_fit (inr (omega arith))
+  aorg_cut = cut_listed (codes "AORG") (Some (hex_word at)) aorg_fit (inr (omega arith))
 
   aorg_clean : list_all in_line (listed aorg_text) ≡ true
-  aorg_clean = listed_in_line (codes "AORG") (Some (marked_word at)) aorg_fit
+  aorg_clean = listed_in_line (codes "AORG") (Some (hex_word at)) aorg_fit
 
   abbrev aorg_found : Checked
-  aorg_found = record { label = None; statement = Aorg (marked_word at); move = set_to (absolute_at at) }
+  aorg_found = record { label = None; statement = Aorg (hex_word at); move = set_to (absolute_at at) }
 
   abbrev aorg_line : Line
   aorg_line = line_of 1 aorg_found
 
-  pub aorg_operands : operand_texts (marked_word at) ≡ marked_word at ∷ []
+  pub aorg_operands : operand_texts (hex_word at) ≡ hex_word at ∷ []
   unfolding word_digits
-  aorg_operands = one_text (marked_word at) (omega arith) (word_passes whole at refl refl)
+  aorg_operands = one_text (hex_word at) (omega arith) (word_passes whole at refl refl)
 
   aorg_check : check [] 1 (listed aorg_text) ≡ Ok aorg_line
-  unfolding said moved statement_in directive
+  unfolding parsed moved statement_in directive
   aorg_check =
       let in_part : nat_le (at + 0) 65536 ≡ true = grind (arith, nat_tests, inside) in
       rw (aorg_cut.fields_are, aorg_cut.name_is, aorg_cut.field_is, aorg_operands) (rw (word_value known (Relocatable 0) at inside, in_part) refl)
@@ -120,7 +120,7 @@ module _ (at : ℕ) (inside : at < 65536) where
 
 abbrev pub odd_texts : List ℕ → List (List ℕ)
 odd_texts [] = []
-odd_texts (byte ∷ []) = (codes "BYTE " ++ marked_byte byte) ∷ []
+odd_texts (byte ∷ []) = (codes "BYTE " ++ hex_byte byte) ∷ []
 odd_texts (more ∷ less ∷ rest) = odd_texts rest
 
 abbrev tail_texts : List ℕ → Option ℕ → List (List ℕ)
@@ -144,7 +144,7 @@ words_fit (more ∷ less ∷ rest) = let ih = words_fit rest in omega (arith, ih
 -- the bytes behind the words: none, or one
 data Rest (bytes : List ℕ) : Type 0 where
   Even : odd_texts bytes ≡ [] → padded_words bytes ≡ words_in bytes → length bytes ≡ 2 * length (words_in bytes) → Rest bytes
-  Odd : (byte : ℕ) → byte < 256 → odd_texts bytes ≡ (codes "BYTE " ++ marked_byte byte) ∷ [] → padded_words bytes ≡ words_in bytes ++ join byte 0 ∷ []
+  Odd : (byte : ℕ) → byte < 256 → odd_texts bytes ≡ (codes "BYTE " ++ hex_byte byte) ∷ [] → padded_words bytes ≡ words_in bytes ++ join byte 0 ∷ []
       → length bytes ≡ suc (2 * length (words_in bytes)) → Rest bytes
 
 rest_of : (bytes : List ℕ) → AllBytes bytes → Rest bytes
@@ -192,9 +192,9 @@ module _ (half : ℕ) (bytes : List ℕ) (entered : Option ℕ) (all : AllBytes 
       let below : 2 * half + 2 * length words ≤ 65536 = omega (arith, fits, size) in
       let more : 2 * half + 2 * length words < 65536 = omega (arith, fits, size) in
       subst (λ odd. Ends (aorg_line (2 * half) inside ∷ []) 2 (texts_from (2 * half) 0 words ++ (odd ++ end_text entered ∷ [])) answer) (sym odd)
-      (subst (λ found. Ends (aorg_line (2 * half) inside ∷ []) 2 (texts_from (2 * half) 0 words ++ ((codes "BYTE " ++ marked_byte byte) ∷ end_text entered ∷ []))
+      (subst (λ found. Ends (aorg_line (2 * half) inside ∷ []) 2 (texts_from (2 * half) 0 words ++ ((codes "BYTE " ++ hex_byte byte) ∷ end_text entered ∷ []))
       (unless_far (first_wrapping 2 (2 * half) 0 words) (module_of_words (2 * half) found entered))) (sym padded)
-      (all_go ((codes "BYTE " ++ marked_byte byte) ∷ end_text entered ∷ []) (module_of_words (2 * half) (words ++ join byte 0 ∷ []) entered) below
+      (all_go ((codes "BYTE " ++ hex_byte byte) ∷ end_text entered ∷ []) (module_of_words (2 * half) (words ++ join byte 0 ∷ []) entered) below
       (λ before number stands. (
         λ earlier holds. closes_byte entered is_entry (2 * half + 2 * length words) byte more lt half words (omega arith) before earlier number stands holds,
         λ refusal fails. breaks_byte entered is_entry (2 * half + 2 * length words) byte more lt before number refusal stands fails,
@@ -253,11 +253,11 @@ map_both (x ∷ xs) ys = ap (λ rest. listing_line x ∷ rest) (map_both xs ys)
 -- the lines of a listing with its last
 abbrev pub listing_to : ℕ → List ℕ → List ℕ → List (List ℕ)
 listing_to at bytes end =
-    listing_line (codes "AORG " ++ marked_word at)
+    listing_line (codes "AORG " ++ hex_word at)
     ∷ (lines_from at 0 (words_in bytes) ++ (odd_byte_lines bytes ++ listing_line end ∷ []))
 
 pub listing_is : (at : ℕ) (bytes end : List ℕ)
-    → listing_to at bytes end ≡ map listing_line ((codes "AORG " ++ marked_word at) ∷ (texts_from at 0 (words_in bytes) ++ (odd_texts bytes ++ end ∷ [])))
+    → listing_to at bytes end ≡ map listing_line ((codes "AORG " ++ hex_word at) ∷ (texts_from at 0 (words_in bytes) ++ (odd_texts bytes ++ end ∷ [])))
 listing_is at bytes end =
     let tail : odd_byte_lines bytes ++ listing_line end ∷ [] ≡ map listing_line (odd_texts bytes ++ end ∷ []) =
     ap (λ lines. lines ++ listing_line end ∷ []) (odd_are bytes) ∙ map_both (odd_texts bytes) (end ∷ []) in
@@ -266,7 +266,7 @@ listing_is at bytes end =
     ap (λ lines. lines ++ (odd_byte_lines bytes ++ listing_line end ∷ [])) (lines_are (words_in bytes) at 0)
     ∙ (ap (λ rest. map listing_line (texts_from at 0 (words_in bytes)) ++ rest) tail
     ∙ map_both (texts_from at 0 (words_in bytes)) (odd_texts bytes ++ end ∷ [])) in
-    ap (λ lines. listing_line (codes "AORG " ++ marked_word at) ∷ lines) body
+    ap (λ lines. listing_line (codes "AORG " ++ hex_word at) ∷ lines) body
 
 pub behind_laid : (all : List Line) (come : Result Module (Refusal AsmCause)) → names all ≡ predefined
     → (settled (settle predefined) all >>= λ found. Ok (module_by all found)) ≡ come → module_behind all ≡ come
@@ -338,10 +338,10 @@ own_origin : (at : ℕ) (inside : at < 65536) → OwnLine false (aorg_text at in
 unfolding directive
 own_origin at inside = record {
   name = codes "AORG";
-  field = marked_word at;
+  field = hex_word at;
   cut = aorg_cut at inside;
   no_copy = refl;
-  statement = Aorg (marked_word at);
+  statement = Aorg (hex_word at);
   says = rw (aorg_operands at inside) refl;
   last_is = refl;
 }

@@ -2,7 +2,7 @@
 use Rattle.std.proofs.Common.{◌≡◌, ℕ, zero, suc, ◌+◌, ◌-◌, ◌*◌, ◌%◌, ◌≤◌, List, [], ◌∷◌, ◌++◌, length, length-append, refl, arith}
 use Rattle.std.specs.Prelude.{codes}
 use Rattle.std.specs.List.{concat}
-use Rattle.source_defs.specs.Digits.{marked_word, word_digits, byte_digits}
+use Rattle.source_defs.specs.Digits.{hex_word, word_digits, byte_digits}
 use Rattle.source_defs.specs.ListedLines.{listing_line}
 use Rattle.instruction_defs.specs.Printed.{printed}
 use Rattle.word_listings.specs.Listing.{memory_listing, words_in, lines_from, odd_byte_lines}
@@ -44,7 +44,7 @@ odd_short [] = omega arith
 odd_short (byte ∷ []) = omega arith
 odd_short (more ∷ less ∷ rest) = odd_short rest
 
-first_short : (at : ℕ) → length (listing_line (codes "AORG " ++ marked_word at)) ≡ 18
+first_short : (at : ℕ) → length (listing_line (codes "AORG " ++ hex_word at)) ≡ 18
 unfolding word_digits
 first_short at = refl
 
@@ -59,7 +59,7 @@ word_listings_are_short at bytes stands =
     let first = first_short at in
     let last = concat_both (odd_byte_lines bytes) (listing_line (codes "END") ∷ []) in
     let rest = concat_both (lines_from at 0 (words_in bytes)) (odd_byte_lines bytes ++ listing_line (codes "END") ∷ []) in
-    let all = length-append (listing_line (codes "AORG " ++ marked_word at)) (concat (lines_from at 0 (words_in bytes) ++ (odd_byte_lines bytes ++ listing_line (codes "END") ∷ []))) in
+    let all = length-append (listing_line (codes "AORG " ++ hex_word at)) (concat (lines_from at 0 (words_in bytes) ++ (odd_byte_lines bytes ++ listing_line (codes "END") ∷ []))) in
     omega (arith, words, odd, first, last, rest, all)
 
 -- an entry behind END has six bytes
@@ -74,10 +74,10 @@ entered_size at bytes entry =
     let one = length-append end [] in
     omega (arith, last, rest, one)) in
     let plain = size (listing_line (codes "END")) in
-    let entered = size (listing_line (codes "END " ++ marked_word entry)) in
-    let first = listing_line (codes "AORG " ++ marked_word at) in
+    let entered = size (listing_line (codes "END " ++ hex_word entry)) in
+    let first = listing_line (codes "AORG " ++ hex_word at) in
     let all = length-append first
     (concat (lines_from at 0 (words_in bytes) ++ (odd_byte_lines bytes ++ listing_line (codes "END") ∷ []))) in
     let whole = length-append first (concat
-    (lines_from at 0 (words_in bytes) ++ (odd_byte_lines bytes ++ listing_line (codes "END " ++ marked_word entry) ∷ []))) in
+    (lines_from at 0 (words_in bytes) ++ (odd_byte_lines bytes ++ listing_line (codes "END " ++ hex_word entry) ∷ []))) in
     omega (arith, plain, entered, all, whole)

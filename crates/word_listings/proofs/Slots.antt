@@ -5,7 +5,7 @@ use Rattle.std.specs.Fmt.{decimal, digits}
 use Rattle.std.proofs.lemmas.Bool.{agree_below, agree_below_at}
 use mathlib.Core.Path.{fun_ext}
 use Rattle.source_defs.specs.declared.causes.ExprError.{ExprError}
-use Rattle.source_defs.specs.Digits.{marked_word, marked_byte, word_digits}
+use Rattle.source_defs.specs.Digits.{hex_word, hex_byte, word_digits}
 use Rattle.source_defs.specs.Tokens.{token_at, tokens_from}
 use Rattle.source_defs.specs.Expression.{Value, Absolute, expression, negated}
 use Rattle.source_defs.specs.Symbols.{look_up, predefined, registers}
@@ -28,13 +28,13 @@ use Rattle.tms_defs.specs.forms.Jump.{jump_target}
 use Rattle.tms_defs.specs.Instructions.{IsPlace}
 use Rattle.tms_defs.specs.declared.instruction.Place.{Place}
 use Rattle.instruction_defs.specs.declared.causes.FormError.{FormError}
-use Rattle.instruction_defs.specs.declared.slot.Slot.{Slot}
-use Rattle.instruction_defs.specs.declared.slot.Slot.TheVariants.{General, Register, Count, Immediate, Target, Displacement}
+use Rattle.instruction_defs.specs.declared.operand_kind.OperandKind.{OperandKind}
+use Rattle.instruction_defs.specs.declared.operand_kind.OperandKind.TheVariants.{General, Register, Count, Immediate, Target, Displacement}
 use Rattle.instruction_defs.specs.Forms.{Form, Plain, Indirect, Increment, Symbolic, Indexed, form_of, is_plus}
 use Rattle.instruction_defs.specs.Operands.{following_words}
 use Rattle.instruction_defs.specs.FirstChecks.{form_in, following, is_mode_sign}
 use Rattle.instruction_defs.specs.SecondChecks.{Operand, InRegister, ByRegister, AutoIncrement, AtAddress, AtIndexed, Number, Bit, To}
-use Rattle.instruction_defs.specs.SecondChecks.{Following, Ready, Located, Counted, Displaced, Followed, valued, ranged, displaced}
+use Rattle.instruction_defs.specs.SecondChecks.{Following, EncodedOperand, Located, Counted, Displaced, Followed, valued, ranged, displaced}
 use Rattle.instruction_defs.specs.SecondChecks.{displacement_to, is_displacement}
 use Rattle.line_laws.proofs.Small.{both}
 use Rattle.listed_lines.proofs.Scans.{all_both, not_true, unquoted}
@@ -77,10 +77,10 @@ module _ (look : List ℕ → Option Value) (here : Value) where
       (agree_below_at (λ n. comes_to (expression look here (0x2D ∷ decimal n)) (negated n)) (λ n. true) 129 n refl
       (omega (arith, le)))
 
-  pub word_value : (n : ℕ) → n < 65536 → expression look here (marked_word n) ≡ Ok (Absolute n)
+  pub word_value : (n : ℕ) → n < 65536 → expression look here (hex_word n) ≡ Ok (Absolute n)
   word_value n lt = rw (word_tokens n lt) refl
 
-  pub byte_value : (n : ℕ) → n < 256 → expression look here (marked_byte n) ≡ Ok (Absolute n)
+  pub byte_value : (n : ℕ) → n < 256 → expression look here (hex_byte n) ≡ Ok (Absolute n)
   byte_value n lt = rw (byte_tokens n lt) refl
 
 pub register_value : (here : Value) (n : ℕ) → n < 16 → expression known here (register_text n) ≡ Ok (Absolute n)
@@ -100,19 +100,19 @@ abbrev letters : List ℕ → Bool
 letters text = list_all letter text
 
 -- an operand's text, by what the first checks find in it and the second make of it
-pub record SlotBack (here : Value) (slot : Slot) (text : List ℕ) (answer : Result Ready FormError) (count : ℕ) : Type 0 where
+pub record SlotBack (here : Value) (kind : OperandKind) (text : List ℕ) (answer : Result EncodedOperand FormError) (count : ℕ) : Type 0 where
   pub form : Form
   pub operand : Operand
-  pub form_is : form_in slot text ≡ Ok form
-  pub value_is : valued known here slot form ≡ Ok operand
+  pub form_is : form_in kind text ≡ Ok form
+  pub value_is : valued known here kind form ≡ Ok operand
   pub range_is : ranged here operand ≡ answer
-  pub count_is : following slot form ≡ count
+  pub count_is : following kind form ≡ count
   pub short : length text ≤ 5 + 6 * count
   pub of_letters : list_all letter text ≡ true
 
-back : {here : Value} {slot : Slot} {text : List ℕ} {answer : Result Ready FormError} {count : ℕ} (form : Form) (operand : Operand) →
-    form_in slot text ≡ Ok form → valued known here slot form ≡ Ok operand → ranged here operand ≡ answer →
-    following slot form ≡ count → length text ≤ 5 + 6 * count → letters text ≡ true → SlotBack here slot text answer count
+back : {here : Value} {kind : OperandKind} {text : List ℕ} {answer : Result EncodedOperand FormError} {count : ℕ} (form : Form) (operand : Operand) →
+    form_in kind text ≡ Ok form → valued known here kind form ≡ Ok operand → ranged here operand ≡ answer →
+    following kind form ≡ count → length text ≤ 5 + 6 * count → letters text ≡ true → SlotBack here kind text answer count
 back form operand a b c d e f =
     record { form = form; operand = operand; form_is = a; value_is = b; range_is = c; count_is = d; short = e; of_letters = f }
 
@@ -129,7 +129,7 @@ register_letters : (n : ℕ) → n < 16 → letters (register_text n) ≡ true
 unfolding digits
 register_letters n lt = register_passes letters n lt refl
 
-word_letters : (w : ℕ) → letters (marked_word w) ≡ true
+word_letters : (w : ℕ) → letters (hex_word w) ≡ true
 word_letters w = word_passes letter w refl refl
 
 fits : (n : ℕ) → n < 16 → nat_lt n 16 ≡ true
@@ -185,10 +185,10 @@ module _ (here : Value) where
       (rw (decimal_value known here n (omega (arith, lt))) refl) (rw (fits n lt) refl) refl (omega (arith, text.short))
       text.of_letters
 
-  pub immediate_back : (w : ℕ) → w < 65536 → SlotBack here Immediate (marked_word w) (Ok (Followed (Absolute w))) 1
+  pub immediate_back : (w : ℕ) → w < 65536 → SlotBack here Immediate (hex_word w) (Ok (Followed (Absolute w))) 1
   unfolding word_digits
   immediate_back w lt =
-      back (Plain (marked_word w)) (Following (Absolute w)) refl (rw (word_value known here w lt) refl) refl refl (omega arith)
+      back (Plain (hex_word w)) (Following (Absolute w)) refl (rw (word_value known here w lt) refl) refl refl (omega arith)
       (word_letters w)
 
   pub bit_back : (disp : ℤ) → FitsSigned w8 disp → SlotBack here Displacement (signed_text disp) (Ok (Displaced disp)) 0
@@ -224,29 +224,29 @@ increment_form text =
     let last : last_place (text ++ codes "+") ≡ length text = omega (arith, length-append text (codes "+")) in
     rw (last, get_or_push text 0x2B 0 (length text) refl, take-append_seam text (codes "+")) refl
 
-symbolic_form : (w : ℕ) → form_of (0x40 ∷ marked_word w) ≡ Symbolic (marked_word w)
+symbolic_form : (w : ℕ) → form_of (0x40 ∷ hex_word w) ≡ Symbolic (hex_word w)
 unfolding form_of
 symbolic_form w = rw (none_closed w) refl
 
 abbrev indexed_text : ℕ → ℕ → List ℕ
-indexed_text w r = marked_word w ++ (0x28 ∷ (register_text r ++ codes ")"))
+indexed_text w r = hex_word w ++ (0x28 ∷ (register_text r ++ codes ")"))
 
-indexed_passes : (p : ℕ → Bool) (w r : ℕ) → list_all p (marked_word w) ≡ true → list_all p (register_text r) ≡ true →
+indexed_passes : (p : ℕ → Bool) (w r : ℕ) → list_all p (hex_word w) ≡ true → list_all p (register_text r) ≡ true →
     (p 0x28 && p 0x29) ≡ true → list_all p (indexed_text w r) ≡ true
 indexed_passes p w r e f g =
     let parens = both (p 0x28) (p 0x29) g in
-    all_both p (marked_word w) (0x28 ∷ (register_text r ++ codes ")")) e
+    all_both p (hex_word w) (0x28 ∷ (register_text r ++ codes ")")) e
     (rw parens.0 (all_both p (register_text r) (codes ")") f (rw parens.1 refl)))
 
-indexed_form : (w r : ℕ) → r < 16 → form_of (0x40 ∷ indexed_text w r) ≡ Indexed (marked_word w) (register_text r)
+indexed_form : (w r : ℕ) → r < 16 → form_of (0x40 ∷ indexed_text w r) ≡ Indexed (hex_word w) (register_text r)
 unfolding form_of digits
 indexed_form w r lt =
     let quotes = indexed_passes unquoted w r (word_passes unquoted w refl refl) (register_passes (list_all unquoted) r lt refl) refl in
     let own = word_passes (λ byte. not (byte == 0x28)) w refl refl in
     rw (
-      has_is (marked_word w) (register_text r) quotes own,
-      outer_is (marked_word w) (register_text r) quotes own,
-      inner_is (marked_word w) (register_text r) quotes own,
+      has_is (hex_word w) (register_text r) quotes own,
+      outer_is (hex_word w) (register_text r) quotes own,
+      inner_is (hex_word w) (register_text r) quotes own,
     ) refl
 
 module _ (here : Value) (w : ℕ) (word : w < 65536) where
@@ -262,13 +262,13 @@ module _ (here : Value) (w : ℕ) (word : w < 65536) where
       back (Indirect (register_text r)) (ByRegister r) (ap Ok (indirect_form r lt)) (rw (register_value here r lt) refl)
       (rw (fits r lt) refl) refl (omega (arith, register_short r lt)) (register_letters r lt)
   place_by (suc (suc zero)) zero a lt =
-      back (Symbolic (marked_word w)) (AtAddress (Absolute w)) (ap Ok (symbolic_form w)) (rw (word_value known here w word) refl)
+      back (Symbolic (hex_word w)) (AtAddress (Absolute w)) (ap Ok (symbolic_form w)) (rw (word_value known here w word) refl)
       refl refl (omega arith) (word_letters w)
   place_by (suc (suc zero)) (suc r) a lt =
       let above : nat_lt 0 (suc r) ≡ true = grind (arith, nat_tests) in
       let no : (suc r == 0) ≡ false = grind (arith, nat_tests) in
       rw no
-      (back (Indexed (marked_word w) (register_text (suc r))) (AtIndexed (Absolute w) (suc r)) (ap Ok (indexed_form w (suc r) lt))
+      (back (Indexed (hex_word w) (register_text (suc r))) (AtIndexed (Absolute w) (suc r)) (ap Ok (indexed_form w (suc r) lt))
       (rw (word_value known here w word, register_value here (suc r) lt) refl) (rw (above, fits (suc r) lt) refl) refl
       (omega (arith, register_short (suc r) lt, length-append (register_text (suc r)) (codes ")")))
       (indexed_passes letter w (suc r) (word_letters w) (register_letters (suc r) lt) refl))
@@ -356,9 +356,9 @@ module _ (at : ℕ) (lt : at < 65536) where
       let few : n < 128 = omega (arith, ints, is) in
       ap (λ bytes. displacement_to (at + 2) (plus (plus at 2) bytes)) (two_backward n few) ∙ backward_is n few _ refl
 
-  pub target_back : (disp : ℤ) → FitsSigned w8 disp → SlotBack (Absolute at) Target (marked_word (jump_target (plus at 2) disp)) (displaced (reached (at + 2) disp)) 0
+  pub target_back : (disp : ℤ) → FitsSigned w8 disp → SlotBack (Absolute at) Target (hex_word (jump_target (plus at 2) disp)) (displaced (reached (at + 2) disp)) 0
   unfolding word_digits
   target_back disp is =
-      back (Plain (marked_word (jump_target (plus at 2) disp))) (To (jump_target (plus at 2) disp)) refl
+      back (Plain (hex_word (jump_target (plus at 2) disp))) (To (jump_target (plus at 2) disp)) refl
       (rw (word_value known (Absolute at) (jump_target (plus at 2) disp) (omega arith)) refl) (ap displaced (target_is disp is))
       refl (omega arith) (word_letters (jump_target (plus at 2) disp))

@@ -3,7 +3,7 @@ use Rattle.std.specs.Prelude.{◌≡◌, ℕ, ◌+◌, ◌*◌, ◌%◌, ◌<◌
 use Rattle.std.specs.Prelude.{Option, Some, None, Result, Ok}
 use Rattle.std.specs.List.{concat}
 use Rattle.source_defs.specs.Refusals.{Refusal}
-use Rattle.source_defs.specs.Digits.{marked_word}
+use Rattle.source_defs.specs.Digits.{hex_word}
 use Rattle.source_defs.specs.ListedLines.{listing_line}
 use Rattle.tms_defs.specs.Bytes.{HoldsBytes}
 use Rattle.object_defs.specs.Modules.{Module}
@@ -43,9 +43,9 @@ InnerListingsComeBack =
 -- the listing with an entry behind END
 abbrev pub entered_listing : ℕ → List ℕ → ℕ → List (List ℕ)
 entered_listing at bytes entry =
-    listing_line (codes "AORG " ++ marked_word at)
+    listing_line (codes "AORG " ++ hex_word at)
     ∷ (lines_from at 0 (words_in bytes)
-    ++ (odd_byte_lines bytes ++ listing_line (codes "END " ++ marked_word entry) ∷ []))
+    ++ (odd_byte_lines bytes ++ listing_line (codes "END " ++ hex_word entry) ∷ []))
 
 -- The law, which is proved: where its END names an entry by its address, the module has that entry, and is the same
 -- otherwise.

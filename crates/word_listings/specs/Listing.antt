@@ -1,6 +1,6 @@
 -- The listing of memory, as assembler source.
 use Rattle.std.specs.Prelude.{ℕ, zero, suc, ◌+◌, ◌-◌, List, [], ◌∷◌, ◌++◌, codes}
-use Rattle.source_defs.specs.Digits.{marked_word, marked_byte}
+use Rattle.source_defs.specs.Digits.{hex_word, hex_byte}
 pub use Rattle.source_defs.specs.ListedLines.{listing_line}
 use Rattle.tms_defs.specs.Words.{join}
 use Rattle.instruction_defs.specs.Printed.{printed}
@@ -23,11 +23,11 @@ lines_from at zero (word ∷ words) =
 -- Profile: a last odd byte is a BYTE line.
 abbrev pub odd_byte_lines : List ℕ → List (List ℕ)
 odd_byte_lines [] = []
-odd_byte_lines (byte ∷ []) = listing_line (codes "BYTE " ++ marked_byte byte) ∷ []
+odd_byte_lines (byte ∷ []) = listing_line (codes "BYTE " ++ hex_byte byte) ∷ []
 odd_byte_lines (more ∷ less ∷ rest) = odd_byte_lines rest
 
 -- Profile: a listing begins with the address of the first byte and ends with END.
 unfoldable pub memory_listing : ℕ → List ℕ → List (List ℕ)
 memory_listing at bytes =
-    listing_line (codes "AORG " ++ marked_word at)
+    listing_line (codes "AORG " ++ hex_word at)
     ∷ (lines_from at 0 (words_in bytes) ++ (odd_byte_lines bytes ++ listing_line (codes "END") ∷ []))

@@ -1,7 +1,7 @@
 -- The program with files: what its commands read of the input and of a shelf, report and leave.
 use Rattle.std.specs.Prelude.{◌≡◌, ◌⊎◌, ℕ, ◌+◌, ◌*◌, ◌≤◌, nat_lt, MatchBool, List, length}
 use Rattle.std.specs.Prelude.{Option, Some, None}
-use Rattle.count_defs.specs.Counts.{raised, Rose}
+use Rattle.count_defs.specs.Counts.{saturating_sum, Rose}
 use Rattle.bench_io.specs.Stream.{SourceState}
 use Rattle.bench_io.specs.ReadAll.{ReadWhole}
 use Rattle.report_defs.specs.declared.fault.Fault.TheVariants.{TooLarge}
@@ -13,7 +13,7 @@ use Rattle.shelf_defs.specs.Files.{Files}
 use Rattle.shelf_defs.specs.Copied.{most_bytes, most_copies}
 use Rattle.shelf_defs.specs.Questions.{Question}
 use Rattle.bench_shelf.specs.States.{ShelfState}
-use Rattle.bench_shelf.specs.Causes.{TookNoMore}
+use Rattle.bench_shelf.specs.Causes.{ReadWithinLimit}
 use Rattle.bench_shelf.specs.Dialogue.{CopyDialogue}
 use Rattle.file_commands.specs.Reading.{LinkDialogue}
 use Rattle.file_commands.specs.Reported.{Failed, CopyReported, LinkReported}
@@ -69,9 +69,9 @@ ReadsFirst before after =
 -- have: else it is reported as too large. `asm` opens none before it has taken the input whole.
 abbrev pub Leaves : ProgramCommand → Reading → Reading → Type 0
 Leaves (OverFiles AsmFiles) before after =
-    TookWithin before.input after.input × TookNoMore most_bytes before.shelf after.shelf × ReadsFirst before after
+    TookWithin before.input after.input × ReadWithinLimit most_bytes before.shelf after.shelf × ReadsFirst before after
 Leaves (OverFiles (LinkFiles names)) before after =
-    (after.input ≡ before.input) × TookNoMore largest_input before.shelf after.shelf
+    (after.input ≡ before.input) × ReadWithinLimit largest_input before.shelf after.shelf
     × (questions : List Question) × LinkDialogue before.shelf after.shelf names questions
 Leaves (OverFiles (Watch limit items)) before after =
     TookWithin before.input after.input × (after.shelf ≡ before.shelf)
@@ -123,10 +123,10 @@ file_program =
 abbrev pub TakesOfShelf : Option ProgramCommand → ShelfState → ShelfState → Type 0
 TakesOfShelf None before after = after ≡ before
 TakesOfShelf (Some (OverFiles AsmFiles)) before after =
-    (after.opens ≤ raised before.opens most_copies)
-    × (after.source.taken ≤ raised before.source.taken ((most_bytes + 1) * most_copies))
+    (after.opens ≤ saturating_sum before.opens most_copies)
+    × (after.source.taken ≤ saturating_sum before.source.taken ((most_bytes + 1) * most_copies))
 TakesOfShelf (Some (OverFiles (LinkFiles names))) before after =
-    (after.opens ≤ raised before.opens (length names))
-    × (after.source.taken ≤ raised before.source.taken ((largest_input + 1) * length names))
+    (after.opens ≤ saturating_sum before.opens (length names))
+    × (after.source.taken ≤ saturating_sum before.source.taken ((largest_input + 1) * length names))
 TakesOfShelf (Some (OverFiles (Watch limit items))) before after = after ≡ before
 TakesOfShelf (Some (Plain command)) before after = after ≡ before

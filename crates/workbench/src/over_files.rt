@@ -1,6 +1,6 @@
 //! The commands that only the program with files has.
 
-ghost use Rattle.bench_shelf.specs.Causes.{Later};
+ghost use Rattle.bench_shelf.specs.Causes.{CountsGrew};
 ghost use Rattle.reports.specs.Answers.{answer};
 ghost use Rattle.workbench.specs.Answered.{AnswersWith};
 ghost use Rattle.workbench.specs.Asked.{defined_over};
@@ -11,7 +11,7 @@ use crate::watch::watch;
 use bench_io::Source;
 use bench_shelf::Shelf;
 use file_commands::link_files;
-use reports::{Report, Unreported};
+use reports::{CommandError, Report};
 use std::alloc::Global;
 
 /// What such a command reports on what it reads of the input and of the shelf, or why it reports nothing.
@@ -20,11 +20,11 @@ pub(crate) fn report_over<S: Source, F: Shelf>(
     command: &FileCommand,
     input: &mut S,
     shelf: &mut F,
-) -> Result<Report, Unreported>
+) -> Result<Report, CommandError>
     ensures answers { AnswersWith (defined_over command.now)
         (record { input = S.state input.old; shelf = F.shelf shelf.old })
         (record { input = S.state input.new; shelf = F.shelf shelf.new }) (answer result) }
-    ensures later { Later (F.shelf shelf.old) (F.shelf shelf.new) }
+    ensures later { CountsGrew (F.shelf shelf.old) (F.shelf shelf.new) }
 {
     match command {
         FileCommand::AsmFiles => asm(alloc, input, shelf),

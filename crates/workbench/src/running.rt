@@ -1,6 +1,6 @@
 //! The program, over any input, shelf and outputs.
 
-ghost use Rattle.bench_shelf.specs.Causes.{Later};
+ghost use Rattle.bench_shelf.specs.Causes.{CountsGrew};
 ghost use Rattle.report_defs.specs.ProgramCommands.{program_command};
 ghost use Rattle.reports.specs.Run.{EndsBy};
 ghost use Rattle.workbench.specs.FileProgram.{TakesOfShelf, file_program};
@@ -48,7 +48,7 @@ pub fn bench_with<S: Source, F: Shelf, O: Sink, E: Sink>(
       };
     }) result }
     ensures shelf { TakesOfShelf (program_command words.now) (F.shelf shelf.old) (F.shelf shelf.new) }
-    ensures later { Later (F.shelf shelf.old) (F.shelf shelf.new) }
+    ensures later { CountsGrew (F.shelf shelf.old) (F.shelf shelf.new) }
 {
     match read_program_command(words) {
         Some(ProgramCommand::OverFiles(command)) => {

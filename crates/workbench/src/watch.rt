@@ -11,7 +11,7 @@ ghost use Rattle.workbench.specs.Answered.{AnswersWith};
 use bench_commands::load_program;
 use bench_io::{Source, read_all};
 use report_defs::LARGEST_INPUT;
-use reports::{Report, Unreported};
+use reports::{CommandError, Report};
 use std::alloc::Global;
 use watch_command::{WatchedItems, watch_program};
 
@@ -22,7 +22,7 @@ pub(crate) fn watch<S: Source>(
     limit: u32,
     items: &WatchedItems,
     input: &mut S,
-) -> Result<Report, Unreported>
+) -> Result<Report, CommandError>
     ensures { (shelf : ShelfState) → AnswersWith (spec.Watch limit items.now)
         (record { input = S.state input.old; shelf = shelf })
         (record { input = S.state input.new; shelf = shelf }) (answer result) }
@@ -37,7 +37,7 @@ fn watch_source(
     limit: u32,
     items: &WatchedItems,
     source: &[u8],
-) -> Result<Report, Unreported>
+) -> Result<Report, CommandError>
     requires { length source.now ≤ largest_input }
     ensures { Reported (whole.WatchReport limit items.now source.now) WantsMemory (answer result) }
 {

@@ -10,11 +10,11 @@ ghost use Rattle.reports.specs.Answers.{answer, WantsMemory, Reported};
 use asm_core::{assemble, modules_have_texts};
 use object_tags::{Module, write_module};
 use report_defs::Command;
-use reports::{Report, Unreported};
+use reports::{CommandError, Report};
 use std::alloc::{AllocError, Global};
 
 /// The object text of the module of an assembler source, or its first refused line.
-pub(crate) fn asm(alloc: Global, input: &[u8]) -> Result<Report, Unreported>
+pub(crate) fn asm(alloc: Global, input: &[u8]) -> Result<Report, CommandError>
     requires { length input.now ≤ spec.largest_input }
     ensures { Reported (spec.AcceptedReport Command.Asm input.now) WantsMemory (answer result) }
 {

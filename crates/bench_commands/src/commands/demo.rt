@@ -10,13 +10,13 @@ use crate::commands::program::{load_program, run_session};
 use command_words::MOST_STEPS;
 use demo_program::{demo_text, summarize};
 use report_defs::Command;
-use reports::{Report, Unreported};
+use reports::{CommandError, Report};
 use std::alloc::Global;
 use std::marker::Brand;
 use std::sync::ledger::Blank;
 
 /// The summary of the program that is made from a number, which runs from its entry; or why the program is refused.
-pub(crate) fn demo(alloc: Global, number: u32) -> Result<Report, Unreported>
+pub(crate) fn demo(alloc: Global, number: u32) -> Result<Report, CommandError>
     requires { number ≤ most_blocks }
     ensures { Reported (spec.AcceptedReport (Command.Demo number) []) WantsMemory (answer result) }
 {
@@ -25,7 +25,7 @@ pub(crate) fn demo(alloc: Global, number: u32) -> Result<Report, Unreported>
 }
 
 /// The summary of the program of a source that was made from a number, or why it is not run.
-fn run_source(alloc: Global, number: u32, source: &[u8]) -> Result<Report, Unreported>
+fn run_source(alloc: Global, number: u32, source: &[u8]) -> Result<Report, CommandError>
     requires { length source.now ≤ spec.largest_input }
     ensures { Reported (spec.ProgramReport (spec.ReportsProgram (spec.demo_lines number) most_steps)
         (program_of_source source.now)) WantsMemory (answer result) }

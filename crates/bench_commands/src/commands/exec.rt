@@ -15,7 +15,7 @@ use console_defs::RunEnd;
 use link_loader::Linked;
 use machine_load::load_machine;
 use report_defs::Command;
-use reports::{Report, Unreported};
+use reports::{CommandError, Report};
 use std::alloc::{AllocError, Global};
 use std::marker::Brand;
 use std::sync::ledger::{Blank, Ledger};
@@ -28,7 +28,7 @@ const WORKSPACE: u16 = 0x83E0;
 const ALL_GROMS: usize = 65536;
 
 /// The report of up to `limit` instructions of the linked memory of an object text, from its entry on.
-pub(crate) fn exec(alloc: Global, limit: u32, input: &[u8]) -> Result<Report, Unreported>
+pub(crate) fn exec(alloc: Global, limit: u32, input: &[u8]) -> Result<Report, CommandError>
     requires { length input.now ≤ spec.largest_input }
     ensures { Reported (spec.AcceptedReport (Command.Exec limit) input.now) WantsMemory (answer result) }
 {
@@ -40,7 +40,7 @@ pub(crate) fn exec(alloc: Global, limit: u32, input: &[u8]) -> Result<Report, Un
 ///
 /// # Errors
 /// `Refused` has the line of a text that is refused, and `Memory` means out of memory.
-pub fn start_input(alloc: Global, input: &[u8]) -> Result<Machine, Unreported>
+pub fn start_input(alloc: Global, input: &[u8]) -> Result<Machine, CommandError>
     requires { length input.now ≤ spec.largest_input }
     ensures { StartsInput result (linked_input input.now) }
 {
@@ -49,7 +49,7 @@ pub fn start_input(alloc: Global, input: &[u8]) -> Result<Machine, Unreported>
 }
 
 /// The report of up to `limit` instructions of linked memory, from its entry on.
-fn execute(alloc: Global, limit: u32, linked: &Linked) -> Result<Report, Unreported>
+fn execute(alloc: Global, limit: u32, linked: &Linked) -> Result<Report, CommandError>
     ensures { Reported (spec.ReportsExecution limit (defined_linked linked.now)) WantsMemory (answer result) }
 {
     let mut machine = start(alloc, linked)?;

@@ -8,16 +8,16 @@ ghost use Rattle.reports.specs.Answers.{answer, WantsMemory, Reported};
 
 use gpl_forms::GromImage;
 use report_defs::{Command, Fault};
-use reports::{Report, Unreported};
+use reports::{CommandError, Report};
 use std::alloc::{AllocError, Global};
 
 /// The listing of bytes of GROM that stand from an address on, unless they run past >FFFF.
-pub(crate) fn gdis(alloc: Global, at: u16, input: &[u8]) -> Result<Report, Unreported>
+pub(crate) fn gdis(alloc: Global, at: u16, input: &[u8]) -> Result<Report, CommandError>
     requires { length input.now ≤ spec.largest_input }
     ensures { Reported (spec.AcceptedReport (Command.Gdis at) input.now) WantsMemory (answer result) }
 {
     if usize::from(at) + input.len() > 65536 {
-        return Err(Unreported::Fault(Fault::PastEnd));
+        return Err(CommandError::Fault(Fault::PastEnd));
     }
     Ok(Report::Grom(image_of(alloc, at, input)?))
 }

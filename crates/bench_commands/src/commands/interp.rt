@@ -4,11 +4,11 @@ ghost use Rattle.report_defs.specs.Report as spec;
 ghost use Rattle.reports.specs.Answers.{answer, WantsMemory, Reported};
 
 use gpl_run::build_interp;
-use reports::{Report, Unreported};
+use reports::{CommandError, Report};
 use std::alloc::Global;
 
 /// The listing of the interpreter's memory.
-pub(crate) fn interp(alloc: Global) -> Result<Report, Unreported>
+pub(crate) fn interp(alloc: Global) -> Result<Report, CommandError>
     ensures { Reported spec.ReportsInterpreter WantsMemory (answer result) }
 {
     Ok(Report::Memory(build_interp(alloc)?))

@@ -6,11 +6,11 @@ ghost use Rattle.reports.specs.Answers.{answer, WantsMemory, Reported};
 
 use crate::object_input::link_input;
 use report_defs::Command;
-use reports::{Report, Unreported};
+use reports::{CommandError, Report};
 use std::alloc::Global;
 
 /// The listing of the linked memory of an object text, or the line that says why there is none.
-pub(crate) fn link(alloc: Global, input: &[u8]) -> Result<Report, Unreported>
+pub(crate) fn link(alloc: Global, input: &[u8]) -> Result<Report, CommandError>
     requires { length input.now ≤ spec.largest_input }
     ensures { Reported (spec.AcceptedReport Command.Link input.now) WantsMemory (answer result) }
 {

@@ -11,7 +11,7 @@ use gpl_asm::gpl_assemble;
 use gpl_forms::GromImage;
 use gpl_run::{Session, build_interp, load_interpreter};
 use report_defs::Fault;
-use reports::Unreported;
+use reports::CommandError;
 use std::alloc::Global;
 use std::sync::ledger::{Blank, Ledger};
 use tms_step::{Machine, Steps};
@@ -31,7 +31,7 @@ pub struct LoadedProgram {
 /// # Errors
 /// `Refused` comes where the source is refused, and `Fault` where it names no entry; `Memory` is want of memory.
 /// `ReadFault` never comes.
-pub fn load_program(alloc: Global, input: &[u8]) -> Result<LoadedProgram, Unreported>
+pub fn load_program(alloc: Global, input: &[u8]) -> Result<LoadedProgram, CommandError>
     requires { length input.now ≤ largest_input }
     ensures { LoadsSource (program_of_source input.now) result }
 {
@@ -44,11 +44,11 @@ fn load_image(
     alloc: Global,
     image: &GromImage,
     entry: Option<u16>,
-) -> Result<LoadedProgram, Unreported>
+) -> Result<LoadedProgram, CommandError>
     ensures { LoadsImage image.now entry result }
 {
     let Some(entry) = entry else {
-        return Err(Unreported::Fault(Fault::NoEntry));
+        return Err(CommandError::Fault(Fault::NoEntry));
     };
     let interpreter = build_interp(alloc)?;
     Ok(LoadedProgram {

@@ -6,14 +6,14 @@ ghost use Rattle.reports.specs.Answers.{answer, WantsMemory, Reported};
 
 use crate::commands::program::{load_program, run_session};
 use report_defs::Command;
-use reports::{Report, Unreported};
+use reports::{CommandError, Report};
 use std::alloc::Global;
 use std::marker::Brand;
 use std::sync::ledger::Blank;
 
 /// The report of up to `limit` steps of a GPL source from its entry, run by the interpreter; or the source's first
 /// refused line, or that it names no entry.
-pub(crate) fn run(alloc: Global, limit: u32, input: &[u8]) -> Result<Report, Unreported>
+pub(crate) fn run(alloc: Global, limit: u32, input: &[u8]) -> Result<Report, CommandError>
     requires { length input.now ≤ spec.largest_input }
     ensures { Reported (spec.AcceptedReport (Command.Run limit) input.now) WantsMemory (answer result) }
 {

@@ -11,7 +11,7 @@ use crate::prepared::Prepared;
 use crate::trace::Trace;
 use gpl_run::Session;
 use report_defs::Command;
-use reports::Unreported;
+use reports::CommandError;
 use std::alloc::Global;
 use std::marker::Brand;
 use std::sync::ledger::{Blank, Ledger};
@@ -20,7 +20,7 @@ use trace_dump::Seen;
 
 /// A GPL source that stands before the first step of its program, of which up to `limit` are to be traced; or why
 /// it is not run. All memory of the trace is taken.
-pub(crate) fn trace(alloc: Global, limit: u32, input: &[u8]) -> Result<Prepared, Unreported>
+pub(crate) fn trace(alloc: Global, limit: u32, input: &[u8]) -> Result<Prepared, CommandError>
     requires size { length input.now ≤ largest_input }
     requires limit { limit ≤ most_steps }
     ensures { Prepares (Command.Trace limit) input.now result }
@@ -33,7 +33,7 @@ pub(crate) fn trace(alloc: Global, limit: u32, input: &[u8]) -> Result<Prepared,
 ///
 /// # Errors
 /// As [`load_program`].
-pub fn start_trace(alloc: Global, limit: u32, input: &[u8]) -> Result<Trace, Unreported>
+pub fn start_trace(alloc: Global, limit: u32, input: &[u8]) -> Result<Trace, CommandError>
     requires size { length input.now ≤ largest_input }
     requires limit { limit ≤ most_steps }
     ensures { StartsTrace limit input.now result }

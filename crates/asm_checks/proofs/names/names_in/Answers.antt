@@ -6,9 +6,9 @@ use Rattle.source_defs.specs.Lines.{part}
 use Rattle.asm_defs.specs.Statements.{upper_names}
 use Rattle.asm_checks.proofs.names.names_in.Goals as goal
 
-some_of : {A : Type 0} (b : Bool) (x y : A) → Some x ≡ (if b then Some y else None) → x ≡ y
-some_of true x y e = cc e
-some_of false x y e = cc e
+operand_list : {A : Type 0} (b : Bool) (x y : A) → Some x ≡ (if b then Some y else None) → x ≡ y
+operand_list true x y e = cc e
+operand_list false x y e = cc e
 
 -- an operand's name stands behind those before it
 pub loop-span-preserved-in-Continue-1 : goal.loop-span-preserved-in-Continue-1
@@ -18,7 +18,7 @@ loop-span-preserved-in-Continue-1 c =
     let name = c.in-Some-upper_case_name.name in
     let others = upper_names (map (part field) c.next.new.self) in
     let before = c.loop-span.names.items in
-    let is : name ≡ map upper_case (part field span) = some_of (is_name (part field span)) _ _ c.in-Some-upper_case_name.ensures.value in
+    let is : name ≡ map upper_case (part field span) = operand_list (is_name (part field span)) _ _ c.in-Some-upper_case_name.ensures.value in
     let kept : c.push.new.self.items ≡ before ++ name ∷ [] = c.in_ok-push.ensures.items in
     let so_far : c.push.new.self.items ++ others ≡ before ++ upper_names (map (part field) c.loop-span.span-iterator) =
     ap (λ items. items ++ others) kept

@@ -25,5 +25,5 @@ returns-in-Ok-prepare g c =
 
 pub returns-in-Err-prepare : goal.returns-in-Err-prepare
 returns-in-Err-prepare g c =
-    by_answer bench_input no_usage c.args.command _ _ _ c.in-Ok.bytes.items c.in-Ok.ensures.ok (error_answer c.in-Err-prepare.unreported) _
+    by_answer bench_input no_usage c.args.command _ _ _ c.in-Ok.bytes.items c.in-Ok.ensures.ok (error_answer c.in-Err-prepare.command_error) _
     c.in-Err-prepare.ensures c.finish-in-Err-prepare.ensures

@@ -1,6 +1,6 @@
 use Rattle.std.proofs.Common.{Ok, Err, refl, ap, subst}
 use Rattle.report_defs.specs.declared.status.Status.TheVariants as status
-use Rattle.reports.specs.declared.unreported.Unreported.{Unreported}
+use Rattle.reports.specs.declared.command_error.CommandError.{CommandError}
 use Rattle.reports.specs.Outputs.{Outputs}
 use Rattle.reports.specs.Answers.{Ends, error_answer}
 use Rattle.gpl_list_defs.specs.Listing.{listing_report}
@@ -16,5 +16,5 @@ returns-in-Err g c =
     let out = g.O.Sink.state in
     let err = g.E.Sink.state in
     let o : Outputs = record { out = out c.args.out.now; out' = out c.finish.new.out; err = err c.args.err.now; err' = err c.finish.new.err } in
-    let ends = subst (λ (unreported : Unreported). Ends o (error_answer unreported) c.finish.result) c.into.ensures c.finish.ensures in
+    let ends = subst (λ (command_error : CommandError). Ends o (error_answer command_error) c.finish.result) c.into.ensures c.finish.ensures in
     (Err status.Memory, refl, ends)

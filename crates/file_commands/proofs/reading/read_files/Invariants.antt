@@ -1,5 +1,5 @@
 use Rattle.std.proofs.Common.{◌≡◌, take}
-use Rattle.bench_shelf.specs.Causes.{Later, TookNoMore}
+use Rattle.bench_shelf.specs.Causes.{CountsGrew, ReadWithinLimit}
 use Rattle.report_defs.specs.Report.{largest_input}
 use Rattle.file_commands.proofs.ReadingLaws.{ReadSoFar, names_in}
 use Rattle.file_commands.proofs.reading.read_files.Given as goal
@@ -11,6 +11,6 @@ invariant-loop-name g l =
     record {
       read : ReadSoFar l.texts.items (state l.fn.shelf) (state l.shelf);
       names : names_in l.texts.items ≡ take l.name-index l.names;
-      within : TookNoMore largest_input (state l.fn.shelf) (state l.shelf);
-      later : Later (state l.fn.shelf) (state l.shelf);
+      within : ReadWithinLimit largest_input (state l.fn.shelf) (state l.shelf);
+      later : CountsGrew (state l.fn.shelf) (state l.shelf);
     }

@@ -34,4 +34,4 @@ returns g c =
     rw (map-append listing_line texts (codes "END" ∷ []))
     (written_more _ _ _ _ (map listing_line (origin_texts c.args.low)) _ c.in_ok-put_origin.ensures
     (written_more _ _ _ _ (map listing_line texts) (listing_line (codes "END") ∷ []) c.in_ok-put_lines.ensures
-    c.put_piece.ensures))
+    c.put_chunk.ensures))

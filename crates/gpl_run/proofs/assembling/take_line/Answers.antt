@@ -1,5 +1,5 @@
 use Rattle.std.proofs.Common.{◌∙◌, [], ◌∷◌, ◌++◌, sym, subst, rules}
-use Rattle.asm_core.specs.Building.{HasTaken}
+use Rattle.asm_core.specs.Building.{HasAccepted}
 use Rattle.asm_core.specs.Finishing.{RefusesAt}
 use Rattle.asm_defs.specs.FirstChecks.{check}
 use Rattle.source_defs.specs.Layout.{laid, numbered}
@@ -24,4 +24,4 @@ unreachable-requires c =
 pub returns-in-Ok : goal.returns-in-Ok
 returns-in-Ok c rest has =
     goes_on rest c.args.line.now c.args.builder.now has c.line.new.self
-    (subst (λ text. HasTaken (has.texts ++ text ∷ []) c.line.new.self) c.as_bytes.ensures.value (c.in-Ok.ensures has.texts has.taken))
+    (subst (λ text. HasAccepted (has.texts ++ text ∷ []) c.line.new.self) c.as_bytes.ensures.value (c.in-Ok.ensures has.texts has.taken))

@@ -9,4 +9,4 @@ returns-then-bytes-eq0 g c = rw (odd_none c.args.bytes.now c.if-bytes-eq0.true) 
 pub returns : goal.returns
 returns g c =
     rw (odd_last c.args.bytes.now (omega (arith, c.if-bytes-eq0.false)))
-    (rw (c.as_slice.ensures.value, c.byte_line.ensures) at c.put_piece.ensures)
+    (rw (c.as_slice.ensures.value, c.byte_line.ensures) at c.put_chunk.ensures)

@@ -1,5 +1,5 @@
 use Rattle.std.proofs.Common.{◌≡◌, arith}
-use Rattle.sim_copy.proofs.Ways
+use Rattle.sim_copy.proofs.CopyPaths
 use Rattle.sim_copy.specs.Pieces.{CellsToCells, CellsToVideo, GromToCells, GromToVideo, VideoToCells}
 use Rattle.sim_copy.proofs.copy.copy_byte.Goals as goal
 use Rattle.sim_rows.specs.native_interp.declared.addresses.TheConstants.{COPYCC, COPYCV, COPYGC, COPYGV, COPYVC}
@@ -7,24 +7,24 @@ use Rattle.sim_rows.specs.native_interp.declared.addresses.TheConstants.{COPYCC,
 pub returns-then-place-eq-COPYCC : goal.returns-then-place-eq-COPYCC
 returns-then-place-eq-COPYCC g c =
     let here : c.args.machine.now.cpu.pc ≡ COPYCC = let p = c.pc-place.ensures.value in let r = c.if-place-eq-COPYCC.true in omega arith in
-    Ways.copies c.requires.at CellsToCells here c.copy_cell.ensures
+    CopyPaths.copies c.requires.at CellsToCells here c.copy_cell.ensures
 
 pub returns-then-place-eq-COPYVC : goal.returns-then-place-eq-COPYVC
 returns-then-place-eq-COPYVC g c =
     let here : c.args.machine.now.cpu.pc ≡ COPYVC = let p = c.pc-place.ensures.value in let r = c.if-place-eq-COPYVC.true in omega arith in
-    Ways.copies c.requires.at VideoToCells here c.copy_video.ensures
+    CopyPaths.copies c.requires.at VideoToCells here c.copy_video.ensures
 
 pub returns-then-place-eq-COPYGC : goal.returns-then-place-eq-COPYGC
 returns-then-place-eq-COPYGC g c =
     let here : c.args.machine.now.cpu.pc ≡ COPYGC = let p = c.pc-place.ensures.value in let r = c.if-place-eq-COPYGC.true in omega arith in
-    Ways.copies c.requires.at GromToCells here c.copy_grom.ensures
+    CopyPaths.copies c.requires.at GromToCells here c.copy_grom.ensures
 
 pub returns-then-place-eq-COPYCV : goal.returns-then-place-eq-COPYCV
 returns-then-place-eq-COPYCV g c =
     let here : c.args.machine.now.cpu.pc ≡ COPYCV = let p = c.pc-place.ensures.value in let r = c.if-place-eq-COPYCV.true in omega arith in
-    Ways.copies c.requires.at CellsToVideo here c.copy_cell_to_video.ensures
+    CopyPaths.copies c.requires.at CellsToVideo here c.copy_cell_to_video.ensures
 
 pub returns-then-place-eq-COPYGV : goal.returns-then-place-eq-COPYGV
 returns-then-place-eq-COPYGV g c =
     let here : c.args.machine.now.cpu.pc ≡ COPYGV = let p = c.pc-place.ensures.value in let r = c.if-place-eq-COPYGV.true in omega arith in
-    Ways.copies c.requires.at GromToVideo here c.copy_grom_to_video.ensures
+    CopyPaths.copies c.requires.at GromToVideo here c.copy_grom_to_video.ensures

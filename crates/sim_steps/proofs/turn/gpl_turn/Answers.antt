@@ -4,11 +4,11 @@ use Rattle.sim_steps.specs.Families.{belongs}
 use Rattle.sim_steps.proofs.Turning
 use Rattle.sim_steps.proofs.turn.gpl_turn.Goals as goal
 
-pub operation_told-requires-clause-wp : goal.operation_told-requires-clause-wp
-operation_told-requires-clause-wp g c = c.begin_step.ensures.stands.wp
+pub current_operation-requires-clause-wp : goal.current_operation-requires-clause-wp
+current_operation-requires-clause-wp g c = c.begin_step.ensures.stands.wp
 
-pub operation_told-requires-clause-dispatched : goal.operation_told-requires-clause-dispatched
-operation_told-requires-clause-dispatched g c =
+pub current_operation-requires-clause-dispatched : goal.current_operation-requires-clause-dispatched
+current_operation-requires-clause-dispatched g c =
     Turning.dispatched (shown_by c.args.machine.now.cpu.memory) c.args.machine.now c.begin_step.new.machine c.args.steps.now c.begin_step.new.steps
     c.begin_step.ensures
 
@@ -16,7 +16,7 @@ pub run_family-requires : goal.run_family-requires
 run_family-requires g c =
     Turning.at_dispatch (shown_by c.args.machine.now.cpu.memory) c.args.machine.now c.begin_step.new.machine c.args.steps.now c.begin_step.new.steps
     c.begin_step.ensures (belongs c.family_of.result)
-    (subst (λ (o : Option GplOperation). belongs c.family_of.result o ≡ true) c.operation_told.ensures c.family_of.ensures.belongs)
+    (subst (λ (o : Option GplOperation). belongs c.family_of.result o ≡ true) c.current_operation.ensures c.family_of.ensures.belongs)
 
 pub returns : goal.returns
 returns g c =

@@ -2,7 +2,7 @@ use Rattle.std.proofs.Common.{sym, refl, subst}
 use Rattle.report_defs.specs.declared.status.Status.{Status}
 use Rattle.reports.specs.Outputs.{Outputs}
 use Rattle.reports.specs.Answers.{Ends, error_answer}
-use Rattle.reports.specs.declared.unreported.Unreported.{Unreported}
+use Rattle.reports.specs.declared.command_error.CommandError.{CommandError}
 use Rattle.steps_command.specs.Ends.{EndsInstructions}
 use Rattle.steps_command.proofs.Ending.{by_refusal, by_memory, by_whole, by_failed}
 use Rattle.steps_command.proofs.running.steps.Goals as goal
@@ -13,7 +13,7 @@ returns-in-Err g c =
     let err = g.E.Sink.state in
     let finish = c.finish in
     let o : Outputs = record { out = out c.args.out.now; out' = out finish.new.out; err = err c.args.err.now; err' = err finish.new.err } in
-    by_refusal c.args.limit c.args.input.now o (error_answer c.in-Err.unreported) finish.result c.in-Err.ensures finish.ensures
+    by_refusal c.args.limit c.args.input.now o (error_answer c.in-Err.command_error) finish.result c.in-Err.ensures finish.ensures
 
 pub returns-in-Err-new : goal.returns-in-Err-new
 returns-in-Err-new g c =
@@ -22,7 +22,7 @@ returns-in-Err-new g c =
     let finish = c.finish-in-Err-new in
     let o : Outputs = record { out = out c.args.out.now; out' = out finish.new.out; err = err c.args.err.now; err' = err finish.new.err } in
     by_memory c.args.limit c.args.input.now o finish.result
-    (subst (λ (unreported : Unreported). Ends o (error_answer unreported) finish.result) c.into.ensures finish.ensures)
+    (subst (λ (command_error : CommandError). Ends o (error_answer command_error) finish.result) c.into.ensures finish.ensures)
 
 pub returns-in-Err-new-2 : goal.returns-in-Err-new-2
 returns-in-Err-new-2 g c =
@@ -31,7 +31,7 @@ returns-in-Err-new-2 g c =
     let finish = c.finish-in-Err-new-2 in
     let o : Outputs = record { out = out c.args.out.now; out' = out finish.new.out; err = err c.args.err.now; err' = err finish.new.err } in
     by_memory c.args.limit c.args.input.now o finish.result
-    (subst (λ (unreported : Unreported). Ends o (error_answer unreported) finish.result) c.into-in-Err-new-2.ensures finish.ensures)
+    (subst (λ (command_error : CommandError). Ends o (error_answer command_error) finish.result) c.into-in-Err-new-2.ensures finish.ensures)
 
 pub returns-in-Ok-write_run : goal.returns-in-Ok-write_run
 returns-in-Ok-write_run g c =

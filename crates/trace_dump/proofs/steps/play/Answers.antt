@@ -27,18 +27,18 @@ returns-in-Stopped-clause-kept g c =
     (state c.args.out.now) (state c.loop-made.out) c.loop-made.seen c.loop-made.invariant
     c.next.result c.in-Stopped.field-0 c.in-Stopped.is c.next.ensures.turned c.next.ensures.ended
 
-pub returns-in_err-put_piece-clause-plays : goal.returns-in_err-put_piece-clause-plays
-returns-in_err-put_piece-clause-plays g c =
+pub returns-in_err-put_chunk-clause-plays : goal.returns-in_err-put_chunk-clause-plays
+returns-in_err-put_chunk-clause-plays g c =
     let state = g.O.Sink.state in
     let p = err_from_is_err_and c.from_residual.result c.from_residual.ensures.1 in
     let line = g.T.StepLine.bytes c.end.new.self in
     let ends = rw (c.machine.ensures, c.begin.ensures) at c.end.ensures.text in
-    let missed = rw (c.as_bytes.ensures) at c.in_err-put_piece.ensures in
+    let missed = rw (c.as_bytes.ensures) at c.in_err-put_chunk.ensures in
     rw p.1 (Playing.breaks_off g.T.StepLine.shows c.args.session.now c.loop-made.session c.next.new.self c.args.steps.now c.loop-made.steps c.next.new.steps c.loop-made.made
     (state c.args.out.now) (state c.loop-made.out) c.loop-made.seen c.loop-made.invariant
     c.next.result c.in_default.is c.next.ensures.turned c.next.ensures.ended
     c.trace_line.result.bytes line (c.loop-made.made + 1) c.trace_line.ensures.text refl ends
-    c.args.limit (state c.put_piece.new.sink) c.loop-made-test.true missed)
+    c.args.limit (state c.put_chunk.new.sink) c.loop-made-test.true missed)
 
 pub loop-made-preserved : goal.loop-made-preserved
 loop-made-preserved g c =
@@ -46,12 +46,12 @@ loop-made-preserved g c =
     let line = g.T.StepLine.bytes c.end.new.self in
     let ends = rw (c.machine.ensures, c.begin.ensures) at c.end.ensures.text in
     let kept = rw c.machine.ensures at c.end.ensures.seen in
-    let wrote = rw (c.as_bytes.ensures) at c.in_ok-put_piece.ensures in
+    let wrote = rw (c.as_bytes.ensures) at c.in_ok-put_chunk.ensures in
     Playing.shown g.T.StepLine.shows c.args.session.now c.loop-made.session c.next.new.self c.args.steps.now c.loop-made.steps c.next.new.steps c.loop-made.made
     (state c.args.out.now) (state c.loop-made.out) c.loop-made.seen c.loop-made.invariant
     c.next.result c.in_default.is c.next.ensures.turned c.next.ensures.ended
     c.trace_line.result.bytes line (c.loop-made.made + 1) c.trace_line.ensures.text refl ends
-    (state c.put_piece.new.sink) c.end.new.seen wrote kept
+    (state c.put_chunk.new.sink) c.end.new.seen wrote kept
 
 pub returns-clause-plays : goal.returns-clause-plays
 returns-clause-plays g c =

@@ -8,6 +8,6 @@ bytes_of-requires c =
     omega (
       arith,
       c.requires.room.fits,
-      comes_within (look_up c.args.self.now.symbols.now) c.args.self.now.at c.args.said.now.statement _ c.requires.line.skeleton
+      comes_within (look_up c.args.self.now.symbols.now) c.args.self.now.at c.args.parsed.now.statement _ c.requires.line.skeleton
           c.in-Ok.ensures,
     )

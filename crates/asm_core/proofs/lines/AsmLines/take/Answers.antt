@@ -5,7 +5,7 @@ use Rattle.source_defs.specs.Symbols.{Names}
 use Rattle.asm_defs.specs.declared.location.Location.{Location}
 use Rattle.asm_defs.specs.Locations.{Line, location, reached, relocatable, behind, is_in_part}
 use Rattle.asm_defs.specs.FirstChecks as spec
-use Rattle.asm_defs.specs.FirstChecks.{Before, known_of, line_of, location_behind, defs_in, refs_in, is_end}
+use Rattle.asm_defs.specs.FirstChecks.{EarlierLines, known_of, line_of, location_behind, defs_in, refs_in, is_end}
 use Rattle.asm_defs.specs.Modules.{title_by}
 use Rattle.asm_defs.proofs.CheckLaws.{checked_within, checked_titled, checked_said}
 use Rattle.asm_checks.specs.Checks.{defined_checked, checked_as_new}
@@ -34,7 +34,7 @@ pub work-requires-clause-room : goal.work-requires-clause-room
 work-requires-clause-room c =
     let found = defined_checked c.in-Ok.checked in
     let is : checked_as_new (known_in c.args.self.now) c.args.text.now ≡ Ok found =
-    ap (λ (before : Before). checked_as_new before c.args.text.now) (sym c.known.ensures.known) ∙ c.in-Ok.ensures.checked in
+    ap (λ (before : EarlierLines). checked_as_new before c.args.text.now) (sym c.known.ensures.known) ∙ c.in-Ok.ensures.checked in
     record {
       room = held.has_room (known_in c.args.self.now) c.args.text.now found c.args.self.now.placed is;
       fits = omega (arith, has_room (known_in c.args.self.now) c.args.text.now found is c.args.self.now.placed);
@@ -43,13 +43,13 @@ work-requires-clause-room c =
 pub returns : goal.returns
 returns c = λ lines is.
     let is_new : checked_as_new (known_in c.args.self.now) c.args.text.now ≡ Ok (defined_checked c.in-Ok.checked) =
-    ap (λ (before : Before). checked_as_new before c.args.text.now) (sym c.known.ensures.known) ∙ c.in-Ok.ensures.checked in
+    ap (λ (before : EarlierLines). checked_as_new before c.args.text.now) (sym c.known.ensures.known) ∙ c.in-Ok.ensures.checked in
     let behind = still_behind lines c.args.self.now c.work.new.self c.in-Err-work.ensures.unchanged c.work.ensures.still is in
-    let failed = takes_failed (Unit {0}) lines c.args.text.now c.args.self.now.symbols c.in-Ok.checked.said.label c.in-Err-work.failure c.work.new.self
+    let failed = takes_failed (Unit {0}) lines c.args.text.now c.args.self.now.symbols c.in-Ok.checked.parsed.label c.in-Err-work.failure c.work.new.self
     c.in-Err-work.ensures.known
     (λ known.
     ap (λ answer. answer >>= λ found. Ok (line_of (length lines + 1) found))
-    (ap (λ (before : Before). spec.checked before c.args.text.now) (sym (known_same lines c.args.self.now is))
+    (ap (λ (before : EarlierLines). spec.checked before c.args.text.now) (sym (known_same lines c.args.self.now is))
     ∙ checked_known (known_in c.args.self.now) c.args.text.now (defined_checked c.in-Ok.checked) is_new known))
     behind.taken behind in
     subst (λ (error : AsmError). Takes {A = Unit {0}} lines c.args.text.now (Err error) c.work.new.self) (sym c.refusal-in-Err-work.ensures) failed
@@ -58,7 +58,7 @@ pub advance-requires-clause-place : goal.advance-requires-clause-place
 advance-requires-clause-place c =
     let found = defined_checked c.in-Ok.checked in
     let is_new : checked_as_new (known_in c.args.self.now) c.args.text.now ≡ Ok (defined_checked c.in-Ok.checked) =
-    ap (λ (before : Before). checked_as_new before c.args.text.now) (sym c.known.ensures.known) ∙ c.in-Ok.ensures.checked in
+    ap (λ (before : EarlierLines). checked_as_new before c.args.text.now) (sym c.known.ensures.known) ∙ c.in-Ok.ensures.checked in
     let known : spec.checked (known_in c.args.self.now) c.args.text.now ≡ Ok found =
     checked_new (known_in c.args.self.now) c.args.text.now (defined_checked c.in-Ok.checked) is_new c.in-Ok-work.ensures.fresh in
     subst (λ (from : Location). is_in_part (location_behind from found.move) ≡ true) (sym c.work.ensures.still.location)
@@ -68,7 +68,7 @@ pub advance-requires-clause-titled : goal.advance-requires-clause-titled
 advance-requires-clause-titled c =
     let found = defined_checked c.in-Ok.checked in
     let is_new : checked_as_new (known_in c.args.self.now) c.args.text.now ≡ Ok (defined_checked c.in-Ok.checked) =
-    ap (λ (before : Before). checked_as_new before c.args.text.now) (sym c.known.ensures.known) ∙ c.in-Ok.ensures.checked in
+    ap (λ (before : EarlierLines). checked_as_new before c.args.text.now) (sym c.known.ensures.known) ∙ c.in-Ok.ensures.checked in
     let known : spec.checked (known_in c.args.self.now) c.args.text.now ≡ Ok found =
     checked_new (known_in c.args.self.now) c.args.text.now (defined_checked c.in-Ok.checked) is_new c.in-Ok-work.ensures.fresh in
     checked_titled (known_in c.args.self.now) c.args.text.now found known
@@ -79,18 +79,18 @@ returns-in-Ok-work c = λ lines is.
     let number = length lines + 1 in
     let next_line : Line = line_of number found in
     let is_new : checked_as_new (known_in c.args.self.now) c.args.text.now ≡ Ok (defined_checked c.in-Ok.checked) =
-    ap (λ (before : Before). checked_as_new before c.args.text.now) (sym c.known.ensures.known) ∙ c.in-Ok.ensures.checked in
+    ap (λ (before : EarlierLines). checked_as_new before c.args.text.now) (sym c.known.ensures.known) ∙ c.in-Ok.ensures.checked in
     let known : spec.checked (known_in c.args.self.now) c.args.text.now ≡ Ok found =
     checked_new (known_in c.args.self.now) c.args.text.now (defined_checked c.in-Ok.checked) is_new c.in-Ok-work.ensures.fresh in
     let checked : spec.checked (known_of lines) c.args.text.now ≡ Ok found =
-    ap (λ (before : Before). spec.checked before c.args.text.now) (sym (known_same lines c.args.self.now is)) ∙ known in
+    ap (λ (before : EarlierLines). spec.checked before c.args.text.now) (sym (known_same lines c.args.self.now is)) ∙ known in
     let added = c.in-Ok-work.ensures.added in
     let still = c.work.ensures.still in
     let went = c.advance.ensures in
     let next : IsNext c.args.self.now c.args.text.now c.in-Ok.checked lines next_line = record {
       at = ap (λ (from : Location). behind from found.move.gap) is.location;
       number = ap (λ taken. taken + 1) is.taken;
-      said = checked_said (known_of lines) c.args.text.now found checked;
+      parsed = checked_said (known_of lines) c.args.text.now found checked;
       statement = refl;
     } in
     let place : c.advance.new.self.location ≡ location (next_line ∷ lines) =

@@ -10,8 +10,8 @@ pub returns-then-is_dummy-clause-filled : goal.returns-then-is_dummy-clause-fill
 returns-then-is_dummy-clause-filled c = λ unused.
     dummy_filled unused c.args.at (defined_outcome c.args.outcome.now) c.requires c.args.self.now c.if-is_dummy.ensures
 
-pub lay-requires : goal.lay-requires
-lay-requires c =
+pub fill_reserved-requires : goal.fill_reserved-requires
+fill_reserved-requires c =
     omega (
       arith,
       c.requires,
@@ -22,4 +22,4 @@ lay-requires c =
 pub returns-clause-filled : goal.returns-clause-filled
 returns-clause-filled c = λ unused.
     bytes_filled unused c.args.at (defined_outcome c.args.outcome.now) c.requires c.args.self.now _ c.as_slice.result.now
-    (c.as_slice.ensures.value ∙ c.in_ok-contents.ensures.contents) c.in_ok-contents.ensures.uses c.lay.ensures
+    (c.as_slice.ensures.value ∙ c.in_ok-contents.ensures.contents) c.in_ok-contents.ensures.uses c.fill_reserved.ensures

@@ -1,5 +1,5 @@
 use Rattle.std.proofs.Common.{refl, subst, ◌∙◌}
-use Rattle.asm_defs.specs.Statements.{Statement, said_of}
+use Rattle.asm_defs.specs.Statements.{Statement, parse_line}
 use Rattle.asm_checks.specs.Answers.{Fails}
 use Rattle.asm_checks.specs.declared.failure.Failure.{Failure}
 use Rattle.asm_list_defs.specs.Listed as listed
@@ -10,9 +10,9 @@ use Rattle.asm_list.proofs.shown.Lister.shown_line.Goals as goal
 pub returns-in-Err-Refused : goal.returns-in-Err-Refused
 returns-in-Err-Refused c =
     let line = c.args.line.now in
-    let answer = said_of line.text.items in
-    let said = rw c.as_slice.ensures.value at c.in-Err-Refused.ensures.said in
+    let answer = parse_line line.text.items in
+    let parsed = rw c.as_slice.ensures.value at c.in-Err-Refused.ensures.parsed in
     let is = nothing_said (known_to c.args.self.now) line.here c.in-Err-Refused.field-0-0 answer
-    (subst (λ (failure : Failure). Fails {B = Statement} failure answer) c.in-Err-Refused.field-0-is said) in
+    (subst (λ (failure : Failure). Fails {B = Statement} failure answer) c.in-Err-Refused.field-0-is parsed) in
     subst (λ (defined : listed.Shown). Shows (record { at = line.here; placed = c.new.result }) defined) is
     (record { at = refl; placed = c.new.ensures.items ∙ nothing_text })

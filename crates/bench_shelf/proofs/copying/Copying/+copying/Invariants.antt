@@ -5,7 +5,7 @@ use Rattle.source_defs.specs.Layout.{line_texts}
 use Rattle.source_defs.proofs.LaidLaws.{texts_of}
 use Rattle.shelf_defs.specs.Copied.{most_bytes, most_copies}
 use Rattle.asm_core.specs.Building.{IsOpen}
-use Rattle.bench_shelf.specs.Causes.{Later, TookNoMore}
+use Rattle.bench_shelf.specs.Causes.{CountsGrew, ReadWithinLimit}
 use Rattle.bench_shelf.proofs.LoopLaws.{Follows, Counts}
 use Rattle.bench_shelf.proofs.copying.Copying.+copying.Given as goal
 
@@ -27,11 +27,11 @@ invariant-copy_lines-loop-line g l =
       next : (goal.iterator-copy_lines-loop-line g).can_next l.line-iterator;
       finite : (goal.iterator-copy_lines-loop-line g).is_finite l.line-iterator;
       going : IsOpen l.self.builder;
-      later : Later (state l.fn.shelf) (state l.shelf);
+      later : CountsGrew (state l.fn.shelf) (state l.shelf);
       most : l.self.copies ≤ most_copies;
       same : is_some l.self.kept ≡ is_some l.fn.self.kept;
       counts : Counts l.text l.fn.self l.self l.line-iterator;
       inside : LinesLieInside l.text l.line-iterator;
       follows : Follows l.levels l.file l.fn.self (line_texts l.text) l.self (texts_of l.text l.line-iterator) (state l.fn.shelf) (state l.shelf);
-      within : TookNoMore most_bytes (state l.fn.shelf) (state l.shelf);
+      within : ReadWithinLimit most_bytes (state l.fn.shelf) (state l.shelf);
     }

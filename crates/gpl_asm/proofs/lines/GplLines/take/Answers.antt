@@ -26,16 +26,16 @@ returns-then-is_comment_line-clause-short c =
 pub returns-clause-short : goal.returns-clause-short
 returns-clause-short c =
     said_short c.scope-scope.result.symbols.now c.scope-scope.result.at c.args.text.now (defined_checked c.in-Ok.checked).statement
-    (is_let_through c.scope-scope.result.symbols.now c.scope-scope.result.at c.args.text.now (defined_checked c.in-Ok.checked) c.in-Ok.ensures.checked).said
+    (is_let_through c.scope-scope.result.symbols.now c.scope-scope.result.at c.args.text.now (defined_checked c.in-Ok.checked) c.in-Ok.ensures.checked).parsed
 
 pub returns-then-is_comment_line-clause-takes : goal.returns-then-is_comment_line-clause-takes
 returns-then-is_comment_line-clause-takes c = λ lines is.
     counted lines c.args.self.now c.count.new.self is c.args.text.now (c.is_comment_line.ensures.fields c.if-is_comment_line.true)
     c.count.ensures c.nothing_taken.result c.nothing_taken.ensures
 
-pub assemble_line-requires-clause-said : goal.assemble_line-requires-clause-said
-assemble_line-requires-clause-said c =
-    (is_let_through c.scope-scope.result.symbols.now c.scope-scope.result.at c.args.text.now (defined_checked c.in-Ok.checked) c.in-Ok.ensures.checked).said
+pub assemble_line-requires-clause-parsed : goal.assemble_line-requires-clause-parsed
+assemble_line-requires-clause-parsed c =
+    (is_let_through c.scope-scope.result.symbols.now c.scope-scope.result.at c.args.text.now (defined_checked c.in-Ok.checked) c.in-Ok.ensures.checked).parsed
 
 pub advance-requires-clause-place : goal.advance-requires-clause-place
 advance-requires-clause-place c =

@@ -5,11 +5,11 @@ ghost use Rattle.memory_listing.specs.Told.{link_told};
 ghost use Rattle.bench_io.specs.Stream.{SinkState};
 ghost use Rattle.reports.specs.Answers.{Ends, EndsByLine, error_answer};
 ghost use Rattle.reports.specs.Answers.{asm_answer, gpl_answer, line_answer, read_answer, tag_answer};
-ghost use Rattle.reports.specs.declared.unreported.Unreported.TheVariants as unreported;
+ghost use Rattle.reports.specs.declared.command_error.CommandError.TheVariants as command_error;
 
 use crate::faults::{fault_line, fault_status};
 use asm_core::AsmError;
-use bench_io::{Failed, ReadError, Sink, put_piece};
+use bench_io::{Failed, ReadError, Sink, put_chunk};
 use gpl_asm::GplError;
 use gpl_run::BuildError;
 use link_loader::LinkError;
@@ -21,7 +21,7 @@ use std::alloc::{AllocError, AllocFailed};
 
 /// Why nothing is reported on standard output.
 #[derive(Drop)]
-pub enum Unreported {
+pub enum CommandError {
     /// An input or a file is refused, which standard error tells by this line.
     Refused(Line),
     /// A fault, whose line standard error gets.
@@ -32,7 +32,7 @@ pub enum Unreported {
     Memory,
 }
 
-impl Unreported {
+impl CommandError {
     /// Writes the line that tells it, if there is one, and gives the status that the program ends with. It takes no
     /// memory.
     pub(crate) fn finish<E: Sink>(&self, err: &mut E) -> Status
@@ -44,14 +44,14 @@ impl Unreported {
         }) (error_answer self.now) result }
     {
         match self {
-            Unreported::Refused(line) => tell(line.as_slice(), Status::Refused, err),
-            Unreported::Fault(fault) => tell(
+            CommandError::Refused(line) => tell(line.as_slice(), Status::Refused, err),
+            CommandError::Fault(fault) => tell(
                 fault_line(*fault).as_slice(),
                 fault_status(*fault),
                 err,
             ),
-            Unreported::ReadFault => Status::ReadFault,
-            Unreported::Memory => Status::Memory,
+            CommandError::ReadFault => Status::ReadFault,
+            CommandError::Memory => Status::Memory,
         }
     }
 }
@@ -60,90 +60,90 @@ impl Unreported {
 pub fn tell<E: Sink>(line: &[u8], status: Status, err: &mut E) -> Status
     ensures { EndsByLine line.now status (E.state err.old) (E.state err.new) result }
 {
-    match put_piece(err, line) {
+    match put_chunk(err, line) {
         Ok(()) => status,
         Err(Failed) => Status::WriteFault,
     }
 }
 
-impl From<AllocError> for Unreported {
-    ghost from_gives = { λ _ result. result ≡ unreported.Memory };
+impl From<AllocError> for CommandError {
+    ghost from_gives = { λ _ result. result ≡ command_error.Memory };
 
     fn from(_: AllocError) -> Self {
-        Unreported::Memory
+        CommandError::Memory
     }
 }
 
-impl<T: Drop> From<AllocFailed<T>> for Unreported {
-    ghost from_gives = { λ _ result. result ≡ unreported.Memory };
+impl<T: Drop> From<AllocFailed<T>> for CommandError {
+    ghost from_gives = { λ _ result. result ≡ command_error.Memory };
 
     fn from(_: AllocFailed<T>) -> Self {
-        Unreported::Memory
+        CommandError::Memory
     }
 }
 
-impl From<BuildError> for Unreported {
-    ghost from_gives = { λ _ result. result ≡ unreported.Memory };
+impl From<BuildError> for CommandError {
+    ghost from_gives = { λ _ result. result ≡ command_error.Memory };
 
     fn from(error: BuildError) -> Self {
         match error {
-            BuildError::Memory => Unreported::Memory,
+            BuildError::Memory => CommandError::Memory,
         }
     }
 }
 
-impl From<ReadError> for Unreported {
+impl From<ReadError> for CommandError {
     ghost from_gives = { λ error result. error_answer result ≡ read_answer error };
 
     fn from(error: ReadError) -> Self {
         match error {
-            ReadError::TooLarge => Unreported::Fault(Fault::TooLarge),
-            ReadError::Fault => Unreported::ReadFault,
-            ReadError::Memory => Unreported::Memory,
+            ReadError::TooLarge => CommandError::Fault(Fault::TooLarge),
+            ReadError::Fault => CommandError::ReadFault,
+            ReadError::Memory => CommandError::Memory,
         }
     }
 }
 
-impl From<AsmError> for Unreported {
+impl From<AsmError> for CommandError {
     ghost from_gives = { λ error result. error_answer result ≡ asm_answer error };
 
     fn from(error: AsmError) -> Self {
         match error {
-            AsmError::At { line, cause } => Unreported::Refused(asm_line(line, cause)),
-            AsmError::Memory => Unreported::Memory,
+            AsmError::At { line, cause } => CommandError::Refused(asm_line(line, cause)),
+            AsmError::Memory => CommandError::Memory,
         }
     }
 }
 
-impl From<GplError> for Unreported {
+impl From<GplError> for CommandError {
     ghost from_gives = { λ error result. error_answer result ≡ gpl_answer error };
 
     fn from(error: GplError) -> Self {
         match error {
-            GplError::At { line, cause } => Unreported::Refused(gpl_line(line, cause)),
-            GplError::Memory => Unreported::Memory,
+            GplError::At { line, cause } => CommandError::Refused(gpl_line(line, cause)),
+            GplError::Memory => CommandError::Memory,
         }
     }
 }
 
-impl From<TagError> for Unreported {
+impl From<TagError> for CommandError {
     ghost from_gives = { λ error result. error_answer result ≡ tag_answer error };
 
     fn from(error: TagError) -> Self {
         match error {
-            TagError::At { line, cause } => Unreported::Refused(tag_line(line, cause)),
-            TagError::Memory => Unreported::Memory,
+            TagError::At { line, cause } => CommandError::Refused(tag_line(line, cause)),
+            TagError::Memory => CommandError::Memory,
         }
     }
 }
 
-impl From<LinkError> for Unreported {
+impl From<LinkError> for CommandError {
     ghost from_gives = { λ error result. error_answer result ≡ line_answer (link_told error) };
 
     fn from(error: LinkError) -> Self {
         match link_line(&error) {
-            Ok(line) => Unreported::Refused(line),
-            Err(AllocError) => Unreported::Memory,
+            Ok(line) => CommandError::Refused(line),
+            Err(AllocError) => CommandError::Memory,
         }
     }
 }

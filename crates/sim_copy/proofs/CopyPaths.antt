@@ -2,13 +2,13 @@
 use Rattle.std.proofs.Common.{ℕ, ◌%◌, ◌+◌, ◌-◌, ◌<◌, ◌==◌, ◌∙◌, ◌≡◌, ap, arith, Bool, false, if◌then◌else◌, None, refl, slice_index, subst, suc, sym}
 use Rattle.std.proofs.lemmas.Bool.{eqb-false, eqb-true}
 use Rattle.std.proofs.Math.Nat.{pos_of_ne-zero}
-use Rattle.sim_rows.proofs.Common.{byte_from, Changed, Changes, comes, copied, difference_of, Exits, From, idle_grom, idle_told, idle_video, is_view}
+use Rattle.sim_rows.proofs.Common.{byte_from, ShowsChanges, Changes, comes, copied, difference_of, Exits, From, idle_grom, idle_told, idle_video, is_view}
 use Rattle.sim_rows.proofs.Common.{MachineState, marked_by, next_from, next_in_grom, next_in_vdp, next_to, pick, plus, sum_of, To, View, view, with_byte_to}
 use Rattle.sim_rows.proofs.Common.{with_pc, Word}
 use Rattle.sim_copy.proofs.Places.{at_pc, each, few_charged, may_go, on_way, one_at_most, some_left}
 use Rattle.sim_copy.specs.Bytes.{AllCopied, AtCopy, AtEnd, AtHead, Copied, CopiesAt, CopiesByte, CopyingAt, CopyingOnWay, from_on, FromPlace, GoesBack, MayGo}
 use Rattle.sim_copy.specs.Bytes.{OnWay, OutOfGrom, Points, seen, seen_on, to_on}
-use Rattle.sim_copy.specs.Pieces.{CellsToCells, CellsToVideo, copy_on, first_cell, GromToCells, GromToVideo, head_of, VideoToCells, Way}
+use Rattle.sim_copy.specs.Pieces.{CellsToCells, CellsToVideo, copy_on, first_cell, GromToCells, GromToVideo, head_of, VideoToCells, CopyPath}
 use Rattle.sim_rows.specs.native_interp.declared.addresses.TheConstants.{COPYE}
 
 -- ---- what may go on
@@ -20,14 +20,14 @@ points_on pointer bytes p more =
     let some = p.some in
     record { from = omega arith; within = omega arith; some = more }
 
-goes_on : (way : Way) (v : View) → MayGo way v → 0 < difference_of Word v.r.r12 1 → MayGo way (copy_on way v).left
+goes_on : (way : CopyPath) (v : View) → MayGo way v → 0 < difference_of Word v.r.r12 1 → MayGo way (copy_on way v).left
 goes_on CellsToCells v k more = (points_on v.r.r2 v.r.r12 k.0 more, points_on v.r.r7 v.r.r12 k.1 more)
 goes_on VideoToCells v k more = points_on v.r.r7 v.r.r12 k more
 goes_on GromToCells v k more = points_on v.r.r7 v.r.r12 k more
 goes_on CellsToVideo v k more = points_on v.r.r2 v.r.r12 k more
 goes_on GromToVideo v k more = more
 
-place_on : (way : Way) (v : View) → MayGo way v → CopiesAt (copy_on way v).to (copy_on way v).left
+place_on : (way : CopyPath) (v : View) → MayGo way v → CopiesAt (copy_on way v).to (copy_on way v).left
 place_on way v k =
     let left = difference_of Word v.r.r12 1 in
     let to : Bool → ℕ = λ b. if b then COPYE else head_of way in
@@ -35,46 +35,46 @@ place_on way v k =
     (λ c. AtEnd (ap to c) (eqb-true left 0 c))
     (λ c. AtHead way (ap to c) (goes_on way v k (pos_of_ne-zero (eqb-false left 0 c))))
 
-held_on : (way : Way) (v : View) → v.vdp.held ≡ None → (copy_on way v).left.vdp.held ≡ None
+held_on : (way : CopyPath) (v : View) → v.vdp.held ≡ None → (copy_on way v).left.vdp.held ≡ None
 held_on way v e = each (λ way. (copy_on way v).left.vdp.held ≡ None) e refl e refl refl way
 
-idle_on : (way : Way) (v : View) → v.grom.half_written ≡ false → (copy_on way v).left.grom.half_written ≡ false
+idle_on : (way : CopyPath) (v : View) → v.grom.half_written ≡ false → (copy_on way v).left.grom.half_written ≡ false
 idle_on way v e = each (λ way. (copy_on way v).left.grom.half_written ≡ false) e e refl e refl way
 
 -- ---- what is seen then
 
 -- the address of the next byte
-abbrev next_on : Way → ℕ → ℕ
+abbrev next_on : CopyPath → ℕ → ℕ
 next_on CellsToCells address = plus address 1
 next_on VideoToCells address = plus address 1
 next_on GromToCells address = next_in_grom address
 next_on CellsToVideo address = plus address 1
 next_on GromToVideo address = next_in_grom address
 
-next_from_on : (way : Way) (address : ℕ) → next_from (from_on way address) ≡ from_on way (next_on way address)
+next_from_on : (way : CopyPath) (address : ℕ) → next_from (from_on way address) ≡ from_on way (next_on way address)
 next_from_on way address = each (λ way. next_from (from_on way address) ≡ from_on way (next_on way address)) refl refl refl refl refl way
 
-next_to_on : (way : Way) (address : ℕ) → next_to (to_on way address) ≡ to_on way (plus address 1)
+next_to_on : (way : CopyPath) (address : ℕ) → next_to (to_on way address) ≡ to_on way (plus address 1)
 next_to_on way address = each (λ way. next_to (to_on way address) ≡ to_on way (plus address 1)) refl refl refl refl refl way
 
 -- A byte of this source and target, after other changes; video memory keeps the byte as the one fetched.
-abbrev byte_on : Way → Changes → ℕ → ℕ
+abbrev byte_on : CopyPath → Changes → ℕ → ℕ
 byte_on way c source = byte_from (from_on way source) c.state
 
-abbrev more_on : Way → Changes → ℕ → ℕ → Changes
+abbrev more_on : CopyPath → Changes → ℕ → ℕ → Changes
 more_on way c source target = with_byte_to (to_on way target) (byte_on way c source) c
 
 abbrev with_fetched : ℕ → View → View
 with_fetched byte v = record v { vdp = record v.vdp { fetched = byte } }
 
-abbrev base_on : Way → View → Changes → ℕ → View
+abbrev base_on : CopyPath → View → Changes → ℕ → View
 base_on CellsToCells v c source = v
 base_on VideoToCells v c source = v
 base_on GromToCells v c source = v
 base_on CellsToVideo v c source = with_fetched (byte_on CellsToVideo c source) v
 base_on GromToVideo v c source = with_fetched (byte_on GromToVideo c source) v
 
-back_on : (way : Way) (v : View) (c : Changes) (source target : ℕ) → GoesBack c (from_on way source) v →
+back_on : (way : CopyPath) (v : View) (c : Changes) (source target : ℕ) → GoesBack c (from_on way source) v →
     GoesBack (more_on way c source target) (next_from (from_on way source)) (base_on way v c source)
 back_on way v c source target =
     each (λ way. GoesBack c (from_on way source) v → GoesBack (more_on way c source target) (next_from (from_on way source)) (base_on way v c source))
@@ -90,7 +90,7 @@ pointer_on address bytes p = let within = p.within in (omega arith, omega arith)
 video_on : (address : ℕ) → next_in_vdp (address % 16384) ≡ plus address 1 % 16384
 video_on address = omega arith
 
-moves_on : (way : Way) (v : View) (c : Changes) (bytes mark source target : ℕ) → bytes < 65535 → MayGo way (seen_on way v c (suc bytes) mark source target) →
+moves_on : (way : CopyPath) (v : View) (c : Changes) (bytes mark source target : ℕ) → bytes < 65535 → MayGo way (seen_on way v c (suc bytes) mark source target) →
     (copy_on way (seen_on way v c (suc bytes) mark source target)).left
     ≡ seen_on way (base_on way v c source) (more_on way c source target) bytes mark (next_on way source) (plus target 1)
 moves_on CellsToCells v c bytes mark source target fits k =
@@ -110,11 +110,11 @@ moves_on GromToVideo v c bytes mark source target fits k = rw (one_less bytes fi
 
 -- all bytes are copied
 seen_changed : (v : View) (c : Changes) (bytes source target address byte next : ℕ) →
-    Changed (with_pc next c) (seen v c bytes (marked_by c.shows 0) source target address byte next)
+    ShowsChanges (with_pc next c) (seen v c bytes (marked_by c.shows 0) source target address byte next)
 seen_changed v c bytes source target address byte next =
     record { cells = refl; vdp = refl; registers = refl; held = refl; grom = refl; mark = refl }
 
-copied_on : (way : Way) (v : View) (c : Changes) (source target : ℕ) → GoesBack c (from_on way source) v →
+copied_on : (way : CopyPath) (v : View) (c : Changes) (source target : ℕ) → GoesBack c (from_on way source) v →
     Copied c (seen_on way v c 0 (marked_by c.shows 0) source target)
 copied_on CellsToCells v c source target g =
     FromPlace g (seen_changed v c 0 (first_cell + source) (first_cell + target) v.vdp.address v.vdp.fetched c.state.pc)
@@ -126,7 +126,7 @@ copied_on CellsToVideo v c source target g =
     FromPlace g (seen_changed v c 0 (first_cell + source) v.r.r7 (target % 16384) v.vdp.fetched c.state.pc)
 copied_on GromToVideo v c source target g = OutOfGrom g.0 g.1 source (seen_changed v c 0 v.r.r2 v.r.r7 (target % 16384) v.vdp.fetched source)
 
-bytes_on : (way : Way) (v : View) (c : Changes) (bytes mark source target : ℕ) → (seen_on way v c bytes mark source target).r.r12 ≡ bytes
+bytes_on : (way : CopyPath) (v : View) (c : Changes) (bytes mark source target : ℕ) → (seen_on way v c bytes mark source target).r.r12 ≡ bytes
 bytes_on way v c bytes mark source target = each (λ way. (seen_on way v c bytes mark source target).r.r12 ≡ bytes) refl refl refl refl refl way
 
 -- ---- on the machine
@@ -134,7 +134,7 @@ bytes_on way v c bytes mark source target = each (λ way. (seen_on way v c bytes
 one_down : (n : ℕ) → 0 < n → n < 65536 → difference_of Word n 1 ≡ n - 1
 one_down n some fits = omega arith
 
-module _ {x : MachineState} (h : AtCopy x) (way : Way) (here : x.cpu.pc ≡ head_of way) where
+module _ {x : MachineState} (h : AtCopy x) (way : CopyPath) (here : x.cpu.pc ≡ head_of way) where
   abbrev v : View
   v = view x
 

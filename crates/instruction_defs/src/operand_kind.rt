@@ -2,7 +2,7 @@
 
 /// What an operand of an operation may be.
 #[derive(Clone, Copy, Debug, PartialEq, Eq)]
-pub enum Slot {
+pub enum OperandKind {
     /// An operand in any addressing mode.
     General,
     /// A register.

@@ -15,9 +15,9 @@ use Rattle.asm_defs.specs.declared.causes.AsmCause.TheVariants.{Overflow, BadDir
 use Rattle.asm_defs.specs.declared.location.Location.{Location}
 use Rattle.asm_defs.specs.Statements.{as_text, Aorg, Data, End, Equ, Instruction, Nothing, Statement, statement_in}
 use Rattle.asm_defs.specs.Locations.{value_of}
-use Rattle.asm_defs.specs.FirstChecks.{Before, Said, Checked, Move, any_known, label_in, is_taken, refs_in}
-use Rattle.asm_defs.specs.FirstChecks.{said, moved, move, as_expr}
-use Rattle.asm_defs.specs.FirstChecks.{is_too_far, is_bad, value, known_here}
+use Rattle.asm_defs.specs.FirstChecks.{EarlierLines, ParsedLine, Checked, LocationChange, any_known, label_in, is_taken, refs_in}
+use Rattle.asm_defs.specs.FirstChecks.{parsed, moved, move, as_expr}
+use Rattle.asm_defs.specs.FirstChecks.{is_too_far, is_bad, value, non_external}
 use Rattle.asm_defs.proofs.CheckLaws.{bound}
 use Rattle.line_laws.specs.KnownLines.{nothing_before, is_plain_statement}
 
@@ -39,19 +39,19 @@ module _ (known : Names) (at : Location) (reached : ℕ) where
       let a = bound (value empty at text) make found e in
       ap (λ answer. answer >>= make) (value_same text a.0 a.1) ∙ a.2
 
-  by_absolute : (text : List ℕ) (make : ℕ → Result Move ExprError) (found : Move) → ((value empty at text >>= absolute) >>= make) ≡ Ok found
+  by_absolute : (text : List ℕ) (make : ℕ → Result LocationChange ExprError) (found : LocationChange) → ((value empty at text >>= absolute) >>= make) ≡ Ok found
       → ((value known at text >>= absolute) >>= make) ≡ Ok found
   by_absolute text make found e =
       let a = bound (value empty at text >>= absolute) make found e in
       ap (λ answer. answer >>= make) (by_value text absolute a.0 a.1) ∙ a.2
 
-  by_known : (text : List ℕ) (make : Value → Result Move ExprError) (found : Move) → ((value empty at text >>= known_here) >>= make) ≡ Ok found
-      → ((value known at text >>= known_here) >>= make) ≡ Ok found
+  by_known : (text : List ℕ) (make : Value → Result LocationChange ExprError) (found : LocationChange) → ((value empty at text >>= non_external) >>= make) ≡ Ok found
+      → ((value known at text >>= non_external) >>= make) ≡ Ok found
   by_known text make found e =
-      let a = bound (value empty at text >>= known_here) make found e in
-      ap (λ answer. answer >>= make) (by_value text known_here a.0 a.1) ∙ a.2
+      let a = bound (value empty at text >>= non_external) make found e in
+      ap (λ answer. answer >>= make) (by_value text non_external a.0 a.1) ∙ a.2
 
-  move_same : (statement : Statement) (found : Move) → is_free statement ≡ true → move empty at 0 statement ≡ Ok found
+  move_same : (statement : Statement) (found : LocationChange) → is_free statement ≡ true → move empty at 0 statement ≡ Ok found
       → move known at reached statement ≡ Ok found
   move_same Nothing found free e = e
   move_same (Instruction size operation field) found free e = e
@@ -62,16 +62,16 @@ module _ (known : Names) (at : Location) (reached : ℕ) where
   move_same _ found free e = cc free
 
   module _ (defs refs : List (List ℕ)) where
-    abbrev there : Before
+    abbrev there : EarlierLines
     there = record { names = known; location = at; reached = reached; defs = defs; refs = refs }
 
     -- what is asked once it is known where a line leads
-    abbrev lets : Before → Said → Move → Result Checked AsmCause
+    abbrev lets : EarlierLines → ParsedLine → LocationChange → Result Checked AsmCause
     lets before line move =
         unless (is_too_far before line.statement move) Overflow move >>= λ move.
         unless (is_bad before line.label line.statement) BadDirective (record { label = line.label; statement = line.statement; move = move })
 
-    lets_same : (label : Option (List ℕ)) (statement : Statement) (move : Move) → is_free statement ≡ true
+    lets_same : (label : Option (List ℕ)) (statement : Statement) (move : LocationChange) → is_free statement ≡ true
         → lets there (record { label = label; statement = statement }) move ≡ lets (nothing_before at) (record { label = label; statement = statement }) move
     lets_same None Nothing move free = refl
     lets_same _ Nothing move free = refl
@@ -82,16 +82,16 @@ module _ (known : Names) (at : Location) (reached : ℕ) where
     lets_same _ (End text) move free = refl
     lets_same label _ move free = cc free
 
-    as_expr_same : (line : Said) (found : Move) → is_free line.statement ≡ true → as_expr (move empty at 0 line.statement) ≡ Ok found
+    as_expr_same : (line : ParsedLine) (found : LocationChange) → is_free line.statement ≡ true → as_expr (move empty at 0 line.statement) ≡ Ok found
         → as_expr (move known at reached line.statement) ≡ Ok found
     as_expr_same line found free e = by (move empty at 0 line.statement) refl e
       where
-        by : (answer : Result Move ExprError) → move empty at 0 line.statement ≡ answer → as_expr answer ≡ Ok found
+        by : (answer : Result LocationChange ExprError) → move empty at 0 line.statement ≡ answer → as_expr answer ≡ Ok found
             → as_expr (move known at reached line.statement) ≡ Ok found
         by (Ok first) is e = ap as_expr (move_same line.statement first free is) ∙ e
         by (Err cause) is e = cc e
 
-    pub moved_same : (line : Said) (found : Checked) → is_free line.statement ≡ true → moved (nothing_before at) line ≡ Ok found
+    pub moved_same : (line : ParsedLine) (found : Checked) → is_free line.statement ≡ true → moved (nothing_before at) line ≡ Ok found
         → moved there line ≡ Ok found
     unfolding moved
     moved_same line found free e =
@@ -110,7 +110,7 @@ module _ (known : Names) (at : Location) (reached : ℕ) where
 
     pub said_same : (text : List ℕ) (there_fields : Fields) (statement : Statement) → as_text (fields text) ≡ Ok there_fields
         → statement_in text there_fields ≡ Ok statement → is_free statement ≡ true → any_known known (label_in there_fields.label) ≡ false
-        → said there text ≡ Ok (record { label = there_fields.label; statement = statement })
-    unfolding said
+        → parsed there text ≡ Ok (record { label = there_fields.label; statement = statement })
+    unfolding parsed
     said_same text found statement is says free new =
         rw (is, new, says, free_refs found.label statement free) refl

@@ -1,7 +1,7 @@
 use Rattle.std.proofs.Common.{◌∙◌, ◌≡◌, ap, arith}
 use Rattle.sim_view.proofs.Common.{is_view}
 use Rattle.sim_rows.specs.Prelude.{code_byte, operation_at, state_at_dispatch, view}
-use Rattle.sim_rows.proofs.step.operation_told.Goals as goal
+use Rattle.sim_rows.proofs.step.current_operation.Goals as goal
 
 pub overflow_cast-register : goal.overflow_cast-register
 overflow_cast-register c =

@@ -1,7 +1,7 @@
 use Rattle.sim_rows.proofs.Common.{off, on}
 use Rattle.sim_move.proofs.Copies
 use Rattle.sim_move.proofs.Copies.{code_fits, state}
-use Rattle.sim_move.proofs.family.find_copy.Goals as goal
+use Rattle.sim_move.proofs.family.decode_move.Goals as goal
 
 pub returns-then-pc-eq-GSTOP : goal.returns-then-pc-eq-GSTOP
 returns-then-pc-eq-GSTOP g c =

@@ -3,11 +3,11 @@ use Rattle.std.specs.Prelude.{map}
 use Rattle.source_defs.specs.Lines.{part}
 use Rattle.source_defs.specs.Operands.{OperandsLieInside}
 use Rattle.source_defs.specs.Operands.{operand_texts}
-use Rattle.source_defs.specs.OperandLists.{all_written}
-use Rattle.asm_text.proofs.operand_lists.all_written.Given as goal
+use Rattle.source_defs.specs.OperandLists.{none_empty}
+use Rattle.asm_text.proofs.operand_lists.none_empty.Given as goal
 
 abbrev pub invariant-loop-span : goal.invariant-loop-span
 invariant-loop-span l = record {
   inside : OperandsLieInside l.field l.span-iterator;
-  same : all_written (map (part l.field) l.span-iterator) ≡ all_written (operand_texts l.field);
+  same : none_empty (map (part l.field) l.span-iterator) ≡ none_empty (operand_texts l.field);
 }
