@@ -140,11 +140,11 @@ use Rattle.instruction_defs.specs.FirstChecks.{first_checks}
 use Rattle.instruction_defs.specs.SecondChecks.{second_checks}
 use Rattle.asm_defs.specs.Directives.{directive}
 use Rattle.asm_defs.specs.Statements.{statement_in}
-use Rattle.asm_defs.specs.FirstChecks.{said, moved}
+use Rattle.asm_defs.specs.FirstChecks.{parsed, moved}
 use Rattle.asm_defs.specs.SecondChecks.{outcome}
 use Rattle.line_table.proofs.Blocks.{Block}'''
 OPENED = ('unfolding mnemonic form_of first_checks second_checks token_at tokens_from in_quotes operands_from fields '
-          'registers directive statement_in said moved outcome')
+          'registers directive statement_in parsed moved outcome')
 FILES = ['FirstBlocks', 'SecondBlocks', 'ThirdBlocks']
 
 

@@ -53,7 +53,8 @@ impl AsmLines {
     pub fn line(&mut self, line: &[u8]) -> Result<(), AsmError>
         requires open { IsOpen self.old }
         requires count { CanCount self.old }
-        ensures { (texts : List (List ℕ)) → HasAccepted texts self.old → AcceptsText texts line.now result self.new }
+        ensures { (texts : List (List ℕ)) → HasAccepted texts self.old
+            → AcceptsText texts line.now result self.new }
     {
         self.take(line)
     }

@@ -133,7 +133,8 @@ module _ (known : Names) (here : Location) where
       absolute_in text >>= λ number. Ok (set_to (record { part = part.Absolute; number = number }))
   move reached (Rorg None) = Ok (set_to (record { part = part.Relocatable; number = reached }))
   move reached (Rorg (Some text)) =
-      value text >>= non_external_number >>= λ number. Ok (set_to (record { part = part.Relocatable; number = number }))
+      value text >>= non_external_number
+          >>= λ number. Ok (set_to (record { part = part.Relocatable; number = number }))
   move reached (Dorg text) = absolute_in text >>= λ number. Ok (set_to (record { part = part.Dummy; number = number }))
   move reached (Bss text) = absolute_in text >>= λ size. Ok (stays_at here size)
   move reached (Bes text) = absolute_in text >>= λ size. Ok (ends_block here size)

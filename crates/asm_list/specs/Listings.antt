@@ -67,5 +67,6 @@ RefusedCauses (Some error) before after = ShelfCauses error before after
 -- What the listing says of the shelf. Memory may run out too once a file was found too large.
 abbrev pub ListingCauses : Result AsmListing CopyError → ShelfState → ShelfState → Type 0
 ListingCauses (Ok listing) before after = RefusedCauses listing.refused before after
-ListingCauses (Err Memory) before after = ReadWithinLimit most_bytes before after ⊎ ReadOverLimit most_bytes before after
+ListingCauses (Err Memory) before after =
+    ReadWithinLimit most_bytes before after ⊎ ReadOverLimit most_bytes before after
 ListingCauses (Err error) before after = ShelfCauses error before after

@@ -36,4 +36,5 @@ pub record LoadsProgram (source : Result Program (Refusal GplCause)) (loaded : L
 
 abbrev pub LoadsSource : Result Program (Refusal GplCause) → Result LoadedProgram CommandError → Type 0
 LoadsSource source (Ok program) = LoadsProgram source program
-LoadsSource source (Err command_error) = Reported (ProgramReport RunsNone source) WantsMemory (error_answer command_error)
+LoadsSource source (Err command_error) =
+    Reported (ProgramReport RunsNone source) WantsMemory (error_answer command_error)

@@ -60,7 +60,8 @@ StartsTrace limit input (Err command_error) =
 abbrev pub Prepares : Command → List ℕ → Result Prepared CommandError → Type 0
 Prepares command input (Ok (prepared.Report report)) = AcceptedReport command input (defined_report report)
 Prepares command input (Ok (prepared.Trace trace)) = (command ≡ asked.Trace trace.limit) × TracesSource input trace
-Prepares command input (Err command_error) = Reported (AcceptedReport command input) WantsMemory (error_answer command_error)
+Prepares command input (Err command_error) =
+    Reported (AcceptedReport command input) WantsMemory (error_answer command_error)
 
 -- The program was run, and its report was written, or a front of it.
 pub record TracesWhole (shows : ShowsChanges) (o : Outputs) (trace : Trace) (status : Status) : Type 0 where

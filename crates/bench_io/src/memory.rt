@@ -180,10 +180,16 @@ impl Sink for MemSink {
         ensures fails { IsErr result
             ↔ (Contains self.old.fails self.old.calls ⊎ (self.old.room < length self.old.held + length bytes.now)) }
         ensures failed { OnErr result
-            (self.new ≡ record self.old { calls = saturating_sum self.old.calls 1; faults = saturating_sum self.old.faults 1 }) }
+            (self.new ≡ record self.old {
+              calls = saturating_sum self.old.calls 1;
+              faults = saturating_sum self.old.faults 1;
+            }) }
         ensures cause { OnErr result (Rose self.old.faults self.new.faults) }
         ensures ok { OnOk result
-            (self.new ≡ record self.old { held = self.old.held ++ bytes.now; calls = saturating_sum self.old.calls 1 }) }
+            (self.new ≡ record self.old {
+              held = self.old.held ++ bytes.now;
+              calls = saturating_sum self.old.calls 1;
+            }) }
     {
         let call = self.calls;
         self.calls = call.saturating_add(1);

@@ -38,7 +38,8 @@ ReadWithinLimit limit before after = after.source.largest ≤ max before.source.
 -- A missing name is counted, and so is a failure. A file is too large exactly where more bytes of one were taken than
 -- it may have.
 abbrev pub FileCauses : ℕ → FileError → ShelfState → ShelfState → Type 0
-FileCauses limit (unread.Missing name) before after = Rose before.misses after.misses × ReadWithinLimit limit before after
+FileCauses limit (unread.Missing name) before after = Rose before.misses after.misses
+    × ReadWithinLimit limit before after
 FileCauses limit unread.TooLarge before after = ReadOverLimit limit before after
 FileCauses limit unread.Fault before after =
     Rose before.source.faults after.source.faults × ReadWithinLimit limit before after

@@ -33,7 +33,12 @@ IsWithin rest None = ⊥
 -- a shelf that was asked for a file: none is open, and the call is counted
 abbrev pub asked : Shelved → Shelved
 asked before =
-    record before { left = []; given = 0; requests = saturating_sum before.requests 1; opens = saturating_sum before.opens 1 }
+    record before {
+      left = [];
+      given = 0;
+      requests = saturating_sum before.requests 1;
+      opens = saturating_sum before.opens 1;
+    }
 
 -- a shelf whose next call opens a file of this name, or finds that it fails, or that the name is missing
 abbrev pub OpensIn : {A : Type 0} → Shelved → List ℕ → Result A OpenError → Shelved → Type 0

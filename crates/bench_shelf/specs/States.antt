@@ -34,7 +34,8 @@ FixedPart = ℕ × ℕ × Option Files × Option (List (List ℕ))
 abbrev pub fixed_part : ShelfState → FixedPart
 fixed_part shelf = (shelf.opens, shelf.misses, shelf.files, shelf.asked)
 
-abbrev pub same_files : (before after : ShelfState) → fixed_part after ≡ fixed_part before → SameFiles before after
+abbrev pub same_files : (before after : ShelfState) → fixed_part after ≡ fixed_part before
+    → SameFiles before after
 same_files before after same =
     record {
       files = ap (λ (stands : FixedPart). stands.2) same;

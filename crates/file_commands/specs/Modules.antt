@@ -14,4 +14,5 @@ ReportsRefused defined report =
 -- what is found is what is defined, or why there is none is told; want of memory says nothing
 abbrev pub GivesModules : {A B : Type 0} → (A → B) → Result A CommandError → Result B FilesRefusal → Type 0
 GivesModules see (Ok value) defined = defined ≡ Ok (see value)
-GivesModules see (Err command_error) defined = Reported (ReportsRefused defined) WantsMemory (error_answer command_error)
+GivesModules see (Err command_error) defined =
+    Reported (ReportsRefused defined) WantsMemory (error_answer command_error)

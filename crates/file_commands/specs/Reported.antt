@@ -89,5 +89,6 @@ LinkFails names before after status.ReadFault =
     (questions : List Question) × LinkDialogue before after names questions
     × Failed largest_input before after questions
 LinkFails names before after status.Memory =
-    (questions : List Question) × LinkDialogue before after names questions × ReadWithinLimit largest_input before after
+    (questions : List Question) × LinkDialogue before after names questions
+        × ReadWithinLimit largest_input before after
 LinkFails names before after other = ⊥

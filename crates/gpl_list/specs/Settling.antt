@@ -36,7 +36,8 @@ SettledAs bytes known at statement earlier (Err failure) left = Fails failure (s
 abbrev pub SettlesLine : {A : Type 0} → (A → List ℕ) → Names → Location → List ℕ → Image → Result A Failure → Image → Type 0
 SettlesLine bytes known at text old result left =
     (statement : Statement) (earlier : List Settled)
-    → parsed known at text ≡ Ok statement → at.number + declared_size statement ≤ 65536 → old ≡ image earlier
+    → parsed known at text ≡ Ok statement → at.number + declared_size statement ≤ 65536
+    → old ≡ image earlier
     → SettledAs bytes known at statement earlier result left
 
 -- the rows of lines with their bytes, or of those before the first that the second checks refuse

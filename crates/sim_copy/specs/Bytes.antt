@@ -114,7 +114,8 @@ pub record OnWay (way : CopyPath) (c : Changes) (from : From) (to : To) (bytes :
 -- All bytes are copied, from a place in memory or out of GROM.
 pub data Copied (c : Changes) (v : View) : Type 0 where
   FromPlace : v.r.r5 < 2 → ShowsChanges c v → Copied c v
-  OutOfGrom : v.r.r5 ≡ 2 → v.r.r14 ≡ c.state.pc → (next : ℕ) → ShowsChanges (with_pc next c) v → Copied c v
+  OutOfGrom : v.r.r5 ≡ 2 → v.r.r14 ≡ c.state.pc → (next : ℕ) → ShowsChanges (with_pc next c) v
+      → Copied c v
 
 -- A copy stands at a place.
 pub data CopyingAt (place : ℕ) (c : Changes) (from : From) (to : To) (bytes : ℕ) (v : View) : Type 0 where

@@ -75,7 +75,8 @@ pub record AtPlace (s : GplState) (place : Place) (next : ℕ) (w : View) : Type
 abbrev pub LoadsFollowing : MachineState → MachineState → ℕ → ℕ → Type 0
 LoadsFollowing x y before after =
     (s : GplState) → Follows s (view x)
-    → (let count = word_at s.image (behind_code s) in ReachesWithin 16 x y before after MOVEL (LengthTold s count.1 count.0))
+    → (let count = word_at s.image (behind_code s) in
+    ReachesWithin 16 x y before after MOVEL (LengthTold s count.1 count.0))
 
 abbrev pub LoadsPlaced : MachineState → MachineState → ℕ → ℕ → Type 0
 LoadsPlaced x y before after =

@@ -71,7 +71,8 @@ pub record OperandStop (v : View) (reason : Reason) (w : View) : Type 0 where
 abbrev pub Finds : MachineState → MachineState → ℕ → ℕ → ℕ → Result Place Reason → Type 0
 Finds x y before after next (Ok place) =
     ReachesWithin most_of_address x y before after (return_of (view x)) (Placed (view x) next place)
-Finds x y before after next (Err reason) = ReachesWithin most_of_address x y before after GSTOP (OperandStop (view x) reason)
+Finds x y before after next (Err reason) =
+    ReachesWithin most_of_address x y before after GSTOP (OperandStop (view x) reason)
 
 -- The place of the operand that follows in GROM, for as many bytes as register 3 says.
 abbrev pub FindsOperand : MachineState → MachineState → ℕ → ℕ → Type 0

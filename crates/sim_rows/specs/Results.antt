@@ -76,7 +76,8 @@ RunsRow operation most x y before after =
 
 -- The same of a row that may stop, with its answer.
 abbrev pub TurnsBy : ℕ → GplState → MachineState → MachineState → ℕ → ℕ → Turn → Result Changes Reason → Type 0
-TurnsBy most s x y before after turn (Ok c) = (turn ≡ Stepped) × ReachesWithin most x y before after GSTEP (SeesFinished c)
+TurnsBy most s x y before after turn (Ok c) = (turn ≡ Stepped)
+    × ReachesWithin most x y before after GSTEP (SeesFinished c)
 TurnsBy most s x y before after turn (Err reason) =
     (turn ≡ Stopped reason) × ReachesWithin most x y before after GSTOP (StoppedBy s reason)
 

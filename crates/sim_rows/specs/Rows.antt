@@ -139,7 +139,8 @@ AtRow s place source w = Sourced s place source (next_of s) w
 
 -- The destination is found and kept, or the program stops. A row of one operand goes on at GO.
 abbrev pub KeepsDestination : GplState → Place → MachineState → MachineState → ℕ → ℕ → Bool → Type 0
-KeepsDestination s place x y before after true = ReachesWithin 65 x y before after OPSTWO (Kept s place (behind_first s))
+KeepsDestination s place x y before after true =
+    ReachesWithin 65 x y before after OPSTWO (Kept s place (behind_first s))
 KeepsDestination s place x y before after false =
     ReachesWithin 69 x y before after GO (Sourced s place unit (behind_first s))
 

@@ -69,7 +69,8 @@ ReadsFirst before after =
 -- have: else it is reported as too large. `asm` opens none before it has taken the input whole.
 abbrev pub Leaves : ProgramCommand → Reading → Reading → Type 0
 Leaves (OverFiles AsmFiles) before after =
-    TookWithin before.input after.input × ReadWithinLimit most_bytes before.shelf after.shelf × ReadsFirst before after
+    TookWithin before.input after.input × ReadWithinLimit most_bytes before.shelf after.shelf
+        × ReadsFirst before after
 Leaves (OverFiles (LinkFiles names)) before after =
     (after.input ≡ before.input) × ReadWithinLimit largest_input before.shelf after.shelf
     × (questions : List Question) × LinkDialogue before.shelf after.shelf names questions
