@@ -6,7 +6,7 @@ ghost use Rattle.asm_defs.specs.Directives as spec;
 use asm_defs::Directive;
 use asm_text::{keyed, named_in, word_key};
 
-/// The directives, each behind the number of its name.
+/// The directives, each after the number of its name.
 const NAMED: [(u64, Directive); 18] = [
     keyed!(b'D' b'A' b'T' b'A' => Directive::Data),
     keyed!(b'B' b'Y' b'T' b'E' => Directive::Byte),

@@ -203,7 +203,7 @@ fn listed_names(alloc: Global, statement: &Statement<'_>) -> Result<Vec<Name>, A
     }
 }
 
-/// The location behind a line.
+/// The location after a line.
 pub fn location_behind(here: Location, moved: &LocationChange) -> Location
     requires here { here.number ≤ 65536 }
     requires within { MovesWithin moved.now }
@@ -216,7 +216,7 @@ pub fn location_behind(here: Location, moved: &LocationChange) -> Location
     behind(from, moved.gap + moved.size)
 }
 
-/// Whether a location lies in its part, or just behind its last place.
+/// Whether a location lies in its part, or just after its last place.
 fn is_in_part(location: Location) -> bool
     ensures { result ≡ places.is_in_part location }
 {

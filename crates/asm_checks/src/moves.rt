@@ -86,7 +86,7 @@ pub fn declared_size(statement: &Statement<'_>) -> u32
     }
 }
 
-/// The place some bytes behind a place.
+/// The place some bytes after a place.
 pub fn behind(at: Location, bytes: u32) -> Location
     requires { at.number + bytes < 2 ^ 32 }
     ensures { result ≡ places.behind at bytes }
@@ -127,7 +127,7 @@ fn stays_even(here: Location, size: u32) -> LocationChange
     }
 }
 
-/// A line whose label stands for the location behind it.
+/// A line whose label stands for the location after it.
 fn ends_block(here: Location, size: u32) -> LocationChange
     requires here { here.number ≤ 65536 }
     requires size { size ≤ 65535 }

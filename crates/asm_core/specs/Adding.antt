@@ -10,7 +10,7 @@ use Rattle.asm_core.specs.declared.lines.AsmLines.{AsmLines}
 use Rattle.asm_core.specs.Keeping.{names_with, SameNames}
 use Rattle.asm_core.specs.Building.{ImageOf, IsWorked}
 
--- a line is the next, behind others
+-- a line is the next, after others
 pub record IsNext (builder : AsmLines) (text : List ℕ) (checked : Checked) (lines : List Line)
     (line : Line) : Type 0 where
   pub at : behind builder.location checked.moved.gap ≡ place lines line

@@ -27,7 +27,7 @@ use Rattle.asm_core.specs.declared.error.AsmError.TheVariants as error
 use Rattle.asm_core.specs.declared.pending.Pending.{Pending}
 use Rattle.asm_core.specs.declared.pending.Refused.{Refused}
 
--- a line that waits, behind others
+-- a line that waits, after others
 pub record IsOf (before : List Line) (line : Line) (pending : Pending) : Type 0 where
   pub number : pending.number ≡ line.number
   pub at : pending.at ≡ place before line
@@ -45,7 +45,7 @@ pub record IsWaiting (before : List Line) (line : Line) (found : Settled) (waiti
   pub held : found ≡ held_place (place before line) line.statement
   pub others : waiting ≡ first ∷ rest
 
--- what is known of lines in their order behind others, and which of them wait
+-- what is known of lines in their order after others, and which of them wait
 abbrev pub AreKnown : Names → List Line → List Line → List Settled → List Pending → Type 0
 AreKnown known before [] [] waiting = waiting ≡ []
 AreKnown known before [] (found ∷ founds) waiting = ⊥
@@ -69,7 +69,7 @@ pub record IsGoing (lines : List Line) (names : Names) (placed : Option Image) (
   pub stand : AllStand [] founds
   pub image : ImageOf (onto [] founds) placed
 
--- the second checks refuse a line behind others, whatever names are still to come
+-- the second checks refuse a line after others, whatever names are still to come
 abbrev pub Refuses : Names → List Line → List Settled → Line → AsmCause → Option Pending → Type 0
 Refuses known before earlier line cause None =
     IsTrue (is_closed is_unresolved (outcome (look_up known) (place before line) line.statement))
@@ -77,7 +77,7 @@ Refuses known before earlier line cause None =
 Refuses known before earlier line cause (Some pending) =
     IsOf before line pending × Causes cause (with_room earlier (held_place (place before line) line.statement))
 
--- a line is refused, and no line behind it counts
+-- a line is refused, and no line after it counts
 pub record IsStopped (refused : Refused) (lines : List Line) (names : Names) (waiting : List Pending) : Type 0 where
   pub order : List Line
   pub founds : List Settled
@@ -93,7 +93,7 @@ abbrev pub IsWorked : List Line → Names → Option Image → List Pending → 
 IsWorked lines known image waiting None = IsGoing lines known image waiting
 IsWorked lines known image waiting (Some refused) = IsStopped refused lines known waiting
 
--- the builder behind lines, of which the nearest stands first
+-- the builder after lines, of which the nearest stands first
 pub record IsBehind (lines : List Line) (builder : AsmLines) : Type 0 where
   pub names : builder.symbols ≡ names lines
   pub location : builder.location ≡ location lines
@@ -114,7 +114,7 @@ refusal_at number failure.Memory = error.Memory
 abbrev pub error_of : Refused → AsmError
 error_of refused = error.At refused.line refused.cause
 
--- a line was taken behind others, or why it is refused there
+-- a line was taken after others, or why it is refused there
 abbrev pub Takes : {A : Type 0} → List Line → List ℕ → Result A AsmError → AsmLines → Type 0
 Takes lines text (Ok _) builder =
     (line : Line) × (check lines (length lines + 1) text ≡ Ok line) × IsBehind (line ∷ lines) builder

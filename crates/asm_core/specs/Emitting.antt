@@ -27,13 +27,13 @@ pub record SameLines (old new : AsmLines) : Type 0 where
   pub waiting : new.waiting ≡ old.waiting
   pub refused : new.refused ≡ old.refused
 
--- the bytes that a line places behind others at a place
+-- the bytes that a line places after others at a place
 abbrev pub AreContents : Location → List Content → List Settled → Settled → Type 0
 AreContents at given earlier line =
     (line.at ≡ at) × ((references : List Reference) → IsTrue (is_placed_in at.part)
     → given ≡ contents references earlier line)
 
--- a line is placed behind others, and whether it has room
+-- a line is placed after others, and whether it has room
 pub record Places {A : Type 0} (earlier : List Settled) (line : Settled) (result : Result A AsmCause)
     (image : Option Image) : Type 0 where
   pub room : seen (λ _. line) result ≡ with_room earlier line

@@ -72,7 +72,7 @@ abbrev pub GivesModule : Result Module AsmError → Result object.Module (Refusa
 GivesModule (Ok found) defined = defined ≡ Ok (defined_module found)
 GivesModule (Err error) defined = RefusesAt error defined
 
--- a line was taken behind others, or the first checks refuse it there
+-- a line was taken after others, or the first checks refuse it there
 abbrev pub AcceptsText : {A : Type 0} → List (List ℕ) → List ℕ → Result A AsmError → AsmLines → Type 0
 AcceptsText texts text (Ok _) builder = HasAccepted (texts ++ text ∷ []) builder
 AcceptsText texts text (Err error) builder =

@@ -44,7 +44,7 @@ impl AsmLines {
         }
     }
 
-    /// Takes a line behind those that were taken. It is given without its line feed, and no line that ends the source
+    /// Takes a line after those that were taken. It is given without its line feed, and no line that ends the source
     /// was taken before.
     ///
     /// # Errors
@@ -98,7 +98,7 @@ impl AsmLines {
     }
 
     /// The module of the lines that were taken, which is that of their text: each line with a carriage return and a
-    /// line feed behind it.
+    /// line feed after it.
     ///
     /// # Errors
     /// `At` carries the first line that the second checks refuse, and comes exactly where there is one. `Memory` is

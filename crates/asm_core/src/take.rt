@@ -24,7 +24,7 @@ use object_tags::ModuleName;
 use std::alloc::AllocError;
 
 impl AsmLines {
-    /// Takes a line behind those that were taken. A refused line leaves the builder as before.
+    /// Takes a line after those that were taken. A refused line leaves the builder as before.
     pub(crate) fn take(&mut self, text: &[u8]) -> Result<(), AsmError>
         requires { self.old.taken < 2 ^ 32 - 1 }
         ensures { (lines : List places.Line) → IsBehind lines self.old → Takes lines text.now result self.new }
@@ -57,7 +57,7 @@ impl AsmLines {
         Ok(())
     }
 
-    /// Adds a line, whose label has to be new: its names, and what is known of it. Behind a line that is refused only
+    /// Adds a line, whose label has to be new: its names, and what is known of it. After a line that is refused only
     /// the names count.
     fn work(&mut self, text: &[u8], checked: &Checked<'_>) -> Result<(), Failure>
         requires taken { self.old.taken < 2 ^ 32 - 1 }
@@ -98,7 +98,7 @@ impl AsmLines {
         }
     }
 
-    /// Goes on behind a line that was kept.
+    /// Goes on after a line that was kept.
     fn advance(&mut self, checked: &Checked<'_>)
         requires taken { self.old.taken < 2 ^ 32 - 1 }
         requires within { MovesWithin checked.now.moved }
@@ -132,7 +132,7 @@ fn relocatable(location: Location) -> u32
     }
 }
 
-/// The module's name behind a line.
+/// The module's name after a line.
 fn title_behind(title: ModuleName, statement: &Statement<'_>) -> ModuleName
     requires { IsTitled (defined_statement statement.now) }
     ensures { result ≡ title_by title (defined_statement statement.now) }

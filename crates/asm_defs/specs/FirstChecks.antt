@@ -97,7 +97,7 @@ stays_even here size =
 abbrev pub set_to : Location → LocationChange
 set_to location = record { origin = Some location; gap = 0; size = 0; label = value_of location }
 
--- Editor/Assembler manual, "Block Ending with Symbol": the label is the location behind the block.
+-- Editor/Assembler manual, "Block Ending with Symbol": the label is the location after the block.
 abbrev pub ends_block : Location → ℕ → LocationChange
 ends_block here size = record { origin = None; gap = 0; size = size; label = value_of (behind here size) }
 
@@ -180,7 +180,7 @@ known_of before =
       refs = refs before;
     }
 
--- the location behind a line
+-- the location after a line
 abbrev pub location_behind : Location → LocationChange → Location
 location_behind here move = behind (set_or move.origin here) (move.gap + move.size)
 
@@ -261,7 +261,7 @@ line_of number checked =
       last = is_end checked.statement;
     }
 
--- what a line comes to behind others
+-- what a line comes to after others
 abbrev pub check : List Line → ℕ → List ℕ → Result Line AsmCause
 check before number text = do
   found ← checked (known_of before) text

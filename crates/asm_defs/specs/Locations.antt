@@ -31,7 +31,7 @@ value_by part.Relocatable number = Relocatable number
 value_by part.Absolute number = Absolute number
 value_by part.Dummy number = Absolute number
 
--- What a label stands for that has a location. Profile: one behind the last place is 0.
+-- What a label stands for that has a location. Profile: one after the last place is 0.
 abbrev pub value_of : Location → Value
 value_of location = value_by location.part (to_word location.number)
 

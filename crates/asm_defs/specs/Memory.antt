@@ -89,7 +89,7 @@ last_use [] name = spot.Absolute 0
 last_use (reference ∷ references) name =
     if same_text reference.name name then reference.last else last_use references name
 
--- the last uses behind one more
+-- the last uses after one more
 abbrev pub with_use : List Reference → List ℕ → Spot → List Reference
 with_use [] name at = []
 with_use (reference ∷ references) name at =
@@ -104,7 +104,7 @@ word_of references (Absolute number) = spot.Absolute number
 word_of references (Relocatable number) = spot.Relocatable number
 word_of references (External name) = last_use references name
 
--- the last uses behind a word at a place
+-- the last uses after a word at a place
 abbrev pub behind_word : List Reference → Spot → Value → List Reference
 behind_word references at (Absolute number) = references
 behind_word references at (Relocatable number) = references
@@ -117,7 +117,7 @@ word_contents part references at (word ∷ words) =
     content.First (word_of references word) ∷ content.Second
     ∷ word_contents part (behind_word references (spot_by part at) word) (at + 2) words
 
--- the last uses behind words
+-- the last uses after words
 abbrev pub behind_words : Part → List Reference → ℕ → List Value → List Reference
 behind_words part references at [] = references
 behind_words part references at (word ∷ words) =
@@ -134,7 +134,7 @@ behind_by at references (Words words) =
     if is_placed_in at.part then behind_words at.part references at.number words else references
 behind_by at references _ = references
 
--- The last uses behind lines. Profile: a word under DORG is no use.
+-- The last uses after lines. Profile: a word under DORG is no use.
 abbrev pub references_of : List Reference → List Settled → List Reference
 references_of references [] = references
 references_of references (line ∷ before) = behind_by line.at (references_of references before) line.outcome

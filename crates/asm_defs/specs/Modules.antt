@@ -17,7 +17,7 @@ use Rattle.asm_defs.specs.FirstChecks.{check, title_in, names, refs, defs}
 use Rattle.asm_defs.specs.SecondChecks.{Outcome, Nothing, Words, Bytes, Entry, outcome}
 use Rattle.asm_defs.specs.Memory.{Settled, word_count, overlaps, references_of, pieces}
 
--- Whether what a line places has room behind others. Profile: the 32,769th word comes first, then a byte that was
+-- Whether what a line places has room after others. Profile: the 32,769th word comes first, then a byte that was
 -- placed before.
 abbrev pub with_room : List Settled → Settled → Result Settled AsmCause
 with_room earlier line =
@@ -25,7 +25,7 @@ with_room earlier line =
     else if overlaps earlier line then Err Overlap
     else Ok line
 
--- The second checks of what a line says at a place behind others, by all names: its values and their ranges, then its
+-- The second checks of what a line says at a place after others, by all names: its values and their ranges, then its
 -- room.
 abbrev pub settle_at : Names → Location → Statement → List Settled → Result Settled AsmCause
 settle_at known at statement earlier = do

@@ -16,6 +16,6 @@ pub enum Part {
 pub struct Location {
     /// What it belongs to.
     pub part: Part,
-    /// The number of the place, which is 65,536 behind the last.
+    /// The number of the place, which is 65,536 after the last.
     pub number: u32,
 }

@@ -11,7 +11,7 @@ use Rattle.asm_forms.specs.declared.forms.Form.{Form}
 use Rattle.asm_forms.specs.declared.forms.Mode.{Mode}
 use Rattle.asm_forms.specs.declared.forms.Mode.TheVariants.{Plain, Indirect, Increment, Symbolic, Indexed}
 
--- the text behind a sign, cut at the parenthesis that opens at a place
+-- the text after a sign, cut at the parenthesis that opens at a place
 abbrev pub indexed_at : ℕ → List ℕ → spec.Form
 indexed_at place text = spec.Indexed (take place text) (slice_range text (place + 1) (last_place text))
 

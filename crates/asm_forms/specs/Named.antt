@@ -5,6 +5,6 @@ use Rattle.tms_defs.specs.declared.instruction.Operation.{Operation}
 use Rattle.instruction_defs.specs.Operations.{name_of}
 use Rattle.asm_text.specs.WordKeys.{key_of}
 
--- the operations, each behind the number of its name
+-- the operations, each after the number of its name
 abbrev pub named : List (ℕ × Operation)
 named = map (λ operation. (key_of (name_of operation), operation)) operations

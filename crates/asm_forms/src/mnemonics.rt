@@ -9,7 +9,7 @@ use asm_text::{keyed, name_key, named_in, word_key};
 use instruction_defs::Mnemonic;
 use tms_defs::{BareOp, ImmOp, JumpOp, OneOp, Operation, RegOp, ShiftOp, TwoOp};
 
-/// The operations on two general operands, each behind the number of its name.
+/// The operations on two general operands, each after the number of its name.
 const ON_TWO: [(u64, Operation); 12] = [
     keyed!(b'S' b'Z' b'C' => Operation::Two(TwoOp::SZC, false)),
     keyed!(b'S' b'Z' b'C' b'B' => Operation::Two(TwoOp::SZC, true)),
@@ -25,7 +25,7 @@ const ON_TWO: [(u64, Operation); 12] = [
     keyed!(b'S' b'O' b'C' b'B' => Operation::Two(TwoOp::SOC, true)),
 ];
 
-/// The operations on a general operand and a register or a count, and the shifts, each behind the number of its name.
+/// The operations on a general operand and a register or a count, and the shifts, each after the number of its name.
 const ON_REGISTER: [(u64, Operation); 12] = [
     keyed!(b'C' b'O' b'C' => Operation::Reg(RegOp::COC)),
     keyed!(b'C' b'Z' b'C' => Operation::Reg(RegOp::CZC)),
@@ -41,7 +41,7 @@ const ON_REGISTER: [(u64, Operation); 12] = [
     keyed!(b'S' b'R' b'C' => Operation::Shift(ShiftOp::SRC)),
 ];
 
-/// The operations on one general operand, each behind the number of its name.
+/// The operations on one general operand, each after the number of its name.
 const ON_ONE: [(u64, Operation); 14] = [
     keyed!(b'B' b'L' b'W' b'P' => Operation::One(OneOp::BLWP)),
     keyed!(b'B' => Operation::One(OneOp::B)),
@@ -59,7 +59,7 @@ const ON_ONE: [(u64, Operation); 14] = [
     keyed!(b'A' b'B' b'S' => Operation::One(OneOp::ABS)),
 ];
 
-/// The jumps, and the operations on one bit, each behind the number of its name.
+/// The jumps, and the operations on one bit, each after the number of its name.
 const JUMPS: [(u64, Operation); 16] = [
     keyed!(b'J' b'M' b'P' => Operation::Jump(JumpOp::JMP)),
     keyed!(b'J' b'L' b'T' => Operation::Jump(JumpOp::JLT)),
@@ -79,7 +79,7 @@ const JUMPS: [(u64, Operation); 16] = [
     keyed!(b'T' b'B' => Operation::Jump(JumpOp::TB)),
 ];
 
-/// The operations with a value or none, each behind the number of its name.
+/// The operations with a value or none, each after the number of its name.
 const OTHERS: [(u64, Operation); 15] = [
     keyed!(b'L' b'I' => Operation::Imm(ImmOp::LI)),
     keyed!(b'A' b'I' => Operation::Imm(ImmOp::AI)),

@@ -10,7 +10,7 @@ use crate::sizes::{following_words, has_immediate, has_value};
 use crate::text::{Text, push_decimal, push_register, push_signed, push_word};
 use tms_defs::{Instr, JumpOp, Place, RegOp};
 
-/// Appends the operands of an instruction behind a blank, where it has any.
+/// Appends the operands of an instruction after a blank, where it has any.
 #[tactic(auto, using(std::proofs::Common::append_assoc))]
 pub(crate) fn push_operands(text: &mut Text, instr: &Instr, at: u16, words: &[u16])
     requires room { array_string_len text.old ≤ 4 }
@@ -56,7 +56,7 @@ pub(crate) fn push_operands(text: &mut Text, instr: &Instr, at: u16, words: &[u1
     }
 }
 
-/// Appends a source and a destination behind a blank.
+/// Appends a source and a destination after a blank.
 #[tactic(auto, using(std::proofs::Common::append_assoc))]
 fn push_two(text: &mut Text, src: Place, dst: Place, words: &[u16])
     requires room { array_string_len text.old ≤ 4 }
@@ -72,7 +72,7 @@ fn push_two(text: &mut Text, src: Place, dst: Place, words: &[u16])
     push_operand(text, dst, word_at(words, 1 + following_words(src)));
 }
 
-/// The word with a number, or 0 behind the last.
+/// The word with a number, or 0 after the last.
 fn word_at(words: &[u16], number: u8) -> u16
     ensures { result ≡ slice_index words.now number }
 {

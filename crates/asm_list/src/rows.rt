@@ -94,7 +94,7 @@ pub(crate) fn name_row(
     Vec::from_slice(alloc, row.as_slice())
 }
 
-/// Appends the name of a file behind a blank, where one is copied, and a line feed.
+/// Appends the name of a file after a blank, where one is copied, and a line feed.
 #[tactic(auto, using(std::proofs::Common::append_assoc, crate::proofs::RowLaws::short_name))]
 fn append_file(line: &mut Line, file: &Option<FileName>)
     requires { array_vec_len line.old + 62 ≤ 192 }

@@ -20,7 +20,7 @@ abbrev pub shown_in_order : List Settled → List Shown
 shown_in_order [] = []
 shown_in_order (line ∷ before) = shown_in_order before ++ shown_settled line ∷ []
 
--- The bytes of each line stand in the module's parts at the line's places: no line behind it covers one of them.
+-- The bytes of each line stand in the module's parts at the line's places: no line after it covers one of them.
 abbrev pub StandAtTheirPlaces : List Reference → List Settled → Type 0
 StandAtTheirPlaces references found =
     (later before : List Settled) (line : Settled) (k : ℕ) → found ≡ later ++ line ∷ before

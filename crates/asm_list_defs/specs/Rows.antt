@@ -29,7 +29,7 @@ part_mark part.Absolute = 0x20
 part_mark part.Relocatable = 0x27
 part_mark part.Dummy = 0x2D
 
--- a place, with a blank behind it
+-- a place, with a blank after it
 unfoldable pub place_text : Location → List ℕ
 place_text at = hex_word (to_word at.number) ++ part_mark at.part ∷ 0x20 ∷ []
 
@@ -97,7 +97,7 @@ file_row (Some name) = codes "file " ++ (name ++ codes "\n")
 abbrev pub file_rows : Option (List ℕ) → Option (List ℕ) → List (List ℕ)
 file_rows before file = if same_file before file then [] else file_row file ∷ []
 
--- the rows of lines, behind one of a file
+-- the rows of lines, after one of a file
 abbrev pub lines_rows : Option (List ℕ) → List (PlacedLine × Shown) → List (List ℕ)
 lines_rows before [] = []
 lines_rows before (line ∷ lines) =
@@ -125,6 +125,6 @@ name_row found =
 abbrev pub listing_rows : Listing → List (List ℕ)
 listing_rows found = lines_rows None found.lines ++ map name_row found.names
 
--- one behind the other
+-- one after the other
 abbrev pub listing_text : Listing → List ℕ
 listing_text found = concat (listing_rows found)

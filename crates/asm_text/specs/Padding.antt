@@ -4,7 +4,7 @@ use Rattle.std.specs.Prelude.{◌++◌, length, take, replicate}
 use Rattle.std.proofs.Common.{ap, sym}
 use Rattle.source_defs.specs.Names.{is_kept_name}
 
--- a number, with so many bytes of a name behind it as its lower digits; behind the name they are 0
+-- a number, with so many bytes of a name after it as its lower digits; after the name they are 0
 unfoldable pub key_behind : ℕ → ℕ → List ℕ → ℕ
 key_behind key zero name = key
 key_behind key (suc places) [] = key_behind (256 * key) places []

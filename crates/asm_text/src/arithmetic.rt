@@ -60,7 +60,7 @@ fn ratio(a: Value, b: Value) -> Result<Value, ExprError>
     }
 }
 
-/// A value behind a minus sign.
+/// A value after a minus sign.
 pub(crate) fn minus(value: Value) -> Result<Value, ExprError>
     ensures { defined_value_answer result ≡ spec.minus (defined_value value) }
 {

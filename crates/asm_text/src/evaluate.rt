@@ -16,7 +16,7 @@ use crate::token::{Token, TokenKind};
 use crate::values::Value;
 use source_defs::ExprError;
 
-/// The first character of a text, where two quotes are one, and what stands behind it.
+/// The first character of a text, where two quotes are one, and what stands after it.
 fn first_character(text: &[u8]) -> Option<(u8, &[u8])>
     ensures { option_map (λ found. (found.0, found.1.now)) result ≡ first_character text.now }
 {

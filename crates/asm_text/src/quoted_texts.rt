@@ -34,7 +34,7 @@ pub fn is_quoted(text: &[u8]) -> bool
     }
 }
 
-/// Whether what stands behind the first quote of a text ends with the quote that closes it.
+/// Whether what stands after the first quote of a text ends with the quote that closes it.
 fn closes(text: &[u8]) -> bool
     ensures { result ≡ spec.closes false text.now }
 {

@@ -14,7 +14,7 @@ use crate::token::{Token, TokenKind};
 use source_defs::{ExprError, Span};
 use std::alloc::Global;
 
-/// The tokens of a text, one behind the other: numbers, names of at most six characters, `$`, quoted texts and the
+/// The tokens of a text, one after the other: numbers, names of at most six characters, `$`, quoted texts and the
 /// operators `+ - * /` (Editor/Assembler manual, "Expressions", "Constants" and "Symbols").
 ///
 /// # Errors
@@ -82,7 +82,7 @@ fn decimal_token(text: &[u8], start: usize) -> Result<Token, ExprError>
     }
 }
 
-/// A hexadecimal number: the longest run of hexadecimal digits behind its sign.
+/// A hexadecimal number: the longest run of hexadecimal digits after its sign.
 fn hexadecimal_token(text: &[u8], start: usize) -> Result<Token, ExprError>
     requires { start < length text.now }
     ensures { defined_token_answer result ≡ spec.hexadecimal_token text.now start }

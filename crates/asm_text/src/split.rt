@@ -55,7 +55,7 @@ pub fn fields(line: &[u8]) -> Result<Fields, TextError>
     }
 }
 
-/// Whether what stands in a line behind its label field and the blanks behind that, up to a blank, is a word, but for
+/// Whether what stands in a line after its label field and the blanks after that, up to a blank, is a word, but for
 /// the case of its letters: the operation, where the line is no comment and has one. The word is given in upper case.
 #[tactic(auto, using(crate::proofs::Beginnings::no_word, source_defs::proofs::LeastLaws::least_bounds))]
 pub fn is_operation(line: &[u8], word: &[u8]) -> bool
@@ -107,7 +107,7 @@ fn is_comment(line: &[u8], start: usize) -> bool
     start == line.len() || is_asterisk(line[0])
 }
 
-/// The fields of a line whose operation, if it has one, begins at a place, the first behind its label that is no blank.
+/// The fields of a line whose operation, if it has one, begins at a place, the first after its label that is no blank.
 #[tactic(auto, using(source_defs::proofs::LeastLaws::least_bounds))]
 fn fields_at(line: &[u8], label: Option<Name>, start: usize) -> Fields
     requires { start ≤ length line.now }

@@ -51,7 +51,7 @@ macro_rules! name_key {
     };
 }
 
-/// The row of a table: what a name stands for, behind the number of the name.
+/// The row of a table: what a name stands for, after the number of the name.
 #[macro_export]
 macro_rules! keyed {
     ($($letters:literal)* => $named:expr) => {
@@ -84,7 +84,7 @@ fn all_letters_or_digits(text: &[u8]) -> bool
     text.iter().all(|&byte| is_letter_or_digit(byte))
 }
 
-/// The first of some things in a table that stands behind a number, as behind the number of its name.
+/// The first of some things in a table that stands after a number, as after the number of its name.
 pub fn named_in<T: Copy>(table: &[(u64, T)], key: u64) -> Option<T>
     ensures { result ≡ keys.with_key (Some key) table.now }
 {

@@ -29,7 +29,7 @@ AnswersSteadily (Some command) input status = HasReportStatus command input stat
 abbrev pub steady_source : Supply → SourceState
 steady_source s = opened_once (Some s.left) s.calls s.taken s.empty 0
 
--- a sink that never fails and tells nothing, behind so many calls of `put`
+-- a sink that never fails and tells nothing, after so many calls of `put`
 abbrev pub steady_sink : ℕ → SinkState
 steady_sink puts = record { held = None; puts = puts; faults = 0 }
 

@@ -20,7 +20,7 @@ pub trait Source {
     ghost kept: { Self → Kept };
 
     /// Puts the next bytes into the front of `buffer` and says how many these are. 0 is the end. What stands in
-    /// `buffer` behind them, and after a failure in all of it, is left open.
+    /// `buffer` after them, and after a failure in all of it, is left open.
     ///
     /// # Errors
     /// `Failed` comes only where the count of faults rose in this call. It takes no bytes.

@@ -41,7 +41,7 @@ hidden_state folder =
 abbrev pub asked : Folder → Folder
 asked before = record before { is_open = false; given = 0; opens = saturating_sum before.opens 1 }
 
--- Behind Ok a file is open. Where opening one is refused, none is, and the count of faults or that of misses has risen
+-- After Ok a file is open. Where opening one is refused, none is, and the count of faults or that of misses has risen
 -- by one. Nothing was given yet of what was opened last.
 abbrev pub OpensFrom : {A : Type 0} → Folder → Result A OpenError → Folder → Type 0
 OpensFrom before (Ok _) after = after ≡ record (asked before) { is_open = true }

@@ -36,7 +36,7 @@ EndsAs Open builder = IsOpen builder
 EndsAs Ended builder = IsOpen builder → ⊥
 EndsAs (Refused refusal) builder = ⊥
 
--- the copied lines were taken behind others
+-- the copied lines were taken after others
 pub record GoesOn (done : List PlacedLine) (found : Copied) (new : Copying) : Type 0 where
   pub holds : Holds (done ++ found.lines) new
   pub copies : new.copies ≡ found.copies
@@ -52,12 +52,12 @@ abbrev pub error_at : {A : Type 0} → Place → Result A Failure → Option Cop
 error_at place (Ok value) = None
 error_at place (Err failure) = Some (failed_at place failure)
 
--- what stands behind lines is refused
+-- what stands after lines is refused
 abbrev pub IsRefusal : Ending → Type 0
 IsRefusal (Refused refusal) = ⊤
 IsRefusal other = ⊥
 
--- the first checks refuse the next of some lines behind those that were taken
+-- the first checks refuse the next of some lines after those that were taken
 pub record RefusesNext (all taken : List PlacedLine) : Type 0 where
   pub line : PlacedLine
   pub rest : List PlacedLine
@@ -66,7 +66,7 @@ pub record RefusesNext (all taken : List PlacedLine) : Type 0 where
   pub number : refusal.line ≡ 1 + length taken
   pub is : laid check (numbered 1 (texts (taken ++ line ∷ []))) ≡ Err refusal
 
--- the lines that were taken are all up to the refusal: of what stands behind them, or of the next line
+-- the lines that were taken are all up to the refusal: of what stands after them, or of the next line
 abbrev pub Halts : List PlacedLine → Ending → List PlacedLine → Type 0
 Halts all ending taken = ((all ≡ taken) × IsRefusal ending) ⊎ RefusesNext all taken
 

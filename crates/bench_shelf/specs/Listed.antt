@@ -74,7 +74,7 @@ pub record KeepsFront (all : List PlacedLine) (lines : List Line) (kept : List K
   pub size : length lines ≡ length (front all)
   pub heres : map (λ line. line.here) kept ≡ listed.heres lines
 
--- what stands behind them, by the definitions; where no line is refused by the first checks, as many files were copied
+-- what stands after them, by the definitions; where no line is refused by the first checks, as many files were copied
 -- as were asked for
 abbrev pub EndsListed : ℕ → Copied → List Line → ListedEnding → Type 0
 EndsListed asked found lines (Before error) = CopyRefuses error (laid_copied found) × IsTold error

@@ -1,4 +1,4 @@
--- The places of lines that stand one behind the other.
+-- The places of lines that stand one after the other.
 use Rattle.std.specs.Prelude.{◌≡◌, ℕ, zero, suc, ◌+◌, ◌-◌, ◌^◌, ◌<◌, List, [], ◌∷◌, Option}
 use Rattle.std.specs.List.{flat_map}
 use Rattle.shelf_defs.specs.Copied as spec
@@ -13,11 +13,11 @@ places_from file line (suc count) = record { file = file; line = line } ∷ plac
 abbrev pub run_places : Run → List spec.Place
 run_places run = places_from run.file run.line run.count
 
--- the places of runs, one behind the other
+-- the places of runs, one after the other
 abbrev pub places_of : List Run → List spec.Place
 places_of runs = flat_map run_places runs
 
--- a place comes next behind a run
+-- a place comes next after a run
 pub record ComesNext (run : Run) (place : Place) : Type 0 where
   pub file : run.file ≡ place.file
   pub line : run.line + run.count ≡ place.line

@@ -148,7 +148,7 @@ impl MemShelf {
         }
     }
 
-    /// Goes on behind some bytes of the open file, which are given.
+    /// Goes on after some bytes of the open file, which are given.
     fn advance(&mut self, count: usize)
         requires { count ≤ length self.old.left }
         ensures { self.new ≡ record self.old {

@@ -1,10 +1,10 @@
-//! Lines of one file, one behind the other.
+//! Lines of one file, one after the other.
 
 ghost use Rattle.std.specs.Prelude.{◌≤◌, ◌+◌, ◌^◌};
 
 use crate::file_name::FileName;
 
-/// Lines of one file, one behind the other from a place on.
+/// Lines of one file, one after the other from a place on.
 #[derive(Clone, Copy)]
 pub(crate) struct Run {
     /// The file, or `None` for the source itself.

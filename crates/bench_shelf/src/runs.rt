@@ -1,4 +1,4 @@
-//! The places of lines. Those that stand one behind the other are kept as one run.
+//! The places of lines. Those that stand one after the other are kept as one run.
 
 ghost use Rattle.std.specs.Prelude.{◌≡◌, ◌++◌, ◌∷◌, [], OnOk, IsTrue};
 ghost use Rattle.shelf_defs.specs.Assembly.{place_of};
@@ -11,7 +11,7 @@ use crate::run::Run;
 use std::alloc::AllocError;
 
 impl Run {
-    /// Whether a line of a file comes next behind the lines.
+    /// Whether a line of a file comes next after the lines.
     fn is_next(&self, file: &Option<FileName>, line: u32) -> bool
         ensures { IsTrue result → ComesNext self.now (place_in file.now line) }
     {

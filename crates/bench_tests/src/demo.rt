@@ -33,7 +33,7 @@ fn sums_up(alloc: Global, number: &[u8], summary: &[u8]) -> Result<bool, AllocEr
     )
 }
 
-/// Whether a summary whose third line cannot be written is a write fault behind the first two.
+/// Whether a summary whose third line cannot be written is a write fault after the first two.
 fn line_is_missed(alloc: Global) -> Result<bool, AllocError> {
     let ended = run(alloc, &[b"demo", b"1"], Vec::new(alloc), &[], &[2])?;
     Ok(ended.status == Status::WriteFault && ended.out.bytes() == b"demo 1\nimage 8\n".as_slice())

@@ -76,7 +76,7 @@ fn line_feeds(bytes: &[u8]) -> usize {
     count
 }
 
-/// Whether a call of `put` that fails is a write fault behind the lines that were written before it.
+/// Whether a call of `put` that fails is a write fault after the lines that were written before it.
 fn put_fails(
     alloc: Global,
     words: &[&[u8]],

@@ -1,6 +1,6 @@
 //! Runs that are written as text, and whether each ends as it says.
 //!
-//! A row begins with `%` and what it shows. Each line behind that begins with its mark:
+//! A row begins with `%` and what it shows. Each line after that begins with its mark:
 //!
 //! - `#`: a remark;
 //! - `$`: the words, of which `''` is the empty one;
@@ -11,7 +11,7 @@
 //! - `>`: a line of the standard output; `.`: more follows these lines; `~`: a part that the output has;
 //! - `e`: a line of the error output.
 //!
-//! Behind the mark stands a blank, or `-` where no line feed ends the line; `\n` and `\xNN` are single bytes.
+//! After the mark stands a blank, or `-` where no line feed ends the line; `\n` and `\xNN` are single bytes.
 
 use super::run::run_with;
 use bench_shelf::{FileName, MemShelf};
@@ -32,7 +32,7 @@ fn byte_of(digits: &str) -> u8 {
     u8::from_str_radix(digits, 16).unwrap_or(0)
 }
 
-/// Appends what stands behind a backslash: the byte of its sign, and the text behind that.
+/// Appends what stands after a backslash: the byte of its sign, and the text after that.
 fn push_escaped(to: &mut Vec<u8>, text: &str) -> Result<(), AllocError> {
     if let Some(text) = text.strip_prefix('x')
         && let Some((digits, rest)) = text.split_at_checked(2)
@@ -59,7 +59,7 @@ fn push_text(to: &mut Vec<u8>, text: &str) -> Result<(), AllocError> {
     Ok(())
 }
 
-/// Appends a line, by what stands behind its mark.
+/// Appends a line, by what stands after its mark.
 fn push_line(to: &mut Vec<u8>, rest: &str) -> Result<(), AllocError> {
     if let Some(text) = rest.strip_prefix('-') {
         return push_text(to, text);

@@ -321,7 +321,7 @@ pub(crate) fn source_of(alloc: Global, statements: &[u8]) -> Result<Vec<u8>, All
     Ok(source)
 }
 
-/// What `play` writes of the step behind the first 23 of the cartridge, as the first that it sees.
+/// What `play` writes of the step after the first 23 of the cartridge, as the first that it sees.
 fn played(alloc: Global) -> Option<MemSink> {
     let source = source_of(alloc, CARTRIDGE).ok()?;
     if source.len() > 1000 {
@@ -338,7 +338,7 @@ fn played(alloc: Global) -> Option<MemSink> {
     played_behind::<Brand>(alloc, machine, Blank::new(1)).ok()?
 }
 
-/// What `play` writes of the step behind 23 more of a program.
+/// What `play` writes of the step after 23 more of a program.
 fn played_behind<L: Ledger>(
     alloc: Global,
     machine: Machine,

@@ -7,7 +7,7 @@ ghost use Rattle.report_defs.specs.DemoText as spec;
 use asm_text::byte_digits;
 use report_lines::{Line, append, append_word};
 
-/// The number behind a number.
+/// The number after a number.
 pub(crate) fn next_number(number: u32) -> u16
     ensures { result ≡ spec.next_number number }
 {

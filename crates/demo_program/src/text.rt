@@ -6,7 +6,7 @@ ghost use Rattle.report_defs.specs.DemoText as spec;
 use crate::block::{block_line, next_number};
 use std::alloc::{AllocError, Global};
 
-/// What stands behind the blocks: the program leaves, and its subroutine follows.
+/// What stands after the blocks: the program leaves, and its subroutine follows.
 const LAST_LINES: &[u8] = b"       EXIT\nSUB    XOR @>8340,>5A\n       RTN\n       END >6000\n";
 
 /// The GPL source that is made from a number: as many blocks of one line, and then the end of the program and its
@@ -28,7 +28,7 @@ pub fn demo_text(alloc: Global, number: u32) -> Result<Vec<u8>, AllocError>
     Ok(text)
 }
 
-/// The lines behind the blocks.
+/// The lines after the blocks.
 #[tactic(auto, unfolding(report_defs::specs::DemoText::last_lines))]
 fn last_lines() -> &'static [u8]
     ensures text { result.now ≡ spec.last_lines }

@@ -67,7 +67,7 @@ pub fn file_tag_line(name: FileName, line: u32, cause: TagCause) -> Line
     in_file(Some(name), tag_line(line, cause).as_slice())
 }
 
-/// A line of at most 128 bytes about a file, or about the source itself: behind the file's name and a blank.
+/// A line of at most 128 bytes about a file, or about the source itself: after the file's name and a blank.
 #[tactic(auto, using(std::proofs::Common::append_assoc))]
 fn in_file(file: Option<FileName>, line: &[u8]) -> Line
     requires { length line.now ≤ 128 }

@@ -23,7 +23,7 @@ built_of found = record { image = image found; entry = entry found }
 abbrev pub whole : Names → List Line → Result Built (Refusal GplCause)
 whole later lines = settled (settle later) lines >>= λ found. Ok (built_of found)
 
--- the builder behind lines, of which the nearest stands first
+-- the builder after lines, of which the nearest stands first
 pub record IsBehind (lines : List Line) (builder : GplLines) : Type 0 where
   pub names : builder.symbols ≡ names lines
   pub location : builder.location ≡ location lines
@@ -34,7 +34,7 @@ pub record IsBehind (lines : List Line) (builder : GplLines) : Type 0 where
       → whole later lines ≡ replay later nothing builder.waiting.items
   pub room : (later : Names) → Grows builder.symbols later → AllByRecursion (HasRoom later) builder.waiting.items
 
--- what is told of a line that was taken behind others
+-- what is told of a line that was taken after others
 pub record Tells (lines : List Line) (line : Line) (told : TakenLine) : Type 0 where
   pub at : told.at ≡ place lines line
   pub origin : told.origin ≡ line.origin
@@ -42,7 +42,7 @@ pub record Tells (lines : List Line) (line : Line) (told : TakenLine) : Type 0 w
   -- it ends before the addresses do
   pub room : told.at.number + line.size ≤ 65536
 
--- a line was taken behind others, or why it is refused there
+-- a line was taken after others, or why it is refused there
 abbrev pub Takes : List Line → List ℕ → Result TakenLine GplError → GplLines → Type 0
 Takes lines text (Ok told) builder =
     (line : Line) × (check lines (length lines + 1) text ≡ Ok line) × IsBehind (line ∷ lines) builder × Tells lines line told

@@ -19,7 +19,7 @@ abbrev pub GivesProgram : Result GplProgram GplError → Result Program (Refusal
 GivesProgram (Ok found) defined = defined ≡ Ok (defined_program found)
 GivesProgram (Err error) defined = RefusesAt error defined
 
--- a line was taken behind others, or the first checks refuse it there
+-- a line was taken after others, or the first checks refuse it there
 abbrev pub AcceptsText : {A : Type 0} → List (List ℕ) → List ℕ → Result A GplError → GplLines → Type 0
 AcceptsText texts text (Ok _) builder = HasAccepted (texts ++ text ∷ []) builder
 AcceptsText texts text (Err error) builder =

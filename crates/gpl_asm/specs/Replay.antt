@@ -28,7 +28,7 @@ pub record Built : Type 0 where
 abbrev pub nothing : Built
 nothing = record { image = empty; entry = None }
 
--- what a line comes to is placed behind others, or overlaps them
+-- what a line comes to is placed after others, or overlaps them
 abbrev pub put : Location → Outcome → Built → Result Built GplCause
 put at found built =
     if overlaps built.image at.number (bytes_in found)

@@ -43,7 +43,7 @@ impl GplLines {
         })
     }
 
-    /// Takes a line behind those that were taken, and tells where it stands. It is given without its line feed, and no
+    /// Takes a line after those that were taken, and tells where it stands. It is given without its line feed, and no
     /// line that ends the source was taken before.
     ///
     /// # Errors

@@ -73,7 +73,7 @@ fn resolve_all(
     Ok(entry)
 }
 
-/// Resolves a line that waits, behind others, by all names, and gives the entry behind it.
+/// Resolves a line that waits, after others, by all names, and gives the entry after it.
 fn resolve(
     alloc: Global,
     symbols: &Symbols,

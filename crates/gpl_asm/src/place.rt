@@ -11,7 +11,7 @@ use gpl_forms::GromImage;
 use gpl_lines::Outcome;
 use gpl_source_defs::{GplCause, Location};
 
-/// Places what a line comes to, and gives the entry behind it; or refuses it where a byte of it was placed before.
+/// Places what a line comes to, and gives the entry after it; or refuses it where a byte of it was placed before.
 ///
 /// # Errors
 /// `Overlap` comes exactly where a byte of the line stands at an address at which one was placed; then the image is as
@@ -53,7 +53,7 @@ fn overlaps(image: &GromImage, at: u32, bytes: &[u8]) -> bool
     false
 }
 
-/// Puts bytes into an image, the first at an address and the next behind it, where they end before the addresses do.
+/// Puts bytes into an image, the first at an address and the next after it, where they end before the addresses do.
 fn put_all(image: &mut GromImage, at: u32, bytes: &[u8])
     ensures { at + length bytes.now ≤ 65536 → image.new ≡ placed image.old at bytes.now }
 {

@@ -17,7 +17,7 @@ use gpl_lines::{Checked, Scope};
 use gpl_source_defs::Location;
 
 impl GplLines {
-    /// Takes a line behind those that were taken, and tells where it stands. A refused line leaves the builder as
+    /// Takes a line after those that were taken, and tells where it stands. A refused line leaves the builder as
     /// before.
     pub(crate) fn take(&mut self, text: &[u8]) -> Result<TakenLine, GplError>
         requires { self.old.taken < 2 ^ 32 - 1 }
@@ -67,7 +67,7 @@ impl GplLines {
         self.taken += 1;
     }
 
-    /// What a line behind those that were taken sees.
+    /// What a line after those that were taken sees.
     #[tactic(auto, using(gpl_source_defs::proofs::CheckLaws::most_number))]
     fn scope(&self) -> Scope<'_>
         ensures symbols { result.symbols.now ≡ self.now.symbols }
@@ -81,7 +81,7 @@ impl GplLines {
         }
     }
 
-    /// Goes on behind a line that was kept.
+    /// Goes on after a line that was kept.
     fn advance(&mut self, origin: Option<Location>, checked: &Checked<'_>)
         requires taken { self.old.taken < 2 ^ 32 - 1 }
         requires place { IsInGrom (behind (set_or origin self.old.location) checked.now.size) }

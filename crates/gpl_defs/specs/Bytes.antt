@@ -146,7 +146,7 @@ variant_of (Move length target source) = one_if (is_counted length)
 abbrev pub code_of : GplInstr → ℕ
 code_of instr = (row_of (operation_of instr)).code + variant_of instr
 
--- The bytes behind the code byte. GPL Programmer's Guide, the statements: the destination stands first.
+-- The bytes after the code byte. GPL Programmer's Guide, the statements: the destination stands first.
 -- Profile: MOVE has its length, then its target, then its source.
 abbrev pub rest_of : GplInstr → List ℕ
 rest_of (Plain op) = []

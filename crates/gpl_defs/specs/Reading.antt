@@ -139,7 +139,7 @@ unfoldable pub reading : List ℕ → ℕ → GplRead
 reading image at =
     read_by (operation_at (slice_index image at)) (slice_index image at) image (next_in_grom at)
 
--- whether these bytes stand from an address on, one behind the other in one GROM
+-- whether these bytes stand from an address on, one after the other in one GROM
 abbrev pub stand : List ℕ → List ℕ → ℕ → Bool
 stand image [] at = true
 stand image (byte ∷ bytes) at = (slice_index image at == byte) && stand image bytes (next_in_grom at)

@@ -48,7 +48,7 @@ pub record SpellsOperand (operand : GplOperand) (bytes : List ℕ) : Type 0 wher
   pub allowed : IsTrue (may_have spelling operand)
   pub is : bytes ≡ spelled spelling operand
 
--- bytes of one kind and behind them bytes of another
+-- bytes of one kind and after them bytes of another
 pub record Joined (First Second : List ℕ → Type 0) (bytes : List ℕ) : Type 0 where
   pub first : List ℕ
   pub second : List ℕ
@@ -73,7 +73,7 @@ SpellsFrom (from.At operand) bytes = SpellsOperand operand bytes
 SpellsFrom (from.Grom address) bytes = bytes ≡ from_bytes (from.Grom address)
 SpellsFrom (from.GromIndexed address index) bytes = bytes ≡ from_bytes (from.GromIndexed address index)
 
--- The bytes behind the code byte. GPL Programmer's Guide, the statements: the destination stands first.
+-- The bytes after the code byte. GPL Programmer's Guide, the statements: the destination stands first.
 -- Profile: MOVE has its length, then its target, then its source.
 abbrev pub SpellsRest : GplInstr → List ℕ → Type 0
 SpellsRest (Plain op) bytes = bytes ≡ []
@@ -93,7 +93,7 @@ pub record Spells (instr : GplInstr) (bytes : List ℕ) : Type 0 where
   pub is : bytes ≡ code_of instr ∷ rest
 
 -- From an address on stand these bytes, and another address is the one after them. They follow one another in one GROM:
--- behind the last address of a GROM comes its first. GPL Programmer's Guide, on the GROM address counter.
+-- after the last address of a GROM comes its first. GPL Programmer's Guide, on the GROM address counter.
 abbrev pub Stand : List ℕ → List ℕ → ℕ → ℕ → Type 0
 Stand image [] at next = at ≡ next
 Stand image (byte ∷ bytes) at next = (slice_index image at ≡ byte) × Stand image bytes (next_in_grom at) next

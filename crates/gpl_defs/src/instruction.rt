@@ -122,7 +122,7 @@ pub enum OneName {
     INCT,
     /// Decrement by two.
     DECT,
-    /// Fetch a byte behind the call of the subroutine.
+    /// Fetch a byte after the call of the subroutine.
     FETCH,
     /// Push onto the data stack.
     PUSH,

@@ -79,7 +79,7 @@ fn push_read(line: &mut Line, image: &[u8], at: u16, end: u32, instr: &GplInstr,
     }
 }
 
-/// The first address of the GROM behind an address.
+/// The first address of the GROM after an address.
 fn boundary(at: u16) -> u32
     ensures { result ≡ spec.boundary at }
 {

@@ -52,7 +52,7 @@ fn put_lines<O: Sink>(image: &[u8], low: u16, high: u32, out: &mut O) -> Result<
     Ok(())
 }
 
-/// Writes the line of the byte at an address, behind those for GROM and AORG where it begins a GROM and is not the
+/// Writes the line of the byte at an address, after those for GROM and AORG where it begins a GROM and is not the
 /// first, and gives the address after the bytes that it stands for.
 fn put_entry<O: Sink>(
     image: &[u8],

@@ -17,7 +17,7 @@ use gpl_forms::{
 };
 use grom_defs::GROM_SIZE;
 
-/// The text of a valid instruction that stands at the address `at`: the operation, and its operands behind a blank. The
+/// The text of a valid instruction that stands at the address `at`: the operation, and its operands after a blank. The
 /// GROM of `at` completes the target of a BR or BS. GPL Programmer's Guide, the statements.
 pub fn instr_text(instr: &GplInstr, at: u16) -> ArrayString<52>
     requires { IsTrue (is_valid instr.now) }
@@ -130,7 +130,7 @@ fn push_name<const N: usize>(text: &mut ArrayString<N>, operation: GplOperation)
     text.push_str(" ");
 }
 
-/// Appends the name of an operation, behind a D for the form of words, and a blank.
+/// Appends the name of an operation, after a D for the form of words, and a blank.
 #[tactic(auto, using(std::proofs::Common::append_assoc))]
 fn push_worded<const N: usize>(text: &mut ArrayString<N>, word: bool, operation: GplOperation)
     requires { array_string_len text.old + 7 ≤ N }

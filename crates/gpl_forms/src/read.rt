@@ -15,7 +15,7 @@ use gpl_defs::{
 use grom_addresses::next_in_grom;
 
 /// The instruction at an address of 65,536 bytes, in any of its spellings, with the address after it; or the code
-/// byte there, exactly where it is no instruction's. Behind the last address of a GROM comes its first.
+/// byte there, exactly where it is no instruction's. After the last address of a GROM comes its first.
 /// GPL Programmer's Guide, the statements.
 pub fn read_instr(image: &[u8], at: u16) -> GplRead
     requires { length image.now ≡ 65536 }
@@ -41,7 +41,7 @@ pub fn is_shortest(image: &[u8], at: u16) -> bool
     }
 }
 
-/// Whether bytes stand from an address of 65,536 bytes on, one behind the other in one GROM: behind its last address
+/// Whether bytes stand from an address of 65,536 bytes on, one after the other in one GROM: after its last address
 /// comes its first. GPL Programmer's Guide, on the GROM address counter.
 pub fn stands(image: &[u8], bytes: &[u8], at: u16) -> bool
     requires { length image.now ≡ 65536 }
@@ -232,7 +232,7 @@ fn read_space(first: u8) -> Space
     }
 }
 
-/// The address of an operand behind its first byte, whose low four bits begin it unless they are ones.
+/// The address of an operand after its first byte, whose low four bits begin it unless they are ones.
 fn read_address(first: u8, image: &[u8], at: u16) -> (u16, u16)
     requires { length image.now ≡ 65536 }
     ensures { result ≡ spec.address_at first image.now at }
@@ -244,7 +244,7 @@ fn read_address(first: u8, image: &[u8], at: u16) -> (u16, u16)
     (address, next_in_grom(at))
 }
 
-/// The index of an operand behind its address.
+/// The index of an operand after its address.
 fn read_index(first: u8, image: &[u8], at: u16) -> (Option<u8>, u16)
     requires { length image.now ≡ 65536 }
     ensures { result ≡ spec.index_at first image.now at }

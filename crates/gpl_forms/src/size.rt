@@ -27,7 +27,7 @@ pub fn size_of(instr: &GplInstr) -> u32
     }
 }
 
-/// How many bytes lie from an address up to one behind it in the same GROM.
+/// How many bytes lie from an address up to one after it in the same GROM.
 pub fn size_between(at: u16, next: u16) -> u32
     ensures { result ≡ sizes.size_between at next }
 {

@@ -98,7 +98,7 @@ fn is_counted(length: &MoveLength) -> bool
     matches!(length, MoveLength::Immediate(_))
 }
 
-/// Appends the operands of a valid instruction behind its code byte.
+/// Appends the operands of a valid instruction after its code byte.
 fn push_operands(bytes: &mut Bytes, instr: &GplInstr)
     requires valid { IsTrue (is_valid instr.now) }
     requires room { array_vec_len bytes.old ≤ 1 }

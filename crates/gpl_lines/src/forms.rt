@@ -21,9 +21,9 @@ pub(crate) struct Memory<'a> {
 /// How an operand is written, by the texts of its expressions.
 #[derive(Clone, Copy)]
 pub(crate) enum Form<'a> {
-    /// `@e`, `V@e`, `*e` or `V*e`, with `(@e)` behind it or without.
+    /// `@e`, `V@e`, `*e` or `V*e`, with `(@e)` after it or without.
     InMemory(Memory<'a>),
-    /// `G@e`, with `(@e)` behind it or without.
+    /// `G@e`, with `(@e)` after it or without.
     InGrom(&'a [u8], Option<&'a [u8]>),
     /// `R@e`.
     Register(&'a [u8]),
@@ -69,7 +69,7 @@ fn signed_form<'a>(text: &'a [u8], letter: u8, sign: u8, rest: &'a [u8]) -> Form
     }
 }
 
-/// An operand in memory, by what stands behind its sign.
+/// An operand in memory, by what stands after its sign.
 fn in_memory(space: Space, indirect: bool, text: &[u8]) -> Form<'_>
     ensures { defined_form result ≡ spec.in_memory space indirect text.now }
 {

@@ -9,7 +9,7 @@ use asm_text::{keyed, named_in, word_key};
 use gpl_defs::{ByteOp, GoOp, OneName, PlainOp, TwoName};
 use gpl_source_defs::Mnemonic;
 
-/// The instructions with a destination and a source, each behind the number of its name.
+/// The instructions with a destination and a source, each after the number of its name.
 const TWO: [(u64, Mnemonic); 19] = [
     keyed!(b'A' b'D' b'D' => Mnemonic::Two(TwoName::ADD, false)),
     keyed!(b'S' b'U' b'B' => Mnemonic::Two(TwoName::SUB, false)),
@@ -32,7 +32,7 @@ const TWO: [(u64, Mnemonic); 19] = [
     keyed!(b'S' b'R' b'C' => Mnemonic::Two(TwoName::SRC, false)),
 ];
 
-/// The same on words, each behind the number of its name.
+/// The same on words, each after the number of its name.
 const TWO_WORDS: [(u64, Mnemonic); 19] = [
     keyed!(b'D' b'A' b'D' b'D' => Mnemonic::Two(TwoName::ADD, true)),
     keyed!(b'D' b'S' b'U' b'B' => Mnemonic::Two(TwoName::SUB, true)),
@@ -55,7 +55,7 @@ const TWO_WORDS: [(u64, Mnemonic); 19] = [
     keyed!(b'D' b'S' b'R' b'C' => Mnemonic::Two(TwoName::SRC, true)),
 ];
 
-/// MOVE, the instructions that lead elsewhere, and those with one operand, each behind the number of its name.
+/// MOVE, the instructions that lead elsewhere, and those with one operand, each after the number of its name.
 const ONE: [(u64, Mnemonic); 17] = [
     keyed!(b'M' b'O' b'V' b'E' => Mnemonic::Move),
     keyed!(b'B' b'R' => Mnemonic::Branch(false)),
@@ -76,7 +76,7 @@ const ONE: [(u64, Mnemonic); 17] = [
     keyed!(b'D' b'E' b'C' b'T' => Mnemonic::One(OneName::DECT, false)),
 ];
 
-/// The same on words, each behind the number of its name.
+/// The same on words, each after the number of its name.
 const ONE_WORD: [(u64, Mnemonic); 10] = [
     keyed!(b'D' b'A' b'B' b'S' => Mnemonic::One(OneName::ABS, true)),
     keyed!(b'D' b'N' b'E' b'G' => Mnemonic::One(OneName::NEG, true)),
@@ -90,7 +90,7 @@ const ONE_WORD: [(u64, Mnemonic); 10] = [
     keyed!(b'D' b'D' b'E' b'C' b'T' => Mnemonic::One(OneName::DECT, true)),
 ];
 
-/// The instructions with a byte or no operand, each behind the number of its name.
+/// The instructions with a byte or no operand, each after the number of its name.
 const OTHERS: [(u64, Mnemonic); 10] = [
     keyed!(b'R' b'T' b'N' => Mnemonic::Plain(PlainOp::RTN)),
     keyed!(b'R' b'T' b'N' b'C' => Mnemonic::Plain(PlainOp::RTNC)),

@@ -46,7 +46,7 @@ abbrev pub OneMore : ℕ → Location → ℕ → List ℕ → List Row → List
 OneMore number at address text before after =
     (row : Row) × (after ≡ before ++ row ∷ []) × IsTaken number at address text row
 
--- the row of a line behind others, with what it says by later names too
+-- the row of a line after others, with what it says by later names too
 pub record RowOf (texts : List (ℕ × List ℕ)) (later : Names) (before : List Line) (line : Line) (row : Row) : Type 0 where
   pub numbered : line.number ≡ length before + 1
   pub number : row.number ≡ line.number
@@ -57,7 +57,7 @@ pub record RowOf (texts : List (ℕ × List ℕ)) (later : Names) (before : List
   pub parsed : parsed later row.at row.text.items ≡ Ok line.statement
   pub room : row.at.number + declared_size line.statement ≤ 65536
 
--- the rows of lines in their order, behind others
+-- the rows of lines in their order, after others
 abbrev pub Describes : List (ℕ × List ℕ) → Names → List Line → List Line → List Row → Type 0
 Describes texts later before [] [] = ⊤
 Describes texts later before (line ∷ rest) (row ∷ rows) =
@@ -65,7 +65,7 @@ Describes texts later before (line ∷ rest) (row ∷ rows) =
 Describes texts later before [] (row ∷ rows) = ⊥
 Describes texts later before (line ∷ rest) [] = ⊥
 
--- lines in their order, put behind others, of which the nearest stands first
+-- lines in their order, put after others, of which the nearest stands first
 abbrev pub onto : List Line → List Line → List Line
 onto [] before = before
 onto (line ∷ rest) before = onto rest (line ∷ before)
@@ -90,7 +90,7 @@ pub record KeepsNone (read : ReadLines) : Type 0 where
   pub rows : read.rows.items ≡ []
   pub names : read.names.items ≡ []
 
--- a line was taken behind others, or the first checks refuse it there
+-- a line was taken after others, or the first checks refuse it there
 abbrev pub ReadsLine : {A : Type 0} → List (ℕ × List ℕ) → List Line → List ℕ → Result A GplError → ReadLines → Type 0
 ReadsLine texts lines text (Ok done) read =
     (line : Line) × (check lines (length lines + 1) text ≡ Ok line) × Keeps texts (line ∷ lines) read

@@ -26,7 +26,7 @@ ComesTo known at text result =
     (statement : Statement) → parsed known at text ≡ Ok statement
     → Gives defined_outcome result (outcome (look_up known) at statement)
 
--- a line was settled behind others, and its bytes were placed
+-- a line was settled after others, and its bytes were placed
 abbrev pub SettledAs : {A : Type 0} → (A → List ℕ) → Names → Location → Statement → List Settled → Result A Failure → Image → Type 0
 SettledAs bytes known at statement earlier (Ok value) left =
     (found : Settled) × (settle_at known at statement earlier ≡ Ok found) × (left ≡ image (found ∷ earlier))

@@ -63,7 +63,7 @@ fn push_row(rows: &mut Vec<Row>, row: Row) -> Result<(), AllocError>
     Ok(())
 }
 
-/// Places the bytes of a line behind others, by all names, and gives them.
+/// Places the bytes of a line after others, by all names, and gives them.
 fn settle_line(
     alloc: Global,
     names: &Symbols,

@@ -51,7 +51,7 @@ fn line_front(row: &Row) -> Line
     line
 }
 
-/// An address as a word, which is 0 behind the last of all.
+/// An address as a word, which is 0 after the last of all.
 #[tactic(auto, using(crate::proofs::Further::word_by))]
 pub(crate) fn address(number: u32) -> u16
     ensures value { result ≡ number % 65536 }
@@ -72,7 +72,7 @@ pub(crate) fn first_bytes(bytes: &[u8]) -> &[u8]
     bytes
 }
 
-/// The bytes behind the first row.
+/// The bytes after the first row.
 #[tactic(auto, using(crate::proofs::Further::drop_short))]
 pub(crate) fn further_bytes(bytes: &[u8]) -> &[u8]
     ensures { result.now ≡ drop 8 bytes.now }

@@ -12,13 +12,13 @@ use Rattle.report_defs.specs.Report.{Report, Whole, RejectedAfter}
 use Rattle.gpl_list_defs.specs.Rows.{Row, NameRow, no_bytes, placed_bytes, rows, name_rows, lines_before}
 use Rattle.gpl_list_defs.specs.Text.{listing_lines}
 
--- what is listed of a source: its rows, its names, and the refusal of the line behind the rows, if one is refused
+-- what is listed of a source: its rows, its names, and the refusal of the line after the rows, if one is refused
 pub record Listing : Type 0 where
   pub rows : List Row
   pub names : List NameRow
   pub refused : Result Unit (Refusal GplCause)
 
--- Of lines that the first checks let through. Profile: each has a row, and the names stand behind them; of a source that
+-- Of lines that the first checks let through. Profile: each has a row, and the names stand after them; of a source that
 -- the second checks refuse the lines before the refused one have rows, and no names stand.
 abbrev pub settled_listing : List (ℕ × List ℕ) → List Line → Result (List Settled) (Refusal GplCause) → Listing
 settled_listing texts lines (Ok found) =
@@ -50,7 +50,7 @@ laid_listing texts (Err refused) =
 abbrev pub listing_of : List ℕ → Listing
 listing_of source = laid_listing (line_texts source) (laid check (line_texts source))
 
--- what is reported of it: a refused line is told behind the lines before it
+-- what is reported of it: a refused line is told after the lines before it
 abbrev pub report_by : List (List ℕ) → Result Unit (Refusal GplCause) → Report
 report_by lines (Ok done) = Whole Done lines
 report_by lines (Err refused) = RejectedAfter lines (gpl_line refused)

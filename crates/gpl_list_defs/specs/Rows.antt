@@ -10,7 +10,7 @@ use Rattle.gpl_source_defs.specs.Locations.{Line, place, origin_of}
 use Rattle.gpl_source_defs.specs.SecondChecks.{Outcome, outcome}
 use Rattle.gpl_source_defs.specs.Programs.{bytes_in}
 
--- a line by its number, its address, which is 65,536 behind the last of all, the bytes that it places, and its text
+-- a line by its number, its address, which is 65,536 after the last of all, the bytes that it places, and its text
 pub record Row : Type 0 where
   pub number : ℕ
   pub at : ℕ

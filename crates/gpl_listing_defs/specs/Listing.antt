@@ -50,7 +50,7 @@ origin_texts at =
 abbrev pub origin_texts_at : ℕ → ℕ → List (List ℕ)
 origin_texts_at low at = if (at % GROM_SIZE == 0) && not (at == low) then origin_texts at else []
 
--- What the lines of so many bytes from an address on say, by the address of the first of all and the end behind the
+-- What the lines of so many bytes from an address on say, by the address of the first of all and the end after the
 -- last. The first of them may belong to the line before, and have none of their own.
 abbrev pub texts_from : List ℕ → ℕ → ℕ → ℕ → ℕ → ℕ → List (List ℕ)
 texts_from image low end at belonging zero = []

@@ -48,7 +48,7 @@ fn take_lines(builder: &mut AsmLines, lines: &[&str]) -> Result<(), BuildError>
     Ok(())
 }
 
-/// Takes a line, which is the next of the source. Behind the one that ends the source none is read.
+/// Takes a line, which is the next of the source. After the one that ends the source none is read.
 fn take_line(builder: &mut AsmLines, line: &str) -> Result<(), BuildError>
     requires { (rest : List (List ℕ)) × HasLeft (line.now ∷ rest) builder.old }
     ensures { (rest : List (List ℕ)) → HasLeft (line.now ∷ rest) builder.old → OnOk result (HasLeft rest builder.new) }

@@ -96,7 +96,7 @@ line_of here number line =
       last = is_end line.statement;
     }
 
--- what a line comes to behind others
+-- what a line comes to after others
 abbrev pub check : List Line → ℕ → List ℕ → Result Line GplCause
 check before number text = do
   found ← checked (names before) (location before) text

@@ -55,7 +55,7 @@ abbrev pub in_memory : Space → Bool → List ℕ → Form
 in_memory space indirect text =
     InMemory (record { space = space; indirect = indirect; address = address_text text; index = index_text text })
 
--- the form of an operand that begins with a letter, by that letter in upper case, the sign behind it and the rest
+-- the form of an operand that begins with a letter, by that letter in upper case, the sign after it and the rest
 abbrev pub signed_form : List ℕ → ℕ → ℕ → List ℕ → Form
 signed_form text letter sign rest =
     if (letter == video_letter) && is_at sign then in_memory Vdp false rest

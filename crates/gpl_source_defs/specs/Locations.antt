@@ -1,6 +1,6 @@
 -- The locations of a GPL source.
 --
--- GPL Programmer's Guide, GROM: each has its addresses, and the next begins >2000 behind. Profile: it has bytes at all
+-- GPL Programmer's Guide, GROM: each has its addresses, and the next begins >2000 after. Profile: it has bytes at all
 -- of them.
 use Rattle.std.specs.Prelude.{◌≡◌, ◌≤◌, ℕ, ◌+◌, ◌/◌, ◌%◌, ◌==◌, Bool, nat_lt, if◌then◌else◌, List, Option, Some, None}
 use Rattle.std.specs.Prelude.{Result, Ok, Err}
@@ -30,7 +30,7 @@ location before = layout.location start behind before
 abbrev pub place : List Line → Line → Location
 place before line = layout.place start behind before line
 
--- What $ and a label stand for. Profile: behind the last address of all it is 0.
+-- What $ and a label stand for. Profile: after the last address of all it is 0.
 abbrev pub address_of : Location → ℕ
 address_of location = to_word location.number
 
@@ -50,7 +50,7 @@ abbrev pub branch_offset : Location → ℕ → Result ℕ GplCause
 branch_offset at target =
     if target / GROM_SIZE == at.grom / GROM_SIZE then Ok (target % GROM_SIZE) else Err OtherGrom
 
--- a location of a GROM, or the one behind its last
+-- a location of a GROM, or the one after its last
 pub record IsInGrom (here : Location) : Type 0 where
   pub aligned : here.grom % GROM_SIZE ≡ 0
   pub address : here.grom ≤ 65535

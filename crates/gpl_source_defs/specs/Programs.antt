@@ -47,7 +47,7 @@ abbrev pub with_room : List Settled → Settled → Result Settled GplCause
 with_room earlier line =
     if overlaps (image earlier) line.at (bytes_in line.outcome) then Err Overlap else Ok line
 
--- The second checks of what a line says at a place behind others, by all names. Profile: its values, their ranges, then
+-- The second checks of what a line says at a place after others, by all names. Profile: its values, their ranges, then
 -- its room.
 abbrev pub settle_at : Names → Location → Statement → List Settled → Result Settled GplCause
 settle_at known at statement earlier = do

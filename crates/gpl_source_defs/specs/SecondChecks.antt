@@ -56,7 +56,7 @@ module _ (look : List ℕ → Option Value) (at : Location) where
     number ← value text
     Ok (counted.Immediate number)
 
-  -- where MOVE copies to and from, behind its length
+  -- where MOVE copies to and from, after its length
   abbrev pub moved : MoveLength → Route → Result GplInstr GplCause
   moved count (Within to place) = Ok (instr.Move count (target.At to) (from.At place))
   moved count (ToMemory to address None) = do

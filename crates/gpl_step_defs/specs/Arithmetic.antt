@@ -78,7 +78,7 @@ abbrev pub with_quotient : Width → Place → ℕ → ℕ → Changes → Chang
 with_quotient width at quotient remainder c =
     with_value width (behind (size_of width) at) remainder (with_value width at quotient c)
 
--- GPL Programmer's Guide, "Divide": the quotient, and behind it the remainder.
+-- GPL Programmer's Guide, "Divide": the quotient, and after it the remainder.
 -- Profile: OVF is cleared; where the quotient does not fit it is set, and nothing else changes.
 abbrev pub divided : Width → Place → ℕ → ℕ → Changes → Changes
 divided width at dividend divisor c =

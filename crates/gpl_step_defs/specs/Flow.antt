@@ -23,7 +23,7 @@ is_taken false holds = not holds
 abbrev pub branched : Bool → ℕ → Changes → Changes
 branched on to c = with_condition false (if is_taken on (condition c.state) then with_pc to c else c)
 
--- CASE goes to the branch in a table of branches behind it, each of two bytes. GPL Programmer's Guide, CASE.
+-- CASE goes to the branch in a table of branches after it, each of two bytes. GPL Programmer's Guide, CASE.
 -- Profile: the sum keeps 16 bits; COND is cleared.
 abbrev pub selected : ℕ → Changes → Changes
 selected number c = with_condition false (with_pc (plus c.state.pc (2 * number)) c)

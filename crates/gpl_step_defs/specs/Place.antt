@@ -21,7 +21,7 @@ pub record Place : Type 0 where
   pub space : Space
   pub address : ℕ
 
--- so many bytes behind a place
+-- so many bytes after a place
 abbrev pub behind : ℕ → Place → Place
 behind bytes p = record p { address = plus p.address bytes }
 

@@ -129,7 +129,7 @@ two_operands op width dst src c = do
   source ← source_of c.state width src
   Ok (two op width p (value_at c.state width p) source c)
 
--- What an instruction changes, where the one behind it has its address already.
+-- What an instruction changes, where the one after it has its address already.
 abbrev pub changes_of : GplInstr → ℕ → Changes → Result Changes Reason
 changes_of (Plain op) at c = plain op c
 changes_of (OfByte op value) at c = Ok (with_immediate op value c)

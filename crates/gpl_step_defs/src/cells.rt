@@ -1,6 +1,6 @@
 //! The cells of the scratchpad that GPL sees, by their offsets from >8300.
 
-/// How many cells GPL sees. The interpreter keeps its own words in those behind them.
+/// How many cells GPL sees. The interpreter keeps its own words in those after them.
 pub const VISIBLE_CELLS: u8 = 0xC2;
 
 /// The pointer of the data stack, on which PUSH puts values: the cell that holds the offset of its last byte.

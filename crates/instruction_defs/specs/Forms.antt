@@ -24,12 +24,12 @@ is_at byte = byte == 0x40
 abbrev pub without_last : List ℕ → List ℕ
 without_last text = take (last_place text) text
 
--- Behind *: a register, which grows where + stands at the end.
+-- After *: a register, which grows where + stands at the end.
 abbrev pub starred_form : List ℕ → Form
 starred_form text =
     if is_plus (slice_index text (last_place text)) then Increment (without_last text) else Indirect text
 
--- Behind @: an address, with an index register where the text ends in parentheses.
+-- After @: an address, with an index register where the text ends in parentheses.
 -- Profile: it is cut at the first parenthesis that opens outside quotes; one that stands elsewhere belongs to an
 -- expression, which is refused for it.
 abbrev pub symbolic_form : List ℕ → Form

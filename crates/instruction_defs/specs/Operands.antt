@@ -1,4 +1,4 @@
--- The operands of each operation, in the order of the operand field, and the words that stand behind its first.
+-- The operands of each operation, in the order of the operand field, and the words that stand after its first.
 use Rattle.std.specs.Prelude.{ℕ, ◌+◌, ◌==◌, Bool, true, false, if◌then◌else◌, List, [], ◌∷◌}
 use Rattle.tms_defs.specs.declared.instruction.Place.{Place}
 use Rattle.tms_defs.specs.declared.instruction.RegOp.{RegOp}

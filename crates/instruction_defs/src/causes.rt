@@ -11,7 +11,7 @@ pub enum FormError {
     OperandCount,
     /// An operand is empty or has a form that its place does not allow, or its value is out of range.
     BadOperand,
-    /// A jump's target is not from -128 to 127 whole words behind the next instruction.
+    /// A jump's target is not from -128 to 127 whole words after the next instruction.
     JumpTooFar,
     /// An expression is refused. It never carries `ExprError::Memory`.
     Expr(ExprError),

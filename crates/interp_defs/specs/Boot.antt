@@ -20,7 +20,7 @@ pub record HoldsEntry (entry : ℕ) (scratchpad : List ℕ) : Type 0 where
   pub before : (at : ℕ) → at < entry_cell → slice_index scratchpad at ≡ 0
   pub behind : (at : ℕ) → entry_cell + 2 ≤ at → slice_index scratchpad at ≡ 0
 
--- Low expansion memory holds the interpreter, and behind it zeros.
+-- Low expansion memory holds the interpreter, and after it zeros.
 pub record HoldsWords (bytes : List ℕ) : Type 0 where
   pub size : length bytes ≡ 8192
   pub words : HoldsInterpreter bytes

@@ -9,7 +9,7 @@ use std::test::Fail;
 /// How many addresses there are.
 const ADDRESSES: usize = 65536;
 
-/// Addresses, and the word there: before the words, the first two, between two words, the last, and behind it.
+/// Addresses, and the word there: before the words, the first two, between two words, the last, and after it.
 const WORDS: &[(u16, Option<u16>)] = &[
     (ORIGIN - 2, None),
     (ORIGIN, Some(GBOOT)),
@@ -19,7 +19,7 @@ const WORDS: &[(u16, Option<u16>)] = &[
     (BEHIND, None),
 ];
 
-/// The word at an address, of words that stand one behind the other from >2000 up.
+/// The word at an address, of words that stand one after the other from >2000 up.
 fn placed(words: &[u16], address: u16) -> Option<u16> {
     if address < ORIGIN || address % 2 != 0 {
         return None;

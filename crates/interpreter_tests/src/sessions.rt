@@ -13,7 +13,7 @@ use std::sync::ledger::{Blank, Ledger};
 use std::test::Fail;
 use tms_step::{Machine, Steps};
 
-/// A program's name, its bytes from >6000 on, the addresses behind its steps, and how and where it ends.
+/// A program's name, its bytes from >6000 on, the addresses after its steps, and how and where it ends.
 const PROGRAMS: &[(&str, &[u8], &[u16], Reason, u16)] = &[
     ("EXIT", &[0x0B], &[], Reason::Exit, 0x6000),
     (
@@ -56,7 +56,7 @@ fn step<L: Ledger>(session: &mut Session, steps: &mut Steps<L>) -> Option<Turn> 
     }
 }
 
-/// Whether the program makes its steps, each to the address that is behind it, and then ends so.
+/// Whether the program makes its steps, each to the address that is after it, and then ends so.
 fn runs_so<L: Ledger>(
     blank: Blank,
     machine: Machine,

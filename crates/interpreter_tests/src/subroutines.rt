@@ -1,4 +1,4 @@
-//! SEEK, and FETCH behind it, on a machine that stands at SEEK.
+//! SEEK, and FETCH after it, on a machine that stands at SEEK.
 
 ghost use Rattle.std.specs.Prelude.{◌≡◌, ◌<◌};
 
@@ -20,7 +20,7 @@ const BYTES: Program = &[
     (0xE000, &[0x78]),
 ];
 
-/// Addresses, and the byte that FETCH gives behind SEEK of each.
+/// Addresses, and the byte that FETCH gives after SEEK of each.
 const FETCHED: &[(u16, u16)] = &[
     (0x6000, 0x12),
     (0x6001, 0x34),

@@ -14,7 +14,7 @@ const LINES: &[(usize, u16, u8, u16)] = &[
     (42, ORIGIN + 6, 1, GEXIT),
 ];
 
-/// The last two lines, by how many lines stand behind them: B and END.
+/// The last two lines, by how many lines stand after them: B and END.
 const LAST_LINES: &[(usize, u16, u8, u16)] = &[(1, BEHIND - 4, 2, 0x0460), (0, BEHIND, 0, 0)];
 
 /// Names by their numbers from 0, and what they stand for: the first EQU, and the first place.
@@ -38,7 +38,7 @@ fn is_name(index: usize, name: &[u8], value: u16) -> bool {
     found.name.as_bytes() == name && found.value == value
 }
 
-/// Whether the words of all rows, one behind the other, are those that are shipped.
+/// Whether the words of all rows, one after the other, are those that are shipped.
 fn words_are_shipped(shipped: &[u16]) -> bool {
     let mut place = 0;
     for index in 0..row_count() {

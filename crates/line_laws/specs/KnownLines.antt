@@ -42,7 +42,7 @@ known_line look location text = do
   come ← outcome look (behind location found.move.gap) found.statement
   Ok (record { at = behind location found.move.gap; found = found; outcome = come })
 
--- lines by themselves, one behind the other
+-- lines by themselves, one after the other
 abbrev pub known_lines : (List ℕ → Option Value) → Location → List (List ℕ) → Result (List KnownLine) AsmCause
 known_lines look location [] = Ok []
 known_lines look location (text ∷ texts) = do
@@ -50,7 +50,7 @@ known_lines look location (text ∷ texts) = do
   others ← known_lines look (location_behind location line.found.move) texts
   Ok (line ∷ others)
 
--- the location behind lines
+-- the location after lines
 abbrev pub end_of : Location → List KnownLine → Location
 end_of location [] = location
 end_of location (line ∷ lines) = end_of (location_behind location line.found.move) lines
@@ -62,7 +62,7 @@ names_in line = label_entry line.found.label line.found.move.label
 abbrev pub all_names : List KnownLine → List (List ℕ × Value)
 all_names lines = flat_map names_in lines
 
--- names with more behind them, the last first; what a name stands for
+-- names with more after them, the last first; what a name stands for
 abbrev pub names_behind : List (List ℕ × Value) → List (List ℕ × Value) → List (List ℕ × Value)
 names_behind known [] = known
 names_behind known (entry ∷ entries) = names_behind (entry ∷ known) entries
@@ -120,13 +120,13 @@ is_absolute part.Dummy = false
 abbrev pub is_at : ℕ → Location → Bool
 is_at number place = is_absolute place.part && place.number == number
 
--- the words of lines stand one behind the other from an absolute place on
+-- the words of lines stand one after the other from an absolute place on
 abbrev pub are_close : ℕ → List KnownLine → Bool
 are_close number [] = true
 are_close number (line ∷ lines) =
     (is_empty (words_in line) || is_at number line.at) && are_close (number + 2 * length (words_in line)) lines
 
--- the pieces of words that stand one behind the other from an absolute place on
+-- the pieces of words that stand one after the other from an absolute place on
 abbrev pub pieces_of : ℕ → List ℕ → List Piece
 pieces_of from [] = []
 pieces_of from (word ∷ words) =

@@ -21,8 +21,8 @@ use Rattle.line_laws.specs.KnownLines.{are_new, are_plain, are_close, all_words,
 abbrev pub looks : List (List ℕ × Value) → List ℕ → Option Value
 looks defined name = look_in (names_behind registers defined) name
 
--- Lines that are plain, by the names that they define: these are new, and the words stand one behind the other from an
--- absolute place on. Behind them stands a last line, which is END with an entry.
+-- Lines that are plain, by the names that they define: these are new, and the words stand one after the other from an
+-- absolute place on. After them stands a last line, which is END with an entry.
 pub record AreKnown (from : ℕ) (texts : List (List ℕ)) (last : List ℕ) (defined : List (List ℕ × Value))
     (lines : List KnownLine) (end : KnownLine) (entry : Spot) : Type 0 where
   pub known : known_lines (looks defined) start texts ≡ Ok lines
@@ -35,7 +35,7 @@ pub record AreKnown (from : ℕ) (texts : List (List ℕ)) (last : List ℕ) (de
   pub ends : (text : Option (List ℕ)) × (end.found.statement ≡ End text)
   pub enters : end.outcome ≡ outcome.Entry entry
 
--- a module whose words stand one behind the other, with an entry and without names
+-- a module whose words stand one after the other, with an entry and without names
 pub record HasWords (from : ℕ) (words : List ℕ) (entry : Spot) (m : Module) : Type 0 where
   pub pieces : m.pieces ≡ pieces_of from words
   pub defs : m.defs ≡ []
@@ -56,7 +56,7 @@ KnownLinesHaveTheirWords =
     → AreKnown (2 * half) texts last defined lines end entry → half + length (all_words lines) ≤ 32768
     → HaveWords (texts ++ last ∷ []) (2 * half) (all_words lines) entry
 
--- A line of a source stands at a place, behind the lines before it, and comes to something, by the names of all lines.
+-- A line of a source stands at a place, after the lines before it, and comes to something, by the names of all lines.
 pub record StandsIn (texts : List (List ℕ)) (index : ℕ) (at : Location) (come : Outcome) : Type 0 where
   pub before : List Line
   pub are_laid : laid check (numbered 1 (take index texts)) ≡ Ok before

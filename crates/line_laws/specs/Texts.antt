@@ -7,7 +7,7 @@ use Rattle.source_defs.specs.Layout.{line_texts, numbered}
 abbrev pub IsWithoutControls : List ℕ → Type 0
 IsWithoutControls text = IsTrue (list_all (λ byte. nat_le 0x20 byte) text)
 
--- the text of some lines, each with a line feed behind it
+-- the text of some lines, each with a line feed after it
 abbrev pub fed_text : List (List ℕ) → List ℕ
 fed_text texts = flat_map (λ text. text ++ 0x0A ∷ []) texts
 

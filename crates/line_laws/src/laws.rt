@@ -3,7 +3,7 @@
 ghost use Rattle.line_laws.specs.Laws.{KnownLinesHaveTheirWords, KnownLinesStand};
 ghost use Rattle.line_laws.specs.Texts.{FedTextsHaveTheirLines};
 
-/// The module of plain lines that are known by themselves has their words, one behind the other, and nothing else.
+/// The module of plain lines that are known by themselves has their words, one after the other, and nothing else.
 #[tactic(auto, using(crate::proofs::Whole::have_their_words))]
 pub fn known_lines_have_their_words()
     ensures { KnownLinesHaveTheirWords }

@@ -9,7 +9,7 @@ pub struct LineRow {
     pub place: u16,
     /// How many words the line places, at most 3.
     pub count: u8,
-    /// These words, and 0 behind them.
+    /// These words, and 0 after them.
     pub words: [u16; 3],
 }
 

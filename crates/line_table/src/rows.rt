@@ -10,5 +10,5 @@ pub use flow::FLOW_ROWS;
 pub use operations::OPERATION_ROWS;
 pub use routines::ROUTINE_ROWS;
 
-/// The number of a line's location, how many words the line places, and these words with 0 behind them.
+/// The number of a line's location, how many words the line places, and these words with 0 after them.
 pub type Row = (u16, u8, [u16; 3]);

@@ -51,7 +51,7 @@ fn copy_rows() -> &'static [Row]
     &COPY_ROWS
 }
 
-/// A row by its number in four lists of rows, one behind the other.
+/// A row by its number in four lists of rows, one after the other.
 fn row_of(index: usize, first: &[Row], second: &[Row], third: &[Row], fourth: &[Row]) -> Row
     requires { index < length (first.now ++ (second.now ++ (third.now ++ fourth.now))) }
     ensures { result ≡ slice_index_or (first.now ++ (second.now ++ (third.now ++ fourth.now))) index nothing }

@@ -23,7 +23,7 @@ first_base = 0xA000
 abbrev pub even_size : ℕ → ℕ
 even_size size = size + size % 2
 
--- Profile: the code of each later module begins at the first even address at or behind the end of the one before.
+-- Profile: the code of each later module begins at the first even address at or after the end of the one before.
 -- Addresses are counted without wrap.
 abbrev pub sections_from : ℕ → List Module → List Section
 sections_from base [] = []
@@ -48,7 +48,7 @@ value_of base spot = address_of base spot % 65536
 abbrev pub def_at : ℕ → Definition → List ℕ × ℕ
 def_at base definition = (definition.name, value_of base definition.value)
 
--- a word behind its address
+-- a word after its address
 abbrev pub word_at : ℕ → Piece → ℕ × ℕ
 word_at base piece = (address_of base piece.at, value_of base piece.word)
 

@@ -12,7 +12,7 @@ use asm_text::Name;
 pub struct Linked {
     /// The word at each address that has one.
     pub(crate) words: Table,
-    /// The same words, each behind its address, in order of address.
+    /// The same words, each after its address, in order of address.
     pub(crate) pairs: Vec<(u16, u16)>,
     /// The names that the modules define, with their values, in order.
     pub(crate) names: Vec<(Name, u16)>,

@@ -1,4 +1,4 @@
-//! Modules are linked: placed one behind the other, and each use of a name is made its value.
+//! Modules are linked: placed one after the other, and each use of a name is made its value.
 
 ghost use Rattle.std.specs.Prelude.{◌≡◌, ◌≤◌, vec_len};
 ghost use Rattle.link_defs.specs.LinkedMemory as spec;
@@ -15,7 +15,7 @@ use crate::places::{check_places, load};
 use object_tags::Module;
 use std::alloc::Global;
 
-/// Places up to 1,024 modules in memory, one behind the other, and links them: every use of a REF name becomes the
+/// Places up to 1,024 modules in memory, one after the other, and links them: every use of a REF name becomes the
 /// value of its DEF.
 ///
 /// # Errors

@@ -19,7 +19,7 @@ const FIRST_BASE: u32 = 0xA000;
 pub(crate) struct Parts {
     /// The DEF names with their values.
     pub(crate) defs: Vec<(Name, u16)>,
-    /// The words, each behind its address, which is counted without wrap.
+    /// The words, each after its address, which is counted without wrap.
     pub(crate) words: Vec<(u32, u16)>,
     /// The REF names, each with the place of its last use.
     pub(crate) refs: Vec<(Name, u16)>,

@@ -16,14 +16,14 @@ is_different place = not (is_same place)
 abbrev pub common_length : List ℕ → List ℕ → ℕ
 common_length a b = prefix_len is_same (zip a b)
 
--- The first place where two lists differ: behind what they have in common, unless both end there.
+-- The first place where two lists differ: after what they have in common, unless both end there.
 abbrev pub first_difference : List ℕ → List ℕ → Option ℕ
 first_difference a b =
     let common = common_length a b in
     if (common == length a) && (common == length b) then None else Some common
 
 -- The law of it, which is proved: where there is none, the lists are equal; else they do not show the same at the
--- place, and they do at every place before it. Behind its end a list shows nothing.
+-- place, and they do at every place before it. After its end a list shows nothing.
 abbrev pub IsFirstDifference : List ℕ → List ℕ → Option ℕ → Type 0
 IsFirstDifference a b None = a ≡ b
 IsFirstDifference a b (Some place) =

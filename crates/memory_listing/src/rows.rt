@@ -13,7 +13,7 @@ use bench_io::{Failed, Sink, put_chunk};
 use link_loader::Linked;
 use report_lines::{Line, append, append_word};
 
-/// The most words of a row behind its first.
+/// The most words of a row after its first.
 const MORE_WORDS: usize = 7;
 
 /// Writes the words in rows: up to eight whose addresses follow each other.
@@ -71,7 +71,7 @@ fn words_line(linked: &Linked, from: usize, end: usize) -> Line
     line
 }
 
-/// Appends the words from a number up to another, each behind a blank.
+/// Appends the words from a number up to another, each after a blank.
 fn append_words(line: &mut Line, linked: &Linked, from: usize, end: usize)
     requires room { array_vec_len line.old + 5 * (end - from) ≤ 127 }
     requires order { from ≤ end }

@@ -23,7 +23,7 @@ pub record IsImage (references : List Reference) (lines : List Settled) (image :
   pub relocatable : Holds references lines part.Relocatable image.relocatable
   pub absolute : Holds references lines part.Absolute image.absolute
 
--- the cells of a part behind bytes that are laid from a place on
+-- the cells of a part after bytes that are laid from a place on
 abbrev pub laid_in : Part → Location → List Content → List (Option Content) → List (Option Content)
 laid_in part at contents cells = if same_part at.part part then put_from cells at.number contents else cells
 
@@ -40,7 +40,7 @@ any_in part.Dummy image from count = false
 abbrev pub any_laid : Image → Location → ℕ → Bool
 any_laid image at count = any_in at.part image at.number count
 
--- a line was placed behind others, and whether it has room
+-- a line was placed after others, and whether it has room
 pub record IsPlacedBehind {A : Type 0} (references : List Reference) (earlier : List Settled) (line : Settled)
     (result : Result A AsmCause) (new : Image) : Type 0 where
   pub room : seen (λ _. line) result ≡ with_room earlier line

@@ -1,11 +1,11 @@
--- Lines that stand as they are behind others, whatever names are still to come.
+-- Lines that stand as they are after others, whatever names are still to come.
 use Rattle.std.specs.Prelude.{◌≡◌, ⊤, ℕ, IsTrue, List, [], ◌∷◌, Ok}
 use Rattle.asm_defs.specs.declared.location.Part.{Part}
 use Rattle.asm_defs.specs.Memory.{Settled, bytes_in, is_placed}
 use Rattle.asm_defs.specs.Modules.{with_room}
 use Rattle.asm_defs.specs.Growing.{stands}
 
--- a line has room behind others, and stands as it is
+-- a line has room after others, and stands as it is
 pub record StandsBehind (earlier : List Settled) (line : Settled) : Type 0 where
   pub room : with_room earlier line ≡ Ok line
   pub stands : IsTrue (stands line.outcome)

@@ -8,7 +8,7 @@ use Rattle.asm_defs.specs.Memory.{count_from, part_words}
 abbrev pub cell : List (Option Content) → ℕ → Option Content
 cell cells p = slice_index_or cells p None
 
--- the cells behind some bytes, of which the first is put at a place
+-- the cells after some bytes, of which the first is put at a place
 abbrev pub put_from : List (Option Content) → ℕ → List Content → List (Option Content)
 put_from cells at [] = cells
 put_from cells at (content ∷ contents) = put_from (slice_set cells at (Some content)) (at + 1) contents

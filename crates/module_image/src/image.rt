@@ -31,7 +31,7 @@ impl Image {
         })
     }
 
-    /// Places the bytes of a line behind others.
+    /// Places the bytes of a line after others.
     ///
     /// # Errors
     /// They are placed in any case. `Overflow` comes where the module has too many words then, and else `Overlap` where

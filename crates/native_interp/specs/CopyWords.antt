@@ -216,7 +216,7 @@ abbrev pub move_index : List ℕ
 move_index =
     0xC086 ∷ 0xC140 ∷ 0x0245 ∷ 0x0002 ∷ 0x0585 ∷ 0x06A0 ∷ 0x2312 ∷ []
 
--- >28F4: MOVEX, the address behind the instruction
+-- >28F4: MOVEX, the address after the instruction
 --     MOVEX  BL @WHERE
 abbrev pub move_where : List ℕ
 move_where =

@@ -197,7 +197,7 @@ pub record CodesAreDispatched : Type 0 where
       → nat_eq (operation_entry (operation_at code)) UNKN ≡ not (is_some (operation_at code))
 
 -- The second has one for two code bytes, from >80 to >EB. It is read at either: a word's address loses its lowest bit.
--- So an odd code that is no operation's, such as the one behind FETCH, has the word of the code before it.
+-- So an odd code that is no operation's, such as the one after FETCH, has the word of the code before it.
 abbrev pub RowsAreDispatched : Type 0
 RowsAreDispatched =
     (code : ℕ) → code < 0x6C → word_at (OPTAB + code) ≡ row_entry (operation_at (0x80 + code / 2 * 2))

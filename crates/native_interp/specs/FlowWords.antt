@@ -199,7 +199,7 @@ abbrev pub fetch_keep : List ℕ
 fetch_keep =
     0xC306 ∷ 0x06A0 ∷ 0x22A0 ∷ []
 
--- >277A: FETCHB, the address behind the byte
+-- >277A: FETCHB, the address after the byte
 --     FETCHB MOV R6,R9
 --            BL @SEEK
 abbrev pub fetch_behind : List ℕ

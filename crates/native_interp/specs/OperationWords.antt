@@ -44,7 +44,7 @@ abbrev pub neg : List ℕ
 neg =
     0x0509 ∷ 0x02CC ∷ 0x024C ∷ 0xF800 ∷ 0x06A0 ∷ 0x239E ∷ []
 
--- >2482: STATB, the status, behind the result
+-- >2482: STATB, the status, after the result
 --     STATB  MOVB R12,@PAD+>7C
 abbrev pub set_status : List ℕ
 set_status =

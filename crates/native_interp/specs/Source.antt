@@ -34,7 +34,7 @@ use Rattle.native_interp.specs.declared.source.operations.TheConstants.{OPERATIO
 use Rattle.native_interp.specs.declared.source.flow.TheConstants.{FLOW_LINES}
 use Rattle.native_interp.specs.declared.source.copy.TheConstants.{COPY_LINES}
 
--- the four parts of the source, one behind the other
+-- the four parts of the source, one after the other
 abbrev pub lines : List (List ℕ)
 lines =
     map (λ line. line.now) ROUTINE_LINES
@@ -63,7 +63,7 @@ is_blank byte = nat_eq byte 0x20
 abbrev pub word_of : List ℕ → List ℕ
 word_of text = take_while (λ byte. not (is_blank byte)) text
 
--- A label has at most six characters from column 1 on, blanks stand behind it up to column 7, and what
+-- A label has at most six characters from column 1 on, blanks stand after it up to column 7, and what
 -- begins in column 8 is no blank.
 abbrev pub stands_in_columns : List ℕ → Bool
 stands_in_columns line =
@@ -88,7 +88,7 @@ left_out =
 abbrev pub is_hexadecimal_digit : ℕ → Bool
 is_hexadecimal_digit byte = (nat_le 0x30 byte && nat_le byte 0x39) || (nat_le 0x41 byte && nat_le byte 0x46)
 
--- The value of EQU is a number of four hexadecimal digits, and nothing stands behind it.
+-- The value of EQU is a number of four hexadecimal digits, and nothing stands after it.
 abbrev pub names_a_number : List ℕ → Bool
 names_a_number line =
     not (has_operation line (codes "EQU")) ||
@@ -112,7 +112,7 @@ abbrev pub is_mode_sign : ℕ → ℕ → List ℕ → Bool
 is_mode_sign before byte behind =
     (nat_eq byte 0x2A && (nat_eq before 0x20 || nat_eq before 0x2C)) || (nat_eq byte 0x2B && ends_operand behind)
 
--- how many operators stand behind a byte
+-- how many operators stand after a byte
 abbrev pub operators_behind : ℕ → List ℕ → ℕ
 operators_behind before [] = 0
 operators_behind before (byte ∷ rest) =

@@ -207,7 +207,7 @@ copy_parts =
 abbrev pub routines : List (ℕ × List ℕ)
 routines = tables ++ (routine_parts ++ (operation_parts ++ (flow_parts ++ copy_parts)))
 
--- all words, one part behind the other
+-- all words, one part after the other
 abbrev pub words : List ℕ
 words = flat_map (λ routine. routine.1) routines
 

@@ -7,7 +7,7 @@ pub const WORD_COUNT: usize = 1186;
 /// The interpreter's workspace: the address of its register 0.
 pub const WORKSPACE: u16 = 0x83E0;
 
-/// The address behind the interpreter's last word.
+/// The address after the interpreter's last word.
 pub const BEHIND: u16 = 0x2944;
 
 /// Where the words of the interpreter begin.
@@ -49,7 +49,7 @@ pub const FETCH: u16 = 0x22C4;
 /// Finds the place of an operand.
 pub const ADDR: u16 = 0x22CC;
 
-/// The part of `ADDR` behind an address in one byte.
+/// The part of `ADDR` after an address in one byte.
 pub const ASHORT: u16 = 0x22D6;
 
 /// The part of `ADDR` for an address in more than one byte.
@@ -61,10 +61,10 @@ pub const AHIGH: u16 = 0x22EC;
 /// The part of `ADDR` for the low byte of an address.
 pub const ALOW: u16 = 0x22F0;
 
-/// The part of `ADDR` behind the address: the pointer.
+/// The part of `ADDR` after the address: the pointer.
 pub const APTR: u16 = 0x22F6;
 
-/// The part of `ADDR` behind the pointer: the index.
+/// The part of `ADDR` after the pointer: the index.
 pub const INDEX: u16 = 0x2312;
 
 /// The part of `INDEX` that reads where the index is.
@@ -73,7 +73,7 @@ pub const INDEXR: u16 = 0x2318;
 /// The part of `INDEX` that adds the word there.
 pub const INDEXW: u16 = 0x2324;
 
-/// The part of `ADDR` behind the index: the space and the range.
+/// The part of `ADDR` after the index: the space and the range.
 pub const ASPACE: u16 = 0x2330;
 
 /// Loads a value from a place.
@@ -97,7 +97,7 @@ pub const STREAM: u16 = 0x238A;
 /// Stores a value at a place.
 pub const STORE: u16 = 0x239E;
 
-/// The part of `STORE` behind the first byte of the cells.
+/// The part of `STORE` after the first byte of the cells.
 pub const SCELL: u16 = 0x23AE;
 
 /// The part of `STORE` for a place that is not in the cells.
@@ -115,10 +115,10 @@ pub const SREG: u16 = 0x23F0;
 /// Loads the operands of a row and goes to it.
 pub const ROW: u16 = 0x2402;
 
-/// The part of `ROW` behind the destination's place.
+/// The part of `ROW` after the destination's place.
 pub const OPSDST: u16 = 0x2410;
 
-/// The part of `ROW` behind the destination's value.
+/// The part of `ROW` after the destination's value.
 pub const OPSVAL: u16 = 0x2418;
 
 /// The part of `ROW` that goes to the row.
@@ -127,7 +127,7 @@ pub const GO: u16 = 0x242E;
 /// Loads the source of ST, and goes to its row.
 pub const STROW: u16 = 0x2436;
 
-/// The part of `STROW` behind the destination's place.
+/// The part of `STROW` after the destination's place.
 pub const STDST: u16 = 0x2444;
 
 /// The part of `ROW` that finds the source.
@@ -238,10 +238,10 @@ pub const SRCB: u16 = 0x2552;
 /// Loads the operands of MUL and DIV and goes to their row.
 pub const WIDE: u16 = 0x2562;
 
-/// The part of `WIDE` behind the destination's place.
+/// The part of `WIDE` after the destination's place.
 pub const WIDDST: u16 = 0x2570;
 
-/// The part of `WIDE` behind the destination's value.
+/// The part of `WIDE` after the destination's value.
 pub const WIDVAL: u16 = 0x2578;
 
 /// The row of MUL.
@@ -325,7 +325,7 @@ pub const TAKE: u16 = 0x267C;
 /// The row of CASE.
 pub const CASEV: u16 = 0x2688;
 
-/// The part of CASE behind the next address.
+/// The part of CASE after the next address.
 pub const CASEN: u16 = 0x2694;
 
 /// Goes on in the table of CASE.
@@ -340,7 +340,7 @@ pub const FULL: u16 = 0x26BE;
 /// The instruction CALL.
 pub const GOCALL: u16 = 0x26C2;
 
-/// The part of CALL behind its target: the pointer of the stack.
+/// The part of CALL after its target: the pointer of the stack.
 pub const CALLT: u16 = 0x26CC;
 
 /// Tells the next address, which CALL stacks.
@@ -358,7 +358,7 @@ pub const RTNW: u16 = 0x272C;
 /// The row of FETCH.
 pub const FETCHV: u16 = 0x2746;
 
-/// The part of FETCH behind the next address.
+/// The part of FETCH after the next address.
 pub const FETCHN: u16 = 0x275A;
 
 /// Loads the stacked address of FETCH.
@@ -373,7 +373,7 @@ pub const FETCHR: u16 = 0x2770;
 /// Keeps the byte of FETCH.
 pub const FETCHK: u16 = 0x2774;
 
-/// The part of FETCH behind the address that follows its byte.
+/// The part of FETCH after the address that follows its byte.
 pub const FETCHB: u16 = 0x277A;
 
 /// Stores the address that follows the byte of FETCH.
@@ -388,7 +388,7 @@ pub const GORAND: u16 = 0x2798;
 /// The part of RAND that makes the next seed.
 pub const RANDM: u16 = 0x27A2;
 
-/// The part of RAND behind the seed: the limit.
+/// The part of RAND after the seed: the limit.
 pub const RANDL: u16 = 0x27B6;
 
 /// Stops by reason 4.
@@ -400,16 +400,16 @@ pub const GOMOVE: u16 = 0x27D4;
 /// Loads the length of MOVE.
 pub const MOVEN: u16 = 0x27E8;
 
-/// The part of MOVE behind its length: the target.
+/// The part of MOVE after its length: the target.
 pub const MOVEL: u16 = 0x27EC;
 
-/// The part of MOVE behind its target: the source.
+/// The part of MOVE after its target: the source.
 pub const MOVED: u16 = 0x2800;
 
 /// Begins the copy of MOVE.
 pub const MOVEB: u16 = 0x280E;
 
-/// The part of `MOVEB` behind the mark.
+/// The part of `MOVEB` after the mark.
 pub const MOVEP: u16 = 0x2826;
 
 /// Copies a byte of MOVE from the cells to the cells.
@@ -466,7 +466,7 @@ pub const MOVES: u16 = 0x28DE;
 /// Adds the index to that source's address.
 pub const MOVEA: u16 = 0x28E6;
 
-/// Asks for the address behind MOVE.
+/// Asks for the address after MOVE.
 pub const MOVEX: u16 = 0x28F4;
 
 /// Keeps that address, and sets the GROM to the source.

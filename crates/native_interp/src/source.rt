@@ -1,5 +1,5 @@
 //! The interpreter's source, line by line: its assembler source is the lines of the four
-//! constants, one behind the other.
+//! constants, one after the other.
 //!
 //! Each line stands without its line feed. The first statement is AORG >2000, the only origin, and the last line is END
 //! with GBOOT. No line has more than 64 characters or three words, an expression has one operator at most, and EQU

@@ -106,7 +106,7 @@ pub const INTERP: [u16; 1186] = [
     0x0749, 0x1001,
     // NEGV, with STAT, where the status is kept
     0x0509, 0x02CC, 0x024C, 0xF800, 0x06A0, 0x239E,
-    // STATB, the status, behind the result
+    // STATB, the status, after the result
     0xD80C, 0x837C,
     // SHOW
     0xC34D, 0x131C,
@@ -246,7 +246,7 @@ pub const INTERP: [u16; 1186] = [
     0x06A0, 0x22C4,
     // FETCHK, the byte is kept
     0xC306, 0x06A0, 0x22A0,
-    // FETCHB, the address behind the byte
+    // FETCHB, the address after the byte
     0xC246, 0x06A0, 0x22B8,
     // FETCHS, that address is stacked
     0x04C8, 0x06A0, 0x239E,
@@ -301,7 +301,7 @@ pub const INTERP: [u16; 1186] = [
     0x0203, 0x0002, 0x06A0, 0x238A,
     // MOVEA, its index
     0xC086, 0xC140, 0x0245, 0x0002, 0x0585, 0x06A0, 0x2312,
-    // MOVEX, the address behind the instruction
+    // MOVEX, the address after the instruction
     0x06A0, 0x22A0,
     // MOVEW, GROM at the source
     0xC386, 0xC182, 0x06A0, 0x22B8,

@@ -6,7 +6,7 @@ unfoldable pub four_digits : ℕ → List ℕ
 four_digits number =
     (0x30 + number / 1000 % 10) ∷ (0x30 + number / 100 % 10) ∷ (0x30 + number / 10 % 10) ∷ (0x30 + number % 10) ∷ []
 
--- characters with blanks behind them up to a width
+-- characters with blanks after them up to a width
 abbrev pub padded : ℕ → List ℕ → List ℕ
 padded width bytes = bytes ++ replicate (width - length bytes) 0x20
 

@@ -1,4 +1,4 @@
--- The fields that stand behind a tag: a number, and behind some tags a name.
+-- The fields that stand after a tag: a number, and after some tags a name.
 --
 -- Editor/Assembler manual, "Tagged object code": a number is four hexadecimal digits, in compressed text two bytes; a
 -- name is eight or six characters.
@@ -29,7 +29,7 @@ unfoldable pub two_bytes_at : List ℕ → Result ℕ TagCause
 two_bytes_at (high ∷ low ∷ fields) = Ok (256 * high + low)
 two_bytes_at _ = Err ShortField
 
--- the number behind a tag
+-- the number after a tag
 abbrev pub number_at : TextForm → List ℕ → Result ℕ TagCause
 number_at Plain fields = digits_at fields
 number_at Compressed fields = two_bytes_at fields
@@ -39,7 +39,7 @@ abbrev pub number_size : TextForm → ℕ
 number_size Plain = 4
 number_size Compressed = 2
 
--- the eight characters behind the number
+-- the eight characters after the number
 -- Profile: each of them is one from >20 to >7E, or else the tag is refused.
 unfoldable pub module_name_at : TextForm → ℕ → List ℕ → Result (List ℕ) TagCause
 module_name_at form tag fields =
@@ -64,6 +64,6 @@ symbol_in tag field =
     else if is_kept_name (trim_trailing_blanks field) then Ok (trim_trailing_blanks field)
     else Err (BadTag tag)
 
--- the six characters behind the number
+-- the six characters after the number
 unfoldable pub symbol_at : TextForm → ℕ → List ℕ → Result (List ℕ) TagCause
 symbol_at form tag fields = symbol_in tag (take 6 (drop (number_size form) fields))

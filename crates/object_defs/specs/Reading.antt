@@ -70,7 +70,7 @@ last_address [] = Relocatable 0
 last_address (Address at ∷ before) = even at
 last_address (_ ∷ before) = last_address before
 
--- the number of words behind the last address group
+-- the number of words after the last address group
 abbrev pub words_since : List Group → ℕ
 words_since [] = 0
 words_since (Address at ∷ before) = 0
@@ -135,7 +135,7 @@ abbrev pub stands_first : ℕ → ℕ → Option Tag → Result Tag TagCause
 stands_first ended character (Some tags.Header) = if nat_le most_modules ended then Err TooMany else Ok tags.Header
 stands_first ended character _ = Err (BadTag character)
 
--- behind the groups of its module: neither a second header nor a second entry
+-- after the groups of its module: neither a second header nor a second entry
 abbrev pub stands_behind : Module → ℕ → Option Tag → Result Tag TagCause
 stands_behind m character None = Err (BadTag character)
 stands_behind m character (Some tags.Header) = Err (BadTag character)

@@ -5,7 +5,7 @@
 pub enum TagCause {
     /// A group is refused: its tag is none that may stand in its place, or its name is no name. It carries the tag.
     BadTag(u8),
-    /// One of the four characters behind a tag is no hexadecimal digit. It does not come for a compressed text.
+    /// One of the four characters after a tag is no hexadecimal digit. It does not come for a compressed text.
     BadDigit,
     /// The line ends inside a group.
     ShortField,

@@ -1,4 +1,4 @@
-//! The fields behind a tag.
+//! The fields after a tag.
 
 ghost use Rattle.std.specs.Prelude.{◌≡◌, IsTrue, length, take, drop};
 ghost use Rattle.source_defs.specs.Names as names;
@@ -21,7 +21,7 @@ pub(crate) fn front(bytes: &[u8], count: usize) -> &[u8]
     }
 }
 
-/// What stands behind the first `count` bytes.
+/// What stands after the first `count` bytes.
 pub(crate) fn behind(bytes: &[u8], count: usize) -> &[u8]
     ensures { result.now ≡ drop count bytes.now }
 {
@@ -104,7 +104,7 @@ fn four_digits(digits: &[u8]) -> u16
     u16::from_be_bytes(bytes)
 }
 
-/// The module's name behind the number.
+/// The module's name after the number.
 ///
 /// `BadTag` comes where one of its characters is none of a name, and else `ShortField` where there are fewer than
 /// eight.
@@ -119,7 +119,7 @@ pub(crate) fn module_name_at(form: TextForm, tag: u8, fields: &[u8]) -> Result<M
     ModuleName::read(name).ok_or(TagCause::ShortField)
 }
 
-/// The name of a DEF or a REF behind the number.
+/// The name of a DEF or a REF after the number.
 ///
 /// `BadTag` comes where a character that is not a blank at the end is none of a name, and where there are blanks alone;
 /// else `ShortField` where there are fewer than six.

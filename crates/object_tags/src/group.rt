@@ -88,7 +88,7 @@ impl Group {
         matches!(self, Group::EndOfLine | Group::EndOfModule)
     }
 
-    /// How many characters the group has behind its tag.
+    /// How many characters the group has after its tag.
     fn size(&self, form: TextForm) -> usize
         ensures { result ≡ spec.group_size form (defined_group self.now) }
     {
@@ -133,7 +133,7 @@ impl FoundGroup {
         }
     }
 
-    /// How many characters stand behind the tag.
+    /// How many characters stand after the tag.
     pub(crate) fn size(&self, form: TextForm) -> usize
         ensures { result ≡ spec.size_found form (defined_found self.now) }
     {
@@ -143,7 +143,7 @@ impl FoundGroup {
         }
     }
 
-    /// Whether no group of the line is looked for behind it.
+    /// Whether no group of the line is looked for after it.
     pub(crate) fn ends_line(&self) -> bool
         ensures { result ≡ spec.ends_line (defined_found self.now) }
     {

@@ -30,7 +30,7 @@ pub(crate) fn group(tag: Tag, number: u16) -> GroupText
     text
 }
 
-/// A tag, four digits and a name with blanks behind it.
+/// A tag, four digits and a name with blanks after it.
 fn named_group(tag: Tag, number: u16, name: &[u8]) -> GroupText
     requires { length name.now ≤ 6 }
     ensures { result.items ≡ writing.group tag number ++ digits.padded 6 name.now }
@@ -41,7 +41,7 @@ fn named_group(tag: Tag, number: u16, name: &[u8]) -> GroupText
     text
 }
 
-/// Puts some blanks behind a text.
+/// Puts some blanks after a text.
 fn put_blanks(text: &mut GroupText, count: usize)
     requires { length text.old.items + count ≤ 13 }
     ensures { text.new.items ≡ text.old.items ++ replicate count 0x20 }

@@ -50,7 +50,7 @@ impl<'a> Groups<'a> {
         }
     }
 
-    /// The groups of a line from a place on, behind the characters that are left there of the group before them.
+    /// The groups of a line from a place on, after the characters that are left there of the group before them.
     fn behind(form: TextForm, line: &'a [u8], at: usize, total: u16, left: usize) -> Groups<'a>
         requires line { length line.now < 2 ^ 32 }
         requires at { at ≤ length line.now }
@@ -135,7 +135,7 @@ fn found_with(
     }
 }
 
-/// The group that a tag begins, by the fields behind it.
+/// The group that a tag begins, by the fields after it.
 fn group_of(
     form: TextForm,
     computed: u16,

@@ -78,7 +78,7 @@ impl OpenModule {
         Ok(())
     }
 
-    /// The tag, where it may stand behind the groups of the module.
+    /// The tag, where it may stand after the groups of the module.
     fn stands_behind(&self, character: u8, tag: Option<Tag>) -> Result<Tag, TagCause>
         ensures { result ≡ reading.stands_behind (defined_module self.now.found) character tag }
     {

@@ -46,7 +46,7 @@ pub(crate) fn even(at: Spot) -> Spot
     }
 }
 
-/// The place two bytes behind a place.
+/// The place two bytes after a place.
 pub(crate) fn place_after(at: Spot) -> Spot
     ensures place { result ≡ modules.moved at 2 }
     ensures fits { FitsSpot at }

@@ -76,7 +76,7 @@ impl Writer {
         Ok(())
     }
 
-    /// Puts a group behind those of the line, which has room for it.
+    /// Puts a group after those of the line, which has room for it.
     fn put(&mut self, text: &GroupText)
         requires { length self.old.line.items + length text.now.items ≤ 70 }
         ensures line { self.new.line.items ≡ self.old.line.items ++ text.now.items }
@@ -134,7 +134,7 @@ fn number_after(number: u16) -> u16
     ((u32::from(number) + 1) % 10_000) as u16
 }
 
-/// The text of a word behind a place.
+/// The text of a word after a place.
 fn piece_text(next: Option<Spot>, piece: Piece) -> GroupText
     ensures text { result.items ≡ writing.item_text next (writing.Placed piece) }
     ensures fits { FitsSpot piece.word }
@@ -176,7 +176,7 @@ fn decimal(number: u16) -> [u8; 4]
     ]
 }
 
-/// Puts some blanks behind a text.
+/// Puts some blanks after a text.
 fn put_blanks(text: &mut Vec<u8>, count: usize) -> Result<(), AllocError>
     ensures { OnOk result (text.new.items ≡ text.old.items ++ replicate count 0x20) }
 {

@@ -12,7 +12,7 @@ use Rattle.source_defs.specs.Names.{same_text}
 abbrev pub same_word : List ℕ → List ℕ → Bool
 same_word word name = same_text word name
 
--- a 0 with more behind it
+-- a 0 with more after it
 abbrev pub has_leading_zero : List ℕ → Bool
 has_leading_zero word = nat_lt 1 (length word) && (slice_index word 0 == 0x30)
 

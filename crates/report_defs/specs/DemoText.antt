@@ -51,7 +51,7 @@ block_line index number =
 abbrev pub block_at : ℕ → ℕ → List ℕ
 block_at number index = block_line index (number_of_block number index)
 
--- Profile: behind the blocks the program leaves, and then stands the subroutine. The entry is where the blocks begin.
+-- Profile: after the blocks the program leaves, and then stands the subroutine. The entry is where the blocks begin.
 unfoldable pub last_lines : List ℕ
 last_lines = codes "       EXIT\nSUB    XOR @>8340,>5A\n       RTN\n       END >6000\n"
 

@@ -28,7 +28,7 @@ vdp_lines vdp = codes "vdp\n" ∷ (rows_lines 0 vdp.memory ++ vdp_registers_line
 unfoldable pub grom_line : GromState → List ℕ
 grom_line grom = codes "grom " ++ (hex_word grom.counter ++ codes "\n")
 
--- a word behind a label
+-- a word after a label
 unfoldable pub labelled_word : List ℕ → ℕ → List ℕ
 labelled_word label word = label ++ hex_word word
 
@@ -45,7 +45,7 @@ shown_word (Gives word) = 0x20 ∷ hex_word word
 shown_word (AtPort address) = []
 shown_word NoInstruction = []
 
--- the workspace register with a number, behind a blank
+-- the workspace register with a number, after a blank
 abbrev pub register_text : Cpu Memory → ℕ → List ℕ
 register_text cpu number = shown_word (word_read cpu.memory (plus cpu.wp (2 * number)))
 
@@ -53,7 +53,7 @@ register_text cpu number = shown_word (word_read cpu.memory (plus cpu.wp (2 * nu
 unfoldable pub eight_registers : Cpu Memory → ℕ → List ℕ
 eight_registers cpu first = flat_map (register_text cpu) (range_with_len first 8)
 
--- eight registers, behind the name of the first
+-- eight registers, after the name of the first
 unfoldable pub registers_line : List ℕ → Cpu Memory → ℕ → List ℕ
 registers_line name cpu first = name ++ (eight_registers cpu first ++ codes "\n")
 

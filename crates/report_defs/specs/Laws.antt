@@ -95,7 +95,7 @@ ListedWordsComeBackWith =
     → ReportWith (Plain (Dis at)) input files (Whole Done pieces)
     → ReportWith (OverFiles AsmFiles) (concat pieces) files (asm_report (listed_module at input None))
 
--- The law, which is proved: where an entry is written behind END of what dis writes of an input, the report of asm is
+-- The law, which is proved: where an entry is written after END of what dis writes of an input, the report of asm is
 -- the object text of the same module with that entry; or the same refusal.
 abbrev pub EnteredWordsComeBack : Type 0
 EnteredWordsComeBack =

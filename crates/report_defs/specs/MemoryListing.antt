@@ -18,7 +18,7 @@ following zero at words = 0
 following (suc most) at [] = 0
 following (suc most) at (word ∷ words) = if word.0 == at then following most (at + 2) words + 1 else 0
 
--- a word of a row, behind a blank
+-- a word of a row, after a blank
 abbrev pub word_text : ℕ × ℕ → List ℕ
 word_text word = 0x20 ∷ word_digits word.1
 

@@ -40,7 +40,7 @@ state_text s =
 unfoldable pub state_line : GplState → List ℕ
 state_line s = codes "gpl " ++ (state_text s ++ codes "\n")
 
--- A machine with what GPL programs see of a state in it. The cells behind the visible ones are the machine's.
+-- A machine with what GPL programs see of a state in it. The cells after the visible ones are the machine's.
 abbrev pub showing : GplState → MachineState → MachineState
 showing s x =
     record x {

@@ -36,7 +36,7 @@ abbrev pub steps_to : Found → ℕ → ℕ
 steps_to (found.Hit step from item change) limit = step
 steps_to found.None limit = limit
 
--- Profile: behind the hit stand the state and the dump of that step; where there is none, what `run` writes.
+-- Profile: after the hit stand the state and the dump of that step; where there is none, what `run` writes.
 abbrev pub watch_report : Found → ℕ → GplState → MachineState → Report
 watch_report (found.Hit step from item change) limit s left =
     Whole Done (hit_line step from item change ∷ state_lines (run step s).last left)

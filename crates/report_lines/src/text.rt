@@ -20,7 +20,7 @@ pub fn put_text<O: Sink>(text: &[u8], out: &mut O) -> Result<(), Failed>
     Ok(())
 }
 
-/// The first line of a text, with its line feed where it has one, and the lines behind it.
+/// The first line of a text, with its line feed where it has one, and the lines after it.
 #[tactic(auto, using(crate::proofs::TextSteps::first_within))]
 fn split_line(text: &[u8]) -> (&[u8], &[u8])
     ensures line { result.0.now ≡ spec.first_line text.now }

@@ -22,7 +22,7 @@ abbrev pub watched_lines : Found → SessionState → List (List ℕ)
 watched_lines said session =
     found_line said ∷ (end_lines said session ++ state_lines (seen session) session.machine)
 
--- behind a hit the program has not ended, and the report is whole
+-- after a hit the program has not ended, and the report is whole
 abbrev pub watched_status : Found → SessionState → Status
 watched_status (found.Hit step from item change) session = Done
 watched_status found.None session = program_status session.ended

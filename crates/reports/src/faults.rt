@@ -1,5 +1,5 @@
 //! The lines that standard error gets of words that are no command of `bench`, of an input or a file that is too large,
-//! of bytes that end behind `>FFFF`, and of a program without an entry; and their statuses.
+//! of bytes that end after `>FFFF`, and of a program without an entry; and their statuses.
 
 ghost use Rattle.std.specs.Prelude.{◌≡◌, ◌≤◌, length};
 ghost use Rattle.report_defs.specs.FaultLine as spec;

@@ -59,7 +59,7 @@ fn make_front_line(line: &mut Line, bytes: &[u8], at: u16) -> u8
     count
 }
 
-/// The word with a number, from 0, of the words that bytes hold; or 0 behind them.
+/// The word with a number, from 0, of the words that bytes hold; or 0 after them.
 #[tactic(auto, using(crate::proofs::Listings::word_of, crate::proofs::Listings::no_word))]
 fn word_at(bytes: &[u8], number: usize) -> u16
     requires { number ≤ 2 }

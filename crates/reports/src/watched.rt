@@ -16,12 +16,12 @@ use watch_defs::Found;
 pub struct Watched {
     /// What was found.
     pub found: Found,
-    /// The program behind the hit, or at its end or the limit.
+    /// The program after the hit, or at its end or the limit.
     pub session: Session,
 }
 
 impl Watched {
-    /// The status of the report: behind a hit it is done, else that of the program's end.
+    /// The status of the report: after a hit it is done, else that of the program's end.
     pub(crate) fn status(&self) -> Status
         ensures { result ≡ watched_status self.now.found self.now.session }
     {
@@ -32,7 +32,7 @@ impl Watched {
     }
 }
 
-/// Writes the report line by line: behind the line of a hit the state and the dump of its step; else a line that says
+/// Writes the report line by line: after the line of a hit the state and the dump of its step; else a line that says
 /// so, how the program ended, if it did, its state and the dump. It takes no memory.
 pub(crate) fn put_watched<O: Sink>(watched: &Watched, out: &mut O) -> Result<(), Failed>
     ensures { Written result (O.state out.old) (O.state out.new) (watched_lines watched.now.found watched.now.session) }

@@ -30,7 +30,7 @@ abbrev pub in_place : {A : Type 0} → List PlacedLine → Result A (Refusal Asm
 in_place lines (Ok value) = Ok value
 in_place lines (Err refusal) = Err (At (place_of (places lines) refusal.line) (Asm refusal.cause))
 
--- lines, unless something behind them is refused
+-- lines, unless something after them is refused
 abbrev pub unless_refused : {A : Type 0} → Ending → A → Result A CopyRefusal
 unless_refused Open lines = Ok lines
 unless_refused Ended lines = Ok lines

@@ -1,6 +1,6 @@
 -- The lines of a source with those of the files that it copies.
 --
--- Profile: each line keeps its number in its own file. Lines behind the first END line of any file are not read. A file
+-- Profile: each line keeps its number in its own file. Lines after the first END line of any file are not read. A file
 -- is copied at most four deep, and a source copies at most 64 files in all, each of at most 262,144 bytes. Of a COPY
 -- line that is refused for several causes, the first in this order counts: its form, its depth, that 64 COPY lines
 -- stand before it, that no file has the name, and the size of the file.
@@ -35,14 +35,14 @@ pub data CopyRefusal : Type 0 where
   At : Place → Cause → CopyRefusal
   TooLarge : CopyRefusal
 
--- what stands behind some lines: more lines may, none does behind a line that ends the source, or a line or a file is
+-- what stands after some lines: more lines may, none does after a line that ends the source, or a line or a file is
 -- refused
 pub data Ending : Type 0 where
   Open : Ending
   Ended : Ending
   Refused : CopyRefusal → Ending
 
--- some lines, how many COPY lines were met so far, and what stands behind these lines
+-- some lines, how many COPY lines were met so far, and what stands after these lines
 pub record Copied : Type 0 where
   pub lines : List PlacedLine
   pub copies : ℕ
@@ -68,7 +68,7 @@ refused copies refusal = record { lines = []; copies = copies; ending = Refused 
 abbrev pub prepend : List PlacedLine → Copied → Copied
 prepend lines found = record { lines = lines ++ found.lines; copies = found.copies; ending = found.ending }
 
--- lines and then others, unless nothing may stand behind the first
+-- lines and then others, unless nothing may stand after the first
 abbrev pub then_by : Ending → Copied → (ℕ → Copied) → Copied
 then_by Open found next = prepend found.lines (next found.copies)
 then_by Ended found next = found
@@ -86,7 +86,7 @@ own_line place copies text =
       ending = if ends_source text then Ended else Open;
     }
 
--- by what the COPY line at a place comes to, behind so many others, that copies a file of this name
+-- by what the COPY line at a place comes to, after so many others, that copies a file of this name
 module _ (copy : Place → ℕ → List ℕ → Copied) where
   abbrev pub asked_line : LineKind → Place → ℕ → List ℕ → Copied
   asked_line Itself place copies text = own_line place copies text

@@ -36,7 +36,7 @@ const COPIED: &[(&[u8], &[u8])] = &[
         b"V EQU 1\n copy 'A.SRC' a comment\n DATA V\n",
         b"V EQU 1\n LI R1,>1234\n A R1,R2\n RT\n DATA V\n",
     ),
-    // Nothing behind the END line of a file is read, in the file or behind the COPY line.
+    // Nothing after the END line of a file is read, in the file or after the COPY line.
     (
         b" DATA 9\n COPY 'ENDS'\n DATA 3\n FOO\n",
         b" DATA 9\n DATA 1\n END\n",

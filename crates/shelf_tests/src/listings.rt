@@ -9,7 +9,7 @@ use std::test::Fail;
 
 /// Sources, their rows, and the file of the refused line, or nothing, with its number there, or 0 where none is.
 const LISTED: &[(&[u8], &[&[u8]], &[u8], u32)] = &[
-    // Words with their marks, an instruction behind an odd place, further words below, and the names.
+    // Words with their marks, an instruction after an odd place, further words below, and the names.
     (
         b" REF VSBW\nS EQU 5\n TEXT 'ABC'\nL LI R1,>1234\n MOV @L,@VSBW\n DATA 1,L,VSBW,4,5\n BSS 3\n EVEN\n END L\n",
         &[

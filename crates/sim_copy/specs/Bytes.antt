@@ -95,7 +95,7 @@ seen_on CellsToVideo v c bytes mark from to =
     seen v c bytes mark (first_cell + from) v.r.r7 (to % 16384) v.vdp.fetched c.state.pc
 seen_on GromToVideo v c bytes mark from to = seen v c bytes mark v.r.r2 v.r.r7 (to % 16384) v.vdp.fetched from
 
--- Where the instruction goes on: register 5 has the space of the source, and behind one in GROM register 14 has the
+-- Where the instruction goes on: register 5 has the space of the source, and after one in GROM register 14 has the
 -- address of the next instruction.
 abbrev pub GoesBack : Changes → From → View → Type 0
 GoesBack c (FromMemory place) v = v.r.r5 < 2

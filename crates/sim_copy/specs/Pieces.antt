@@ -70,7 +70,7 @@ set_target v =
     else if v.r.r5 == 0 then exit 11 COPYCV (from_cells (target_set v))
     else exit 10 COPYGV (target_set v)
 
--- The beginning as a whole: MOVEB, with SETR or SETW behind it.
+-- The beginning as a whole: MOVEB, with SETR or SETW after it.
 abbrev pub and_then : Exit → Exit → Exit
 and_then first second = exit (first.count + second.count) second.to second.left
 
@@ -122,7 +122,7 @@ byte_moved GromToCells v = in_cell v.grom.fetched (record v { grom = past v.grom
 byte_moved CellsToVideo v = in_video (cell_read v) (past_cell v)
 byte_moved GromToVideo v = in_video v.grom.fetched (record v { grom = past v.grom })
 
--- COPYCC and its like: a byte goes, and the next one, or COPYE behind the last.
+-- COPYCC and its like: a byte goes, and the next one, or COPYE after the last.
 abbrev pub copy_on : CopyPath → View → Exit
 copy_on way v =
     let left = difference_of Word v.r.r12 1 in
@@ -138,7 +138,7 @@ next_byte v = exit 1 LOAD (record v { r = record v.r { r11 = COPYS } })
 abbrev pub store_byte : View → Exit
 store_byte v = exit 2 STORE (record v { r = record v.r { r9 = v.r.r6; r11 = COPYN } })
 
--- COPYN: on to the next byte, both where it comes from and where it goes to, or to COPYE behind the last.
+-- COPYN: on to the next byte, both where it comes from and where it goes to, or to COPYE after the last.
 abbrev pub count_byte : View → Exit
 count_byte v =
     exit 4 (if difference_of Word v.r.r12 1 == 0 then COPYE else COPY) (record v {
@@ -149,6 +149,6 @@ count_byte v =
       };
     })
 
--- COPYE: the copy ends, with RESUME behind a source in GROM.
+-- COPYE: the copy ends, with RESUME after a source in GROM.
 abbrev pub leave_copy : View → Exit
 leave_copy v = exit (if v.r.r5 == 2 then 2 else 3) (if v.r.r5 == 2 then RESUME else SHOW) v

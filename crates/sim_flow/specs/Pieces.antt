@@ -32,7 +32,7 @@ read_branch_target v =
     let base = shifted SLA (shifted SRL v.r.r1 13) 13 in
     exit 8 TAKE (record v { r = record v.r { r4 = base; r6 = sum_of Word offset base }; grom = past v.grom })
 
--- CASEV: a byte comes down, and the address behind the operand is asked for.
+-- CASEV: a byte comes down, and the address after the operand is asked for.
 abbrev pub ask_table : View → Exit
 ask_table v =
     exit (if v.r.r3 == 1 then 4 else 3) WHERE (record v {

@@ -1,4 +1,4 @@
-//! Where GROM goes on at the end of a step that does not go on behind its instruction: a jump, a branch that
+//! Where GROM goes on at the end of a step that does not go on after its instruction: a jump, a branch that
 //! is taken, and the end of a row that read elsewhere in GROM. Each is built of pieces: stretches of at most
 //! 16 instructions without a loop.
 #![tactic(auto)]

@@ -10,7 +10,7 @@ use Rattle.sim_rows.specs.Prelude.{word_at}
 use Rattle.sim_copy.specs.Copying.{Copying, StandsTo}
 use Rattle.sim_rows.specs.sim_view.Bounds.{most_to_copy}
 
--- What the bytes behind the code byte say, each part with the address behind it.
+-- What the bytes after the code byte say, each part with the address after it.
 abbrev pub length_read : GplState → MoveLength × ℕ
 length_read s = length_at (code_byte s % 2 == 1) s.image (behind_code s)
 
@@ -20,7 +20,7 @@ target_read kind s = target_at kind s.image (length_read s).1
 abbrev pub source_read : MoveKind → GplState → MoveSource × ℕ
 source_read kind s = from_at kind s.image (target_read kind s).1
 
--- the changes of MOVE before the first byte: the next instruction is the one behind
+-- the changes of MOVE before the first byte: the next instruction is the one after
 abbrev pub begun : MoveKind → GplState → Changes
 begun kind s = unchanged (record s { pc = (source_read kind s).1 })
 

@@ -30,7 +30,7 @@ pub record MayStore (x : MachineState) : Type 0 where
   pub space : (view x).r.r8 < 2
   pub visible : IsVisible (view x).r.r8 (view x).r.r7 (view x).r.r3
 
--- At STORE with a quotient: it may be stored, the remainder behind it, and STORE returns to where that is done.
+-- At STORE with a quotient: it may be stored, the remainder after it, and STORE returns to where that is done.
 pub record MayStoreQuotient (x : MachineState) : Type 0 where
   pub idle : PortsAreIdle x.cpu.memory
   pub space : (view x).r.r8 < 2
@@ -38,7 +38,7 @@ pub record MayStoreQuotient (x : MachineState) : Type 0 where
   pub word : width_in (view x).r.r3 ≡ Word
   pub link : return_of (view x) ≡ DIVQ
 
--- The dividend of words: the first is in register 9, and the second stands behind the destination.
+-- The dividend of words: the first is in register 9, and the second stands after the destination.
 abbrev pub second_in : View → ℕ
 second_in v = value_at (state_of v) Word (place_in v.r.r8 (sum_of Word v.r.r7 2))
 
@@ -70,7 +70,7 @@ EndsDivision x y before after =
     (c : Changes) → (width : Width) → (place : Place) → (number : ℕ) → Storing c width place number (view x)
     → ReachesWithin 47 x y before after GSTEP (SeesFinished (with_overflow false (with_value width place number c)))
 
--- The same for a quotient, and the remainder in register 10 behind it.
+-- The same for a quotient, and the remainder in register 10 after it.
 abbrev pub EndsQuotient : MachineState → MachineState → ℕ → ℕ → Type 0
 EndsQuotient x y before after =
     (c : Changes) → (place : Place) → (quotient : ℕ) → Storing c Word place quotient (view x)

@@ -20,7 +20,7 @@ multiply_words v =
 abbrev pub multiply : View → Exit
 multiply v = if v.r.r3 == 1 then multiply_bytes v else multiply_words v
 
--- MULB: the low word of the product is to be stored behind.
+-- MULB: the low word of the product is to be stored next.
 abbrev pub low_product : View → Exit
 low_product v = exit 3 STO (record v { r = record v.r { r7 = sum_of Word v.r.r7 2; r9 = v.r.r10 } })
 
@@ -58,7 +58,7 @@ divide_words v =
       r = record v.r { r9 = dividend / v.r.r12; r10 = dividend % v.r.r12; r11 = DIVQ };
     })
 
--- DIVQ: the remainder is to be stored behind.
+-- DIVQ: the remainder is to be stored next.
 abbrev pub take_remainder : View → Exit
 take_remainder v = exit 2 DIVS (record v { r = record v.r { r7 = sum_of Word v.r.r7 2; r9 = v.r.r10 } })
 

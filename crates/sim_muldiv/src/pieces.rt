@@ -19,7 +19,7 @@ pub fn multiply<L: Ledger>(machine: &mut Machine, steps: &mut Steps<L>)
     run_piece(machine, steps, &[STO, STORE]);
 }
 
-/// The piece of MUL that has the low word of the product stored behind the high one.
+/// The piece of MUL that has the low word of the product stored after the high one.
 pub fn low_product<L: Ledger>(machine: &mut Machine, steps: &mut Steps<L>)
     requires { Stands machine.old address.MULB }
     ensures { Exits machine.old machine.new steps.old steps.new (piece.low_product (view machine.old)) }
@@ -61,7 +61,7 @@ pub fn divide_words<L: Ledger>(machine: &mut Machine, steps: &mut Steps<L>)
     run_piece(machine, steps, &[STORE]);
 }
 
-/// The piece of DIV that has the remainder stored behind the quotient.
+/// The piece of DIV that has the remainder stored after the quotient.
 pub fn take_remainder<L: Ledger>(machine: &mut Machine, steps: &mut Steps<L>)
     requires { Stands machine.old address.DIVQ }
     ensures { Exits machine.old machine.new steps.old steps.new (piece.take_remainder (view machine.old)) }

@@ -55,7 +55,7 @@ fn load_and_divide<L: Ledger>(machine: &mut Machine, steps: &mut Steps<L>)
     divide_words(machine, steps);
 }
 
-/// Stores a quotient, and the remainder behind it, and ends the row.
+/// Stores a quotient, and the remainder after it, and ends the row.
 fn store_quotient<L: Ledger>(machine: &mut Machine, steps: &mut Steps<L>)
     requires stands { Stands machine.old address.STORE }
     requires ready { MayStoreQuotient machine.old }

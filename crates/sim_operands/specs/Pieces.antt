@@ -81,7 +81,7 @@ cells_range before v =
     then operand_stop (before + 3) v
     else if nat_lt 0xC2 end then operand_stop (before + 7) added else exit (before + 7) (return_of v) added
 
--- ASHORT: behind an address in one byte a range of up to four bytes is visible, and a longer one must be.
+-- ASHORT: after an address in one byte a range of up to four bytes is visible, and a longer one must be.
 abbrev pub short_range : View → Exit
 short_range v = if nat_lt 4 v.r.r3 then cells_range 2 v else exit 3 (return_of v) v
 

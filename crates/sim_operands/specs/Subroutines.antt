@@ -105,7 +105,7 @@ LoadsValue x y before after =
     ReachesWithin most_of_load x y before after (return_of v)
     (Loaded v (value_at (state_of v) (width_in v.r.r3) (place_in v.r.r5 v.r.r2)))
 
--- The value that follows in GROM, of the width in register 3, behind which GROM goes on.
+-- The value that follows in GROM, of the width in register 3, after which GROM goes on.
 abbrev pub streamed : View → View
 streamed v =
     let read = value_in (not (v.r.r3 == 1)) v.grom.image (next_at v) in

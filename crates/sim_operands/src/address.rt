@@ -21,7 +21,7 @@ pub fn read_address<L: Ledger>(machine: &mut Machine, steps: &mut Steps<L>) -> b
     machine.pc() == ASHORT
 }
 
-/// The piece of ADDR behind an address in one byte: a range of more than four bytes is checked. It returns, or the
+/// The piece of ADDR after an address in one byte: a range of more than four bytes is checked. It returns, or the
 /// machine stops by reason 2.
 pub fn check_short<L: Ledger>(machine: &mut Machine, steps: &mut Steps<L>)
     requires { Stands machine.old address.ASHORT }
@@ -60,7 +60,7 @@ pub fn check_range<L: Ledger>(machine: &mut Machine, steps: &mut Steps<L>)
 }
 
 /// Runs ADDR: finds the place of the operand that follows in GROM, for as many bytes as register 3 says, in registers 2
-/// and 5, or stops by reason 2. It takes at most 38 instructions, changes registers 4 and 6 too, leaves GROM behind the
+/// and 5, or stops by reason 2. It takes at most 38 instructions, changes registers 4 and 6 too, leaves GROM after the
 /// operand where there is a place, and comes to the address in register 11, or to GSTOP.
 pub fn run_address<L: Ledger>(machine: &mut Machine, steps: &mut Steps<L>)
     requires stands { Stands machine.old address.ADDR }

@@ -17,7 +17,7 @@ first_entry = (TABLE - origin) / 2
 abbrev pub first_row : ℕ
 first_row = (OPTAB - origin) / 2
 
--- The GROMs behind one read of their address port. Two reads give the counter, and it is lost.
+-- The GROMs after one read of their address port. Two reads give the counter, and it is lost.
 abbrev pub read_once : GromState → GromState
 read_once grom = (grom_address_read grom).1
 

@@ -29,7 +29,7 @@ has_source s = not (nat_lt (code_byte s) 0xA0)
 abbrev pub is_immediate : GplState → Bool
 is_immediate s = code_byte s / 2 % 2 == 1
 
--- the address behind the first operand; the source with the address behind it; and the address behind the instruction
+-- the address after the first operand; the source with the address after it; and the address after the instruction
 abbrev pub behind_first : GplState → ℕ
 behind_first s = (operand_at s.image (behind_code s)).1
 
@@ -39,7 +39,7 @@ source_read s = source_at (is_immediate s) (word_of s) s.image (behind_first s)
 abbrev pub next_of : GplState → ℕ
 next_of s = if has_source s then (source_read s).1 else behind_first s
 
--- the state whose next instruction is the one behind
+-- the state whose next instruction is the one after
 abbrev pub gone_on : GplState → GplState
 gone_on s = record s { pc = next_of s }
 
@@ -133,7 +133,7 @@ pub record Sourced (s : GplState) (place : Place) (source : Source) (next : ℕ)
   pub from_source : LoadsFromSource source.place w
   pub value : w.r.r6 ≡ in_register (row_width s) source.number
 
--- At the entry of a row GROM is behind the instruction.
+-- At the entry of a row GROM is after the instruction.
 abbrev pub AtRow : GplState → Place → Source → View → Type 0
 AtRow s place source w = Sourced s place source (next_of s) w
 

@@ -23,7 +23,7 @@ pub record Dispatched (s : GplState) (w : View) : Type 0 where
 abbrev pub state_at_dispatch : View → GplState
 state_at_dispatch w = record (state_of w) { pc = previous_in_grom (state_of w).pc }
 
--- The code byte of a state, its operation, and the address behind it.
+-- The code byte of a state, its operation, and the address after it.
 abbrev pub code_byte : GplState → ℕ
 code_byte s = slice_index s.image s.pc
 

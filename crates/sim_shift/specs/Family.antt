@@ -25,7 +25,7 @@ name_of shift.SLA = SLL
 name_of shift.SRL = SRL
 name_of shift.SRC = SRC
 
--- Where the row of a shift begins, and where it goes on behind COUNT.
+-- Where the row of a shift begins, and where it goes on after COUNT.
 abbrev pub count_entry : ShiftOp → ℕ
 count_entry shift.SRA = SRAV
 count_entry shift.SLA = SLLV

@@ -105,7 +105,7 @@ seek_stacked v = exit 1 SEEK (record v { r = record v.r { r11 = FETCHR } })
 abbrev pub ask_byte : View → Exit
 ask_byte v = exit 1 FETCH (record v { r = record v.r { r11 = FETCHK } })
 
--- FETCHK: the byte is kept, and WHERE is asked for the address behind it.
+-- FETCHK: the byte is kept, and WHERE is asked for the address after it.
 abbrev pub keep_byte : View → Exit
 keep_byte v = exit 2 WHERE (record v { r = record v.r { r11 = FETCHB; r12 = v.r.r6 } })
 

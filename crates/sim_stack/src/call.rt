@@ -1,4 +1,4 @@
-//! CALL: the address behind the call goes on the stack of return addresses.
+//! CALL: the address after the call goes on the stack of return addresses.
 
 ghost use Rattle.std.specs.Prelude.{◌≡◌, true};
 ghost use Rattle.sim_rows.specs.Prelude.{Dispatched, most_to_dispatch, operation_in_view, Stands, state_at_dispatch};

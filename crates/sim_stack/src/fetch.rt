@@ -53,7 +53,7 @@ fn fetch_stacked<L: Ledger>(machine: &mut Machine, steps: &mut Steps<L>)
     keep_byte(machine, steps);
 }
 
-/// Finds the address behind the byte, to be stored.
+/// Finds the address after the byte, to be stored.
 fn locate_stacked<L: Ledger>(machine: &mut Machine, steps: &mut Steps<L>)
     requires stands { Stands machine.old address.WHERE }
     requires link { (view machine.old).r.r11 ≡ address.FETCHB }
@@ -64,7 +64,7 @@ fn locate_stacked<L: Ledger>(machine: &mut Machine, steps: &mut Steps<L>)
     seek_address(machine, steps);
 }
 
-/// Stores the address and the byte, and goes on behind the instruction.
+/// Stores the address and the byte, and goes on after the instruction.
 fn end_fetch<L: Ledger>(machine: &mut Machine, steps: &mut Steps<L>)
     requires stands { Stands machine.old address.FETCHS }
     requires idle { PortsAreIdle machine.old.cpu.memory }

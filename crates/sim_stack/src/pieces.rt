@@ -75,7 +75,7 @@ pub fn ask_byte<L: Ledger>(machine: &mut Machine, steps: &mut Steps<L>)
     run_piece(machine, steps, &[FETCH]);
 }
 
-/// The piece of FETCH that keeps the byte and asks WHERE for the address behind it.
+/// The piece of FETCH that keeps the byte and asks WHERE for the address after it.
 pub fn keep_byte<L: Ledger>(machine: &mut Machine, steps: &mut Steps<L>)
     requires { Stands machine.old address.FETCHK }
     ensures { Exits machine.old machine.new steps.old steps.new (piece.keep_byte (view machine.old)) }

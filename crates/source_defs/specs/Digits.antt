@@ -12,7 +12,7 @@ word_digits word =
     hexadecimal_digit (word / 4096 % 16) ∷ hexadecimal_digit (word / 256 % 16)
     ∷ hexadecimal_digit (word / 16 % 16) ∷ hexadecimal_digit (word % 16) ∷ []
 
--- Editor/Assembler manual, "Constants": a hexadecimal number stands behind the sign >.
+-- Editor/Assembler manual, "Constants": a hexadecimal number stands after the sign >.
 abbrev pub hex_word : ℕ → List ℕ
 hex_word word = 0x3E ∷ word_digits word
 

@@ -8,7 +8,7 @@ use Rattle.source_defs.specs.Layout.{line_texts, numbered}
 abbrev pub IsOneLine : List ℕ → Type 0
 IsOneLine text = IsTrue (list_all (λ byte. not (is_line_feed byte)) text)
 
--- the text of some lines, each with a carriage return and a line feed behind it
+-- the text of some lines, each with a carriage return and a line feed after it
 abbrev pub text_of : List (List ℕ) → List ℕ
 text_of texts = flat_map (λ text. text ++ 0x0D ∷ 0x0A ∷ []) texts
 

@@ -94,7 +94,7 @@ joined operator a b =
     else if operator == 0x2A then product a b
     else ratio a b
 
--- Editor/Assembler manual, "Expressions": a value behind a minus sign is absolute.
+-- Editor/Assembler manual, "Expressions": a value after a minus sign is absolute.
 abbrev pub minus : Value → Result Value ExprError
 minus (Absolute number) = Ok (Absolute (negated number))
 minus (Relocatable number) = Err BadRelocation
@@ -167,7 +167,7 @@ module _ (look : List ℕ → Option Value) (here : Value) (text : List ℕ) whe
     total ← joined by total next
     value_with total others
 
-  -- a minus sign, and what stands behind it
+  -- a minus sign, and what stands after it
   abbrev pub minus_value : List Token → Result Value ExprError
   minus_value [] = Err BadToken
   minus_value (term ∷ others) = do

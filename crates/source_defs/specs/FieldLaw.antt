@@ -47,7 +47,7 @@ IsOperation line from (Some span) end =
     × (end ≡ span.end)
 IsOperation line from None end = IsWordStart line from (length line) × (end ≡ length line)
 
--- label, operation and operand field stand one behind the other, with blanks alone between them
+-- label, operation and operand field stand one after the other, with blanks alone between them
 pub record StandApart (line : List ℕ) (found : Fields) : Type 0 where
   pub label_end : ℕ
   pub operation_end : ℕ

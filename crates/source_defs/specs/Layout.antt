@@ -27,12 +27,12 @@ abbrev pub set_or : {P : Type 0} → Option P → P → P
 set_or (Some origin) before = origin
 set_or None before = before
 
--- no bytes behind the location that a line sets, or those before
+-- no bytes after the location that a line sets, or those before
 abbrev pub none_or : {P : Type 0} → Option P → ℕ → ℕ
 none_or (Some origin) bytes = 0
 none_or None bytes = bytes
 
--- lines by the location at which their source starts, and the location some bytes behind one
+-- lines by the location at which their source starts, and the location some bytes after one
 module _ {P S : Type 0} (start : P) (behind : P → ℕ → P) where
   -- the location that the last origin line sets
   abbrev pub origin : List (Laid P S) → P
@@ -44,11 +44,11 @@ module _ {P S : Type 0} (start : P) (behind : P → ℕ → P) where
   since [] = 0
   since (line ∷ before) = none_or line.origin (since before) + (line.gap + line.size)
 
-  -- The location behind the lines: the last origin and the sizes since.
+  -- The location after the lines: the last origin and the sizes since.
   abbrev pub location : List (Laid P S) → P
   location before = behind (origin before) (since before)
 
-  -- the place of a line behind others
+  -- the place of a line after others
   abbrev pub place : List (Laid P S) → Laid P S → P
   place before line = behind (location before) line.gap
 
@@ -73,7 +73,7 @@ line_texts source = map (λ line. (line.number, part source line.span)) (lines s
 
 -- lines by the first checks, which see the lines before, the number of a line and its text
 module _ {P S C : Type 0} (check : List (Laid P S) → ℕ → List ℕ → Result (Laid P S) C) where
-  -- Lines behind others, or the first that the checks refuse. Profile: lines after the one that ends the source are not
+  -- Lines after others, or the first that the checks refuse. Profile: lines after the one that ends the source are not
   -- read.
   abbrev pub laid_behind : List (Laid P S) → List (ℕ × List ℕ) → Result (List (Laid P S)) (Refusal C)
   laid_behind before [] = Ok before

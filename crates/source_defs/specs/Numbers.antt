@@ -16,7 +16,7 @@ hexadecimal_digit value = if nat_lt value 10 then 0x30 + value else 0x37 + value
 abbrev pub digit_value : ℕ → ℕ
 digit_value byte = if is_digit byte then byte - 0x30 else upper_case byte - 0x37
 
--- what digits behind a number stand for, in a base
+-- what digits after a number stand for, in a base
 abbrev pub value_after : ℕ → ℕ → List ℕ → ℕ
 value_after base number digits = fold (λ number digit. number * base + digit_value digit) number digits
 

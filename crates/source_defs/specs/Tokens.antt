@@ -87,7 +87,7 @@ decimal_token text start =
     let end = digits_end text start in
     number_token start end (decimal_number (slice_range text start end))
 
--- Editor/Assembler manual, "Constants": the longest run of hexadecimal digits behind the sign > is a number.
+-- Editor/Assembler manual, "Constants": the longest run of hexadecimal digits after the sign > is a number.
 abbrev pub hexadecimal_token : List ℕ → ℕ → Result Token ExprError
 hexadecimal_token text start =
     let end = hexadecimal_end text (start + 1) in
@@ -133,7 +133,7 @@ token_at text start =
     else if is_operator byte then Ok (token_to (Sign byte) start (start + 1))
     else Err BadToken
 
--- the tokens from a place on, each behind the other, where at most so many bytes are left
+-- the tokens from a place on, each after the other, where at most so many bytes are left
 unfoldable pub tokens_from : ℕ → List ℕ → ℕ → Result (List Token) ExprError
 tokens_from zero text start = Ok []
 tokens_from (suc left) text start =

@@ -24,7 +24,7 @@ const READ: &[(&[u8], usize, &[Piece])] = &[
         1,
         JUMP,
     ),
-    // both kinds of each group; text behind F; a last record of one byte
+    // both kinds of each group; text after F; a last record of one byte
     (
         b"\x01\0\x10TWO MODSA\0\0B\x02\x01C\x1249\xA0\0B\xA0\x81B\x04[5\0\x02A     6?\xFFLONGER8\n\r7\xF4\xDDF?   \
           \x20                     \

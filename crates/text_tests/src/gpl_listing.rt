@@ -54,7 +54,7 @@ fn image_of(alloc: Global, at: u16, bytes: &[u8]) -> Result<GromImage, AllocErro
     Ok(image)
 }
 
-/// Whether a listing is made of these lines, each behind seven blanks.
+/// Whether a listing is made of these lines, each after seven blanks.
 fn has_lines(listing: &[u8], lines: &str) -> bool {
     let mut rest = listing;
     for line in lines.as_bytes().split_inclusive(|byte| *byte == b'\n') {

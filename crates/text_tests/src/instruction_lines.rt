@@ -9,7 +9,7 @@ use std::alloc::Global;
 /// The place of the lines.
 const HERE: u16 = 0x6000;
 
-/// Each operation with two operands, one or both in memory: its line, as it is printed behind a blank, and its words.
+/// Each operation with two operands, one or both in memory: its line, as it is printed after a blank, and its words.
 const WITH_TWO_PLACES: &[(&str, &[u16])] = &[
     (" SZC R1,R0", &[0x4001]),
     (" SZCB *R15+,*R15+", &[0x5FFF]),
@@ -192,7 +192,7 @@ fn refuses_first(alloc: Global, line: &[u8], cause: FormError) -> bool {
     }
 }
 
-/// Whether words are printed as a line behind its blank, and as many of them.
+/// Whether words are printed as a line after its blank, and as many of them.
 fn prints_as(words: &[u16], line: &[u8]) -> bool {
     if words.is_empty() || line.is_empty() {
         return false;

@@ -44,7 +44,7 @@ const ASSEMBLED: &[(&[u8], &[Piece])] = &[
             word!(Relocatable 4, Relocatable 0),
         ],
     ),
-    // The label of BES stands behind its block, that of DATA at the even place.
+    // The label of BES stands after its block, that of DATA at the even place.
     (
         b"L BES 3\nM DATA L,M\n END\n FOO\n",
         &[

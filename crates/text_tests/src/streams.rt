@@ -187,7 +187,7 @@ fn passes_a_pipe(rt: &HostRuntime) -> io::Result<bool> {
     Ok(are_read(read, b"through a pipe"))
 }
 
-/// Whether a reader that fails once behind its first bytes gives these and fails at the next call alone, and whether
+/// Whether a reader that fails once after its first bytes gives these and fails at the next call alone, and whether
 /// such a failure is the fault of a whole reading.
 fn fails_behind_its_front(alloc: Global) -> bool {
     let mut source = StdSource::new(b"front".as_slice().chain(Broken { has_failed: false }));

@@ -37,7 +37,7 @@ is_unsupported (Bare LREX) = true
 is_unsupported _ = false
 
 module _ (M : Type 0) (access : Accesses M) where
-  -- An instruction is executed; the program counter stands behind its first word.
+  -- An instruction is executed; the program counter stands after its first word.
   -- TMS9900 data manual, "Instructions".
   abbrev pub executed : Instr → Cpu M → Answer (Cpu M)
   executed (Two op byte dst src) x = two_operands M access op (byte_or_word byte) dst src x

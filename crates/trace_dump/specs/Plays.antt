@@ -14,7 +14,7 @@ pub record PlaysWhole (shows : ShowsChanges) (limit : ℕ) (x y : SessionState) 
   pub runs : RunsTurns (seen x) limit x.machine y.machine before after done y.ended
   pub wrote : Wrote out out' (step_lines shows (seen x) done)
 
--- the line of the step behind so many
+-- the line of the step after so many
 abbrev pub line_behind : ShowsChanges → GplState → ℕ → List ℕ
 line_behind shows s made = step_line shows (made + 1) (run made s).last (run (made + 1) s).last
 

@@ -144,7 +144,7 @@ fn count_line(machine: &Machine) -> Line
     line
 }
 
-/// Appends a word behind a label.
+/// Appends a word after a label.
 #[tactic(auto, using(std::proofs::Common::append_assoc), unfolding(report_defs::specs::Dump::labelled_word))]
 fn append_labelled(line: &mut Line, label: &[u8], word: u16)
     requires { array_vec_len line.old + length label.now + 5 ≤ 128 }

@@ -181,7 +181,7 @@ fn push_decimal(line: &mut ArrayString<120>, number: usize)
     line.push_str(buffer.format(number));
 }
 
-/// Appends a new byte, behind an equals sign.
+/// Appends a new byte, after an equals sign.
 #[tactic(auto, using(std::proofs::Common::append_assoc))]
 fn push_new(line: &mut ArrayString<120>, byte: u8)
     requires { array_string_len line.old + 3 ≤ 120 }

@@ -75,7 +75,7 @@ fn stop_text(reason: Reason) -> &'static str
     }
 }
 
-/// Appends a cell by its two hexadecimal digits, behind a label.
+/// Appends a cell by its two hexadecimal digits, after a label.
 #[tactic(auto, using(std::proofs::Common::append_assoc))]
 fn push_cell(line: &mut ArrayString<120>, label: &str, byte: u8)
     requires { array_string_len line.old + length label.now + 2 ≤ 120 }

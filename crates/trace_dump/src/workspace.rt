@@ -22,7 +22,7 @@ pub(crate) fn put_workspace<O: Sink>(machine: &Machine, out: &mut O) -> Result<(
     put_chunk(out, registers_line(b"R8", machine, 8).as_slice())
 }
 
-/// Eight registers from a number on, each after a blank, behind the name of the first.
+/// Eight registers from a number on, each after a blank, after the name of the first.
 #[tactic(auto, using(std::proofs::Common::append_assoc), unfolding(report_defs::specs::Dump::registers_line))]
 fn registers_line(name: &[u8], machine: &Machine, first: u8) -> Line
     requires workspace { IsTrue (has_workspace machine.now.cpu.wp) }
@@ -50,7 +50,7 @@ fn append_registers(line: &mut Line, machine: &Machine, first: u8)
     }
 }
 
-/// Appends a register, behind a blank.
+/// Appends a register, after a blank.
 fn append_register(line: &mut Line, machine: &Machine, number: u8)
     requires workspace { IsTrue (has_workspace machine.now.cpu.wp) }
     requires number { number < 16 }

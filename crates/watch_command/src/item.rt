@@ -53,7 +53,7 @@ fn front(text: &[u8], count: usize) -> &[u8]
     &text[..count.min(text.len())]
 }
 
-/// The bytes of a text behind the first so many.
+/// The bytes of a text after the first so many.
 fn behind(text: &[u8], count: usize) -> &[u8]
     ensures { result.now ≡ drop count text.now }
 {

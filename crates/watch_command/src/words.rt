@@ -10,7 +10,7 @@ use crate::items::{MOST_ITEMS, WatchedItems};
 use command_words::{MOST_STEPS, number_word};
 use gpl_watch::Item;
 
-/// The most steps and the items that the words behind `watch` say: a number up to 100,000, and the words of one to
+/// The most steps and the items that the words after `watch` say: a number up to 100,000, and the words of one to
 /// eight items. It takes no memory.
 pub fn watch_words(words: &[Vec<u8>]) -> Option<(u32, WatchedItems)>
     ensures said { option_map (λ said. spec.Watch said.0 said.1) result

@@ -9,7 +9,7 @@ use Rattle.watch_defs.specs.declared.found.Found.{Found}
 use Rattle.watch_defs.specs.declared.found.Found.TheVariants as result
 use Rattle.watch_defs.specs.Items.{holds, change}
 
--- The state behind so many steps of a run.
+-- The state after so many steps of a run.
 abbrev pub behind : GplState → ℕ → GplState
 behind s made = (run made s).last
 

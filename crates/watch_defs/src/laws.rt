@@ -10,8 +10,8 @@ pub fn hits_are_first()
     ensures { HitsAreFirst }
 {}
 
-/// A range holds at a step exactly where one of its bytes differs before and behind it. Its change is the lowest
-/// address of such a byte, with the byte that is there behind the step.
+/// A range holds at a step exactly where one of its bytes differs before and after it. Its change is the lowest
+/// address of such a byte, with the byte that is there after the step.
 #[tactic(auto, using(crate::proofs::Changes::ranges_hold_by_their_bytes))]
 pub fn ranges_hold_by_their_bytes()
     ensures { RangesHoldByTheirBytes }

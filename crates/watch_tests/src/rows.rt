@@ -4,7 +4,7 @@ use crate::programs::Program;
 use gpl_watch::{Found, Item, Space};
 
 /// What a row shows, a program, what is watched of it, the most steps, what is found by one run after the other, and
-/// the address behind the last.
+/// the address after the last.
 pub(crate) const ROWS: &[(&str, Program, &[Item], u32, &[Found], u16)] = &[
     (
         "the screen",

@@ -40,7 +40,7 @@ InnerListingsComeBack =
     (at : ℕ) (bytes : List ℕ) → StandEven at bytes → 0x00FE ≤ at → at + length bytes ≤ 0xFF01
     → module_of_source (concat (memory_listing at bytes)) ≡ Ok (module_of_words at (padded_words bytes) None)
 
--- the listing with an entry behind END
+-- the listing with an entry after END
 abbrev pub entered_listing : ℕ → List ℕ → ℕ → List (List ℕ)
 entered_listing at bytes entry =
     listing_line (codes "AORG " ++ hex_word at)

@@ -18,7 +18,7 @@ abbrev pub first_outside : ℕ → List ℕ → Option ℕ
 first_outside at [] = None
 first_outside at (word ∷ words) = if is_loadable at then first_outside (at + 2) words else Some at
 
--- the word at an address, of words that stand one behind the other from another on
+-- the word at an address, of words that stand one after the other from another on
 abbrev pub word_there : ℕ → List ℕ → ℕ → Option ℕ
 word_there at words address =
     if nat_le at address && ((address - at) % 2 == 0) then slice_get words ((address - at) / 2) else None
@@ -49,7 +49,7 @@ ModulesOfWordsLink =
     → at + 2 * length words ≤ 65536 → entry < 65536
     → LinksTo at words entry (module_of_words at words (Some entry))
 
--- The law, which is proved: so where the listing of bytes with an entry behind END is assembled, the object text of its
+-- The law, which is proved: so where the listing of bytes with an entry after END is assembled, the object text of its
 -- module is linked to the words of these bytes and to nothing else, with that entry; or it is refused as above.
 abbrev pub EnteredListingsLink : Type 0
 EnteredListingsLink =

@@ -1,4 +1,4 @@
--- The module of words that stand one behind the other, and the listed jumps that the assembler refuses.
+-- The module of words that stand one after the other, and the listed jumps that the assembler refuses.
 use Rattle.std.specs.Prelude.{ℕ, zero, suc, ℤ, pos, negsuc, ◌+◌, ◌-◌, ◌*◌, Bool, false, nat_lt}
 use Rattle.std.specs.Prelude.{if◌then◌else◌, List, [], ◌∷◌}
 use Rattle.std.specs.Prelude.{Option, Some, None, Result, Ok, Err}
@@ -25,7 +25,7 @@ padded_words [] = []
 padded_words (byte ∷ []) = join byte 0 ∷ []
 padded_words (more ∷ less ∷ rest) = join more less ∷ padded_words rest
 
--- The module of words that stand one behind the other from an absolute place on, with an absolute entry or none: these
+-- The module of words that stand one after the other from an absolute place on, with an absolute entry or none: these
 -- words, and no name, no use of a name and no relocatable code.
 abbrev pub module_of_words : ℕ → List ℕ → Option ℕ → Module
 module_of_words at words entry =

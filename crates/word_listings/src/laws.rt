@@ -35,7 +35,7 @@ pub fn modules_of_words_link()
     ensures { ModulesOfWordsLink }
 {}
 
-/// So where the listing of bytes with an entry behind END is assembled, the object text of its module is linked to the
+/// So where the listing of bytes with an entry after END is assembled, the object text of its module is linked to the
 /// words of these bytes and to nothing else, with that entry; or it is refused likewise.
 pub fn entered_listings_link()
     ensures { EnteredListingsLink }

@@ -60,7 +60,7 @@ fn is_word(word: &Vec<u8>, name: &[u8]) -> bool
     word.as_slice() == name
 }
 
-/// `link` with the names that a word and those behind it say, where each says one and they are not too many.
+/// `link` with the names that a word and those after it say, where each says one and they are not too many.
 #[tactic(auto, using(crate::proofs::NameLaws::many_names))]
 fn link_command(first: &Vec<u8>, words: &[Vec<u8>]) -> Option<FileCommand>
     ensures { option_map defined_over result
