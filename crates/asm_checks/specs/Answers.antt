@@ -11,14 +11,14 @@ use Rattle.asm_defs.specs.declared.causes.AsmCause.TheVariants.{Expr, Form}
 use Rattle.asm_checks.specs.declared.failure.Failure.{Failure}
 use Rattle.asm_checks.specs.declared.failure.Failure.TheVariants.{Refused, Memory}
 
--- the cause that the definitions have; none stands for want of memory
+-- the cause that the definitions have; none stands for a lack of memory
 abbrev pub Causes : {B : Type 0} → AsmCause → Result B AsmCause → Type 0
 Causes (Expr expr.Memory) defined = ⊥
 Causes (Form form.Memory) defined = ⊥
 Causes (Form (form.Expr expr.Memory)) defined = ⊥
 Causes cause defined = defined ≡ Err cause
 
--- what the definitions say, or want of memory
+-- what the definitions say, or memory ran out
 abbrev pub Fails : {B : Type 0} → Failure → Result B AsmCause → Type 0
 Fails Memory defined = ⊤
 Fails (Refused cause) defined = Causes cause defined

@@ -1,4 +1,4 @@
-//! Why a line is not taken, before its number is told.
+//! Why a line is not taken, before its number is known.
 
 ghost use Rattle.std.specs.Prelude.{◌≡◌};
 ghost use Rattle.asm_defs.specs.Growing as growing;

@@ -60,7 +60,7 @@ pub struct Checked<'a> {
 }
 
 impl EarlierLines<'_> {
-    /// A line by the first checks, but for whether its label is new, which is told where the label is defined.
+    /// A line by the first checks, but for whether its label is new, which is checked where the label is defined.
     pub fn checked<'b>(&self, text: &'b [u8]) -> Result<Checked<'b>, Failure>
         requires { KnowsPlaces self.now }
         ensures checked { Gives defined_checked result (checked_as_new (defined_earlier_lines self.now) text.now) }

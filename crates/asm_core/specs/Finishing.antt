@@ -24,7 +24,7 @@ use Rattle.asm_core.specs.declared.error.AsmError.TheVariants.{At, Memory}
 use Rattle.asm_core.specs.declared.second_pass.Output.{Output}
 use Rattle.asm_core.specs.Resolving.{IsOutput}
 
--- the definitions refuse a line; no cause stands for want of memory
+-- the definitions refuse a line; no cause stands for a lack of memory
 abbrev pub RefusesAt : {B : Type 0} → AsmError → Result B (Refusal AsmCause) → Type 0
 RefusesAt Memory defined = ⊤
 RefusesAt (At line (cause.Expr expr.Memory)) defined = ⊥
@@ -67,7 +67,7 @@ pub record SameEnd (old new : AsmLines) : Type 0 where
   pub waiting : new.waiting ≡ old.waiting
   pub refused : new.refused ≡ old.refused
 
--- the module that is defined, or the refused line; want of memory says nothing
+-- the module that is defined, or the refused line; if memory ran out, nothing is said
 abbrev pub GivesModule : Result Module AsmError → Result object.Module (Refusal AsmCause) → Type 0
 GivesModule (Ok found) defined = defined ≡ Ok (defined_module found)
 GivesModule (Err error) defined = RefusesAt error defined

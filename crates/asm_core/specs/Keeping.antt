@@ -24,7 +24,7 @@ known_in builder =
       refs = builder.refs.items;
     }
 
--- names with those of a line
+-- names with the names of a line
 abbrev pub names_with : Names → Checked → Names
 names_with names checked =
     with_names (with_names names (label_entry checked.parsed.label (defined_value checked.moved.label)))

@@ -9,7 +9,7 @@ use Rattle.source_defs.specs.EndedLines.{IsOneLine, text_of}
 abbrev pub ModulesHaveTexts : Type 0
 ModulesHaveTexts = (source : List ℕ) (m : Module) → module_of_source source ≡ Ok m → HasText m
 
--- the law, which is proved: the module of some lines is that of their text
+-- the law, which is proved: the module of some lines is the module of their text
 abbrev pub LinesMakeTexts : Type 0
 LinesMakeTexts = (texts : List (List ℕ)) → AllByRecursion IsOneLine texts
     → module_of_source (text_of texts) ≡ module_of_lines texts

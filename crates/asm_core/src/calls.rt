@@ -49,7 +49,7 @@ impl AsmLines {
     ///
     /// # Errors
     /// `At` comes exactly where the first checks refuse the line there, and carries its number, which is the number of
-    /// lines taken plus 1. `Memory` is want of memory. After an error the builder is as before.
+    /// lines taken plus 1. `Memory` means that memory ran out. After an error the builder is as before.
     pub fn line(&mut self, line: &[u8]) -> Result<(), AsmError>
         requires open { IsOpen self.old }
         requires count { CanCount self.old }
@@ -97,12 +97,12 @@ impl AsmLines {
         }
     }
 
-    /// The module of the lines that were taken, which is that of their text: each line with a carriage return and a
-    /// line feed after it.
+    /// The module of the lines that were taken, which is the module of their text: each line with a carriage return and
+    /// a line feed after it.
     ///
     /// # Errors
     /// `At` carries the first line that the second checks refuse, and comes exactly where there is one. `Memory` is
-    /// want of memory. After an error the lines are given up.
+    /// a lack of memory. After an error the lines are given up.
     #[tactic(auto, using(crate::proofs::EndedLines::lines_make_texts))]
     pub fn finish(mut self) -> Result<Module, AsmError>
         ensures lines { (texts : List (List ℕ)) → HasAccepted texts self → GivesModule result (module_of_lines texts) }

@@ -63,7 +63,7 @@ abbrev pub defs_in : Statement → List (List ℕ)
 defs_in (Def names) = names
 defs_in _ = []
 
--- those of the lines, in their order
+-- the items of the lines, in their order
 abbrev pub refs : List Line → List (List ℕ)
 refs [] = []
 refs (line ∷ before) = refs before ++ refs_in line.statement
@@ -134,7 +134,7 @@ module _ (known : Names) (here : Location) where
   move reached (Rorg None) = Ok (set_to (record { part = part.Relocatable; number = reached }))
   move reached (Rorg (Some text)) =
       value text >>= non_external_number
-          >>= λ number. Ok (set_to (record { part = part.Relocatable; number = number }))
+      >>= λ number. Ok (set_to (record { part = part.Relocatable; number = number }))
   move reached (Dorg text) = absolute_in text >>= λ number. Ok (set_to (record { part = part.Dummy; number = number }))
   move reached (Bss text) = absolute_in text >>= λ size. Ok (stays_at here size)
   move reached (Bes text) = absolute_in text >>= λ size. Ok (ends_block here size)

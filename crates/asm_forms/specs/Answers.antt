@@ -5,7 +5,7 @@ use Rattle.source_defs.specs.declared.causes.ExprError.TheVariants as expr
 use Rattle.instruction_defs.specs.declared.causes.FormError.{FormError}
 use Rattle.instruction_defs.specs.declared.causes.FormError.TheVariants.{Expr, Memory}
 
--- what the definitions say, or want of memory; no other answer stands for that
+-- what the definitions say, or memory ran out; no other answer stands for that
 abbrev pub Refuses : {B : Type 0} → FormError → Result B FormError → Type 0
 Refuses Memory defined = ⊤
 Refuses (Expr expr.Memory) defined = ⊥

@@ -23,7 +23,7 @@ form_by Increment text = spec.Increment (spec.without_last (drop 1 text))
 form_by Symbolic text = spec.Symbolic (drop 1 text)
 form_by (Indexed place) text = indexed_at place (drop 1 text)
 
--- an operand of so many bytes can be written so
+-- an operand of a given length can be written so
 abbrev pub HasRoom : Mode → ℕ → Type 0
 HasRoom Plain count = ⊤
 HasRoom Indirect count = 1 ≤ count
@@ -53,7 +53,7 @@ abbrev pub mode_answer : List ℕ → Result Mode FormError → Result spec.Form
 mode_answer text (Ok mode) = Ok (form_by mode text)
 mode_answer text (Err cause) = Err cause
 
--- the one text of a list, or the two, where it has just so many
+-- the one text of a list, or the two, if it has just as many
 abbrev pub just_one : List (List ℕ) → Result (List ℕ) FormError
 just_one [] = Err OperandCount
 just_one (text ∷ []) = Ok text

@@ -75,7 +75,7 @@ pub(crate) fn first_text(mode: Mode, text: &[u8]) -> &[u8]
     }
 }
 
-/// The text of an index register, after so many bytes and a parenthesis.
+/// The text of an index register, after a given number of bytes and a parenthesis.
 pub(crate) fn index_text(place: u16, text: &[u8]) -> &[u8]
     requires { place + 3 ≤ length text.now }
     ensures { result.now ≡ slice_range (drop 1 text.now) (place + 1) (last_place (drop 1 text.now)) }

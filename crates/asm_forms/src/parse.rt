@@ -58,7 +58,7 @@ pub fn size_of(_alloc: Global, line: &[u8], fields: &Fields) -> Result<u16, Form
 ///
 /// # Errors
 /// The second checks: first the values from the left, each `Expr` with the expression's refusal, then the ranges:
-/// `BadOperand`, and `JumpTooFar` for a jump. `Memory` is want of memory, and `Expr` never carries it.
+/// `BadOperand`, and `JumpTooFar` for a jump. `Memory` means that memory ran out, and `Expr` never carries it.
 pub fn parse_instr(
     alloc: Global,
     line: &[u8],

@@ -49,8 +49,8 @@ FaultEnds (Err TooLarge) questions = ⊤
 FaultEnds (Err Fault) questions = EndsWith Unanswered questions
 FaultEnds (Err Memory) questions = ⊤
 
--- There are questions and answers such that the listing is that of the definitions by these answers, whatever else the
--- shelf would have answered.
+-- There are questions and answers such that the listing is the one of the definitions by these answers, whatever else
+-- the shelf would have answered.
 pub record ListingAnswered (before after : ShelfState) (source : List ℕ) (result : Result AsmListing CopyError)
     : Type 0 where
   pub questions : List Question

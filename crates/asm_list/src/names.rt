@@ -53,7 +53,7 @@ fn put_names_of(
     Ok(())
 }
 
-/// The names that a line defines: its label, and those of REF.
+/// The names that a line defines: its label, and the names of REF.
 fn names_text(alloc: Global, text: &[u8]) -> Result<Vec<Name>, AllocError>
     ensures { IfOk result (λ names. names.items ≡ names_text text.now) }
 {

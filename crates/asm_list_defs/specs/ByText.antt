@@ -37,7 +37,7 @@ shown_text known here (Err cause) = record { at = here; outcome = Nothing }
 abbrev pub shown_line : Option Names → Location × List ℕ → Shown
 shown_line known line = shown_text known line.0 (parse_line line.1)
 
--- the names that a line defines: its label, and those of REF
+-- the names that a line defines: its label, and the names of REF
 abbrev pub refs_by : Result Statement AsmCause → List (List ℕ)
 refs_by (Ok statement) = refs_in statement
 refs_by (Err cause) = []

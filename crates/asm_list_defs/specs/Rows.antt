@@ -68,7 +68,7 @@ first_row line at text =
 abbrev pub eight_on : Location → Location
 eight_on at = record { part = at.part; number = to_word (at.number + 8) }
 
--- the rows of what is left of the text of what a line places, up to so many
+-- the rows of what is left of the text of what a line places, up to a given number
 abbrev pub rows_below : ℕ → Location → List ℕ → List (List ℕ)
 rows_below zero at text = []
 rows_below (suc rows) at [] = []

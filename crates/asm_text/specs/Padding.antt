@@ -4,7 +4,7 @@ use Rattle.std.specs.Prelude.{◌++◌, length, take, replicate}
 use Rattle.std.proofs.Common.{ap, sym}
 use Rattle.source_defs.specs.Names.{is_kept_name}
 
--- a number, with so many bytes of a name after it as its lower digits; after the name they are 0
+-- a number, with a number of bytes of a name after it as its lower digits; after the name they are 0
 unfoldable pub key_behind : ℕ → ℕ → List ℕ → ℕ
 key_behind key zero name = key
 key_behind key (suc places) [] = key_behind (256 * key) places []
@@ -18,7 +18,7 @@ kept_bytes name = name ++ (replicate (7 - length name) 0 ++ (length name ∷ [])
 unfoldable pub key_of : List ℕ → ℕ
 key_of name = 256 * key_behind 0 7 name + length name
 
--- eight bytes are those of the name that their first `len` are
+-- eight bytes are the bytes of the name that their first `len` are
 pub record IsPadded (bytes : List ℕ) (len : ℕ) : Type 0 where
   pub eight : length bytes ≡ 8
   pub within : len ≤ 6

@@ -16,7 +16,7 @@ use std::alloc::Global;
 /// The value of a text: its tokens first, then its terms. `$` stands for `here`.
 ///
 /// # Errors
-/// The refusal of `tokens`, else that of `value`. `Memory` is want of memory.
+/// The refusal of `tokens`, else that of `value`. `Memory` means that memory ran out.
 pub fn expression_value(
     alloc: Global,
     text: &[u8],

@@ -19,7 +19,7 @@ use std::alloc::Global;
 ///
 /// # Errors
 /// The first bad place is refused: `TooLarge` for a decimal number above 65,535 or more than four hexadecimal digits,
-/// `BadToken` where no token can be read. `Memory` is want of memory.
+/// `BadToken` where no token can be read. `Memory` means that memory ran out.
 pub fn tokens(alloc: Global, text: &[u8]) -> Result<Vec<Token>, ExprError>
     ensures found { IfOk result (λ found. spec.tokens text.now ≡ Ok (map defined_token found.items)) }
     ensures cause { IfErr result (λ cause. cause ≢ ExprError.Memory → spec.tokens text.now ≡ Err cause) }

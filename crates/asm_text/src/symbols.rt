@@ -66,8 +66,8 @@ impl Symbols {
     /// Defines a name that stands for nothing yet.
     ///
     /// # Errors
-    /// `Duplicate` comes exactly where the name stands for something already, and `Memory` is want of memory. After an
-    /// error all is as before.
+    /// `Duplicate` comes exactly where the name stands for something already, and `Memory` means that memory ran out.
+    /// After an error all is as before.
     pub fn define(&mut self, name: Name, value: Value) -> Result<(), DefineError>
         ensures defined { OnOk result (self.new ≡ insert self.old name (defined_value value)) }
         ensures no_register { OnOk result (find (slice_cmp nat_cmp) name spec.registers ≡ None) }

@@ -6,7 +6,7 @@ use Rattle.gpl_step_defs.specs.Run.{run}
 use Rattle.interp_defs.specs.Programs.{RunsProgram}
 use Rattle.gpl_run.specs.Sessions.{SessionState}
 
--- A session is the run of the program with an image and an entry, for up to so many steps, of which so many were made.
+-- A session is the run of the program with an image and an entry, for up to `limit` steps, of which `done` were made.
 pub record RanProgram (image : List ℕ) (entry limit : ℕ) (session : SessionState) (made : ℕ) : Type 0 where
   pub runs : RunsProgram image entry limit session.machine
   pub ended : session.ended ≡ (run limit (start image entry)).stop

@@ -20,7 +20,7 @@ HasReportStatus command input status =
     (report : Report) × ReportOn command (read_of command input) report × (status ≡ status_of report)
 
 -- The answer on an input of these bytes: to words that are no command always usage; to a command the status of its
--- report, or want of memory.
+-- report, or memory ran out.
 abbrev pub AnswersSteadily : Option Command → List ℕ → Status → Type 0
 AnswersSteadily None input status = status ≡ Usage
 AnswersSteadily (Some command) input status = HasReportStatus command input status ⊎ (status ≡ Memory)
@@ -29,7 +29,7 @@ AnswersSteadily (Some command) input status = HasReportStatus command input stat
 abbrev pub steady_source : Supply → SourceState
 steady_source s = opened_once (Some s.left) s.calls s.taken s.empty 0
 
--- a sink that never fails and tells nothing, after so many calls of `put`
+-- a sink that never fails and shows nothing, after a number of calls of `put`
 abbrev pub steady_sink : ℕ → SinkState
 steady_sink puts = record { held = None; puts = puts; faults = 0 }
 

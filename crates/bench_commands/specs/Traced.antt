@@ -50,7 +50,7 @@ pub record TracesSource (input : List ℕ) (trace : Trace) : Type 0 where
   pub started : Started new.machine trace.session
   pub can : CanTrace trace
 
--- a trace of a source for up to so many steps, or why there is none
+-- a trace of a source for up to a number of steps, or why there is none
 abbrev pub StartsTrace : ℕ → List ℕ → Result Trace CommandError → Type 0
 StartsTrace limit input (Ok trace) = (trace.limit ≡ limit) × TracesSource input trace
 StartsTrace limit input (Err command_error) =

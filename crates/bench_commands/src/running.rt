@@ -19,8 +19,8 @@ use std::alloc::Global;
 /// trace are written while the program runs, each once its step is made.
 ///
 /// The contract says of each status its cause, and what the input and the outputs are then; that where the bytes that
-/// the command reads are told and nothing fails, there is one report on them, which was written whole, and the answer
-/// is its status, or want of memory; that there is at most one report on each command and input; that the words which
+/// the command reads are known and nothing fails, there is one report on them, which was written whole, and the answer
+/// is its status, or memory ran out; that there is at most one report on each command and input; that the words which
 /// the machine holds are the linked memory of the interpreter's source, and that for each i up to the last step of a
 /// program that is run the machine after the first i turns matches its state after i steps; and that what `gdis` and
 /// `dis` list is assembled to what was listed.

@@ -12,7 +12,7 @@ use report_defs::Status;
 use std::alloc::Global;
 
 /// The answer of [`bench`] to words and an input where nothing fails: of its outputs nothing is kept. It is the status
-/// of the report that the definitions give, or want of memory; words that are no command are always answered by
+/// of the report that the definitions give, or memory ran out; words that are no command are always answered by
 /// `Usage`.
 pub fn bench_steady(alloc: Global, words: &Words, input: &mut SteadySource) -> Status
     ensures answers { AnswersSteadily (command_of words.now) input.old.left result }

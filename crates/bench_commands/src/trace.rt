@@ -26,7 +26,7 @@ pub struct Trace {
 
 impl Trace {
     /// Runs the program and writes the line of each step once it is made; then the program's end, its last state and
-    /// the dump. The status is that of the program's end, or a write fault.
+    /// the dump. The status is the one of the program's end, or of a write fault.
     pub fn finish<T: StepLine, O: Sink, E: Sink>(
         self,
         line: &mut T,

@@ -4,7 +4,7 @@ use Rattle.std.specs.Option.{option_map}
 use Rattle.std.specs.Io.KnownBytes.{Appends}
 use Rattle.count_defs.specs.Counts.{saturating_sum}
 
--- A source: the bytes that are left, where it tells them; how many calls of `take` were made, how many bytes they gave,
+-- A source: the bytes that are left, if it shows them; how many calls of `take` were made, how many bytes they gave,
 -- how many of them gave no byte (at the end, or by failing), and how many failed. A source may be opened anew: how many
 -- bytes were given since it was opened last, and the most that were given of one opening.
 pub record SourceState : Type 0 where
@@ -39,14 +39,14 @@ pub record GaveNoMore (before after : SourceState) : Type 0 where
   pub given : after.given ≡ before.given
   pub largest : after.largest ≡ before.largest
 
--- a sink: the bytes that it holds, where it tells them, how many calls of `put` were made, and how many of
+-- a sink: the bytes that it holds, if it shows them, how many calls of `put` were made, and how many of
 -- them failed
 pub record SinkState : Type 0 where
   pub held : Option (List ℕ)
   pub puts : ℕ
   pub faults : ℕ
 
--- what is counted of a sink that tells nothing of its bytes
+-- what is counted of a sink that shows nothing of its bytes
 pub record SinkCounts : Type 0 where
   pub puts : ℕ
   pub faults : ℕ
@@ -55,11 +55,11 @@ pub record SinkCounts : Type 0 where
 abbrev pub empty_calls : ℕ → ℕ
 empty_calls count = 1 - count
 
--- what was left before: these bytes, and then what is left now; a source that tells its bytes goes on telling them
+-- what was left before: these bytes, and then what is left now; a source that shows its bytes goes on showing them
 abbrev pub Gave : Option (List ℕ) → Option (List ℕ) → List ℕ → Type 0
 Gave old new bytes = old ≡ option_map (λ rest. bytes ++ rest) new
 
--- none is left, where the source tells its bytes
+-- none is left, if the source shows its bytes
 abbrev pub IsAtEnd : Option (List ℕ) → Type 0
 IsAtEnd left = IfSome left (λ rest. rest ≡ [])
 
@@ -71,6 +71,6 @@ Grew old new bytes = new ≡ option_map (λ held. held ++ bytes) old
 abbrev pub GrewByPrefix : Option (List ℕ) → Option (List ℕ) → List ℕ → Type 0
 GrewByPrefix old new bytes = (count : ℕ) × Grew old new (take count bytes)
 
--- what a writer holds now, where it tells that: what it held before, and then a front of these bytes
+-- what a writer holds now, if it shows that: what it held before, and then a front of these bytes
 abbrev pub AppendsPrefix : Option (List ℕ) → Option (List ℕ) → List ℕ → Type 0
 AppendsPrefix old new bytes = (count : ℕ) × Appends old new (take count bytes)

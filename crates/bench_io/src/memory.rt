@@ -1,4 +1,4 @@
-//! A source and a sink in memory that fail where they are told to.
+//! A source and a sink in memory that fail at given calls.
 
 ghost use Rattle.std.specs.Prelude.{◌≡◌, ◌⊎◌, ◌↔◌, ◌<◌, ◌≤◌, ◌+◌, ◌-◌, min, ℕ, List, [], ◌++◌, length, take, drop};
 ghost use Rattle.std.specs.Prelude.{vec_len, vec_capacity, Option};
@@ -10,7 +10,7 @@ use crate::{Failed, Sink, Source};
 use std::alloc::{AllocError, Global};
 use std::marker::Model;
 
-/// A source that gives the bytes of a list, as many at a time as there is room for, and fails where it is told to.
+/// A source that gives the bytes of a list, as many at a time as there is room for, and fails at given calls.
 #[derive(Debug, Drop)]
 pub struct MemSource {
     bytes: Vec<u8>,
@@ -112,7 +112,7 @@ pub(crate) fn copy_front(from: &[u8], to: &mut [u8]) -> usize
     count
 }
 
-/// A sink that holds what it is given, up to a size, and fails where it is told to.
+/// A sink that holds what it is given, up to a size, and fails at given calls.
 #[derive(Debug, Drop)]
 pub struct MemSink {
     bytes: Vec<u8>,
@@ -144,7 +144,7 @@ impl MemSink {
     /// takes the memory for all its room here, and none later.
     ///
     /// # Errors
-    /// `AllocError` is want of memory; `fails` is then given up.
+    /// `AllocError` means that memory ran out; `fails` is then given up.
     pub fn new(alloc: Global, room: usize, fails: Vec<u64>) -> Result<Self, AllocError>
         ensures { IfOk result
             (λ sink. sink ≡ record { held = []; room = room; calls = 0; fails = fails.items; faults = 0 }) }

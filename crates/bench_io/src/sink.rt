@@ -8,7 +8,7 @@ use crate::Failed;
 
 /// Where bytes go, one piece after the other.
 pub trait Sink {
-    /// The bytes that it holds, where the sink tells them, and the counts of calls and of faults. Neither falls.
+    /// The bytes that it holds, if the sink shows them, and the counts of calls and of faults. Neither falls.
     ghost state: { Self → SinkState };
 
     /// Appends all of `bytes`.

@@ -8,7 +8,7 @@ use crate::Failed;
 
 /// Where bytes come from, one piece after the other.
 pub trait Source {
-    /// The bytes that are left, where the source tells them; the counts of calls, of bytes given, of calls that gave
+    /// The bytes that are left, if the source shows them; the counts of calls, of bytes given, of calls that gave
     /// no byte, and of faults; how many bytes were given since it was opened last, and the most that were given of one
     /// opening. No count falls.
     ghost state: { Self → SourceState };
@@ -29,7 +29,7 @@ pub trait Source {
 
         ensures within { IfOk result (λ count. count ≤ length buffer.old) }
         ensures gave { IfOk result (λ count. Gave (state self.old).left (state self.new).left (take count buffer.new)) }
-        // Where the bytes are told, 0 comes only at the end. Where nothing is left, `gave` allows 0 alone.
+        // If the bytes are shown, 0 comes only at the end. Where nothing is left, `gave` allows 0 alone.
         ensures end { IfOk result (λ count. count ≡ 0 → IsAtEnd (state self.new).left) }
         ensures failed { OnErr result ((state self.new).left ≡ (state self.old).left) }
 

@@ -9,8 +9,8 @@ use crate::{Failed, Sink, Source};
 use std::io::{ErrorKind, Read, Write};
 use std::marker::Model;
 
-/// A source over any reader of std. A read that fails is a fault. To a caller of the trait it tells nothing of what the
-/// reader has left. The contract of its own `take` says which bytes come, where the reader tells what it has left.
+/// A source over any reader of std. A read that fails is a fault. To a caller of the trait it shows nothing of what the
+/// reader has left. The contract of its own `take` says which bytes come, if the reader shows what it has left.
 #[derive(Debug, Drop)]
 pub struct StdSource<R: Read + Drop> {
     reader: R,
@@ -88,9 +88,9 @@ impl<R: Read + Drop> Source for StdSource<R> {
 }
 
 /// A sink over any writer of std. Each error of the writer but an interruption is a fault, and so is a write that
-/// takes nothing of a piece that is not empty. To a caller of the trait it tells nothing of what the writer holds. The
+/// takes nothing of a piece that is not empty. To a caller of the trait it shows nothing of what the writer holds. The
 /// contract of its own `put` says that the bytes are appended, or a front of them where it fails, where the writer
-/// tells what it holds.
+/// shows what it holds.
 #[derive(Debug, Drop)]
 pub struct StdSink<W: Write + Drop> {
     writer: W,

@@ -77,7 +77,7 @@ impl Source for SteadySource {
     }
 }
 
-/// A sink that drops what it is given, tells nothing of it, and never fails.
+/// A sink that drops what it is given, shows nothing of it, and never fails.
 #[derive(Debug, Drop)]
 pub struct SteadySink {
     puts: u64,

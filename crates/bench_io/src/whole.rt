@@ -48,7 +48,7 @@ const PIECE: usize = 4096;
 ///
 /// # Errors
 /// `TooLarge` comes exactly where more than `limit` bytes were taken, `Fault` only where the source's count of faults
-/// rose, and `Memory` is want of memory. What was taken before an error stays taken.
+/// rose, and `Memory` means that memory ran out. What was taken before an error stays taken.
 pub fn read_all<S: Source>(
     alloc: Global,
     source: &mut S,

@@ -15,20 +15,20 @@ use Rattle.bench_shelf.specs.Leading.{EndsBy}
 use Rattle.bench_shelf.specs.CopyAnswers.{GivesCopied}
 use Rattle.bench_shelf.specs.Dialogue.{CopyDialogue}
 
--- The module by some contents, or the refusal. A module is that of the copied lines as one text, each line ended by a
--- carriage return and a line feed, and as many files are copied as were asked for.
+-- The module by some contents, or the refusal. A module is the one of the copied lines as one text, each line ended by
+-- a carriage return and a line feed, and as many files are copied as were asked for.
 abbrev pub GivesBy : Result Module CopyError → List Question → List ℕ → Contents → Type 0
 GivesBy (Ok found) questions source contents =
     (module_of_source (text_of (texts (copied_by contents source).lines)) ≡ Ok (defined_module found))
     × (length questions ≡ (copied_by contents source).copies) × GivesCopied (Ok found) (module_by contents source)
 GivesBy (Err error) questions source contents = GivesCopied (Err error) (module_by contents source)
 
--- a module is that of some lines
+-- a module is the one of some lines
 abbrev pub IsOfLines : object.Module → Type 0
 IsOfLines found = (lines : List (List ℕ)) × (module_of_lines lines ≡ Ok found)
 
--- There are questions and answers such that the result is that of the definitions by these answers, whatever else the
--- shelf would have answered. Where the shelf failed, it did at the file that was asked for last.
+-- There are questions and answers such that the result is the one of the definitions by these answers, whatever else
+-- the shelf would have answered. Where the shelf failed, it did at the file that was asked for last.
 pub record Answered (before after : ShelfState) (source : List ℕ) (result : Result Module CopyError) : Type 0 where
   pub questions : List Question
   pub dialogue : CopyDialogue before after source questions

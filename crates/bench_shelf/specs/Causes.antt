@@ -14,7 +14,8 @@ use Rattle.bench_shelf.specs.declared.copy_error.CopyError.{CopyError}
 use Rattle.bench_shelf.specs.declared.copy_error.CopyError.TheVariants.{At, TooLarge, Fault, Memory}
 use Rattle.bench_shelf.specs.CopyAnswers.{IsNoMemory}
 
--- a shelf after some calls: it has the same files, and none of its counts fell, but for that of the file opened last
+-- a shelf after some calls: it has the same files, and none of its counts fell, but for the count of the file opened
+-- last
 pub record CountsGrew (before after : ShelfState) : Type 0 where
   pub files : after.files ≡ before.files
   pub faults : before.source.faults ≤ after.source.faults
@@ -87,7 +88,8 @@ pub record ReadsOnce (limit : ℕ) (questions : List Question) (before after : S
   pub calls : after.source.calls ≤ saturating_sum before.source.calls (bytes + empty)
   pub none : questions ≡ [] → after ≡ before
 
--- The file of a name was asked for, and this is the answer. Where the shelf shows its files, it is that of the file.
+-- The file of a name was asked for, and this is the answer. Where the shelf shows its files, it is the answer of the
+-- file.
 pub record AsksOne (limit : ℕ) (name : List ℕ) (answer : Answer) (before after : ShelfState) : Type 0 where
   pub reads : ReadsOnce limit (record { name = name; answer = answer } ∷ []) before after
   pub fits : IfSome before.files (λ files. Fits limit answer (get files name))

@@ -48,16 +48,16 @@ unread_at place unread.TooLarge = TooLarge
 unread_at place unread.Fault = Fault
 unread_at place unread.Memory = Memory
 
--- a cause of the assembler that does not stand for want of memory
+-- a cause of the assembler that does not stand for a lack of memory
 abbrev pub IsOwnCause : AsmCause → Type 0
 IsOwnCause cause = Causes {B = ⊤} cause (Err cause)
 
--- no cause of the assembler stands for want of memory
+-- no cause of the assembler stands for a lack of memory
 abbrev pub IsNoMemory : CopyCause → Type 0
 IsNoMemory (Asm cause) = IsOwnCause cause
 IsNoMemory cause = ⊤
 
--- The definitions refuse a source for this cause. Of a shelf that failed and of want of memory they say nothing.
+-- The definitions refuse a source for this cause. Of a shelf that failed and of a lack of memory they say nothing.
 abbrev pub CopyRefuses : {B : Type 0} → CopyError → Result B CopyRefusal → Type 0
 CopyRefuses (At file line cause) defined =
     IsNoMemory cause × (defined ≡ Err (spec.At (record { file = file; line = line }) (defined_cause cause)))

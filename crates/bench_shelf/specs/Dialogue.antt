@@ -8,7 +8,7 @@ use Rattle.bench_shelf.specs.Causes.{ReadsOnce}
 
 -- A shelf was asked for these files and no others, in this order, each once, and each as the next after the answers
 -- before. A file may have `limit` bytes, and there are `most` questions at most. Where the shelf shows its files, the
--- answers are those of the files.
+-- answers are the ones of the files.
 pub record Dialogue (limit most : ℕ) (IsNext : List Question → Question → Type 0) (before after : ShelfState)
     (questions : List Question) : Type 0 where
   pub turns : InTurn IsNext [] questions

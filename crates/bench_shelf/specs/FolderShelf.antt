@@ -1,4 +1,4 @@
--- A shelf of the current folder, which tells nothing of its files.
+-- A shelf of the current folder, which shows nothing of its files.
 use Rattle.std.specs.Prelude.{◌≡◌, ℕ, Bool, true, false, None, Result, Ok, Err}
 use Rattle.count_defs.specs.Counts.{saturating_sum, Rose}
 use Rattle.bench_shelf.specs.States.{ShelfState}
@@ -41,8 +41,8 @@ hidden_state folder =
 abbrev pub asked : Folder → Folder
 asked before = record before { is_open = false; given = 0; opens = saturating_sum before.opens 1 }
 
--- After Ok a file is open. Where opening one is refused, none is, and the count of faults or that of misses has risen
--- by one. Nothing was given yet of what was opened last.
+-- After Ok a file is open. Where opening one is refused, none is, and the count of faults or the count of misses has
+-- risen by one. Nothing was given yet of what was opened last.
 abbrev pub OpensFrom : {A : Type 0} → Folder → Result A OpenError → Folder → Type 0
 OpensFrom before (Ok _) after = after ≡ record (asked before) { is_open = true }
 OpensFrom before (Err Failed) after =

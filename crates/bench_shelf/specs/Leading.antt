@@ -76,7 +76,7 @@ pub record Stopped (done : List PlacedLine) (found : Copied) (new : Copying) : T
   pub holds : Holds taken new
   pub halts : Halts (done ++ found.lines) found.ending taken
 
--- of an error that the definitions tell
+-- of an error that the definitions give
 abbrev pub WhereTold : CopyError → Type 0 → Type 0
 WhereTold Fault P = ⊤
 WhereTold Memory P = ⊤
@@ -141,13 +141,13 @@ count state = length (places_of state.runs.items)
 abbrev pub IsHeld : Copying → Type 0
 IsHeld state = (done : List PlacedLine) × Holds done state
 
--- so many more lines can be counted, and those of the files that may still be copied
+-- a number of further lines can be counted, and the lines of the files that may still be copied
 pub record HasRoom (lines : ℕ) (state : Copying) : Type 0 where
   pub held : IsHeld state
   pub copies : state.copies ≤ most_copies
   pub room : count state + lines + most_bytes * most_copies ≤ 2 ^ 32 - 2 + most_bytes * state.copies
 
--- no more lines were taken than these and those of the files that were copied
+-- no more lines were taken than these and the lines of the files that were copied
 pub record Grows (lines : ℕ) (old new : Copying) : Type 0 where
   pub held : IsHeld new
   pub copies : old.copies ≤ new.copies

@@ -27,7 +27,7 @@ use Rattle.bench_shelf.specs.Causes.{ShelfCauses, ReadWithinLimit}
 use Rattle.bench_shelf.specs.Dialogue.{CopyDialogue}
 use Rattle.bench_shelf.specs.Kept.{defined_kept, AreKept}
 
--- the definitions say nothing of a shelf that failed and of want of memory
+-- the definitions say nothing of a shelf that failed and of a lack of memory
 abbrev pub IsUntold : CopyError → Type 0
 IsUntold Fault = ⊤
 IsUntold Memory = ⊤
@@ -92,8 +92,8 @@ abbrev pub ListFaultEnds : Result ListedSource CopyError → List Question → T
 ListFaultEnds (Err Fault) questions = EndsWith Unanswered questions
 ListFaultEnds other questions = ⊤
 
--- There are questions and answers such that what is listed is that of the definitions by these answers, whatever else
--- the shelf would have answered.
+-- There are questions and answers such that what is listed is the one of the definitions by these answers, whatever
+-- else the shelf would have answered.
 pub record ListAnswered (before after : ShelfState) (source : List ℕ) (result : Result ListedSource CopyError)
     : Type 0 where
   pub questions : List Question

@@ -20,7 +20,7 @@ abbrev pub open_bytes : List (List ℕ × List ℕ) → Option (List ℕ) → Op
 open_bytes files (Some name) = bytes_of files name
 open_bytes files None = Some []
 
--- what is left of the open file: so many bytes at its end
+-- what is left of the open file: a number of bytes at its end
 abbrev pub left_of : ℕ → Option (List ℕ) → List ℕ
 left_of rest (Some bytes) = drop (length bytes - rest) bytes
 left_of rest None = []

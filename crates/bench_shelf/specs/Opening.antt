@@ -29,7 +29,7 @@ pub record StartsAnew (before after : ShelfState) (name : List ℕ) : Type 0 whe
   pub given : after.source.given ≡ 0
   pub largest : after.source.largest ≡ before.source.largest
 
--- the counts of a source other than that of faults stand as before
+-- the counts of a source other than the count of faults stand as before
 pub record SameCounts (before after : SourceState) : Type 0 where
   pub calls : after.calls ≡ before.calls
   pub taken : after.taken ≡ before.taken

@@ -5,7 +5,7 @@ use Rattle.shelf_defs.specs.Copied as spec
 use Rattle.bench_shelf.specs.declared.place.Place.{Place}
 use Rattle.bench_shelf.specs.declared.run.Run.{Run}
 
--- so many places of a file from a line on
+-- a number of places of a file from a line on
 abbrev pub places_from : Option (List ℕ) → ℕ → ℕ → List spec.Place
 places_from file line zero = []
 places_from file line (suc count) = record { file = file; line = line } ∷ places_from file (line + 1) count

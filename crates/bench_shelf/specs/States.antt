@@ -67,7 +67,7 @@ pub record Shelved : Type 0 where
 abbrev pub by_name : List (List ℕ × List ℕ) → Files
 by_name files = from_entries files
 
--- a shelf in memory as a shelf that tells its files
+-- a shelf in memory as a shelf that shows its files
 abbrev pub visible_state : Shelved → ShelfState
 visible_state shelf =
     record {

@@ -17,7 +17,7 @@ use std::alloc::Global;
 pub(crate) const DEEPEST: u32 = 4;
 
 /// Assembles a source of at most 1,048,576 bytes with the files of a shelf that it copies. By the answers of the
-/// shelf, the module is that of the copied lines as one text, each line ended by a carriage return and a line feed.
+/// shelf, the module is the one of the copied lines as one text, each line ended by a carriage return and a line feed.
 /// Lines after the first END line of any file are not read. The shelf is asked for a file where the source copies one
 /// by the answers before, in the order of the lines, and for no other, also where the source is refused. Of each file
 /// that is given all bytes are taken, and of one that is too large one byte more than the 262,144 that it may have.

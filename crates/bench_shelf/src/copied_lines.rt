@@ -25,8 +25,8 @@ const MOST_COPIES: u32 = 64;
 const MOST_BYTES: usize = 262144;
 
 impl Copying {
-    /// Takes the lines of a file, or of the source itself, with those of the files that they copy, which may be copied
-    /// `levels` deep. It ends after a line that ends the source.
+    /// Takes the lines of a file, or of the source itself, with the lines of the files that they copy, which may be
+    /// copied `levels` deep. It ends after a line that ends the source.
     ///
     /// # Errors
     /// The first line that is refused, or why a file was not read.

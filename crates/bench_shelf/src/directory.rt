@@ -19,7 +19,7 @@ use std::{fs, io};
 
 /// The regular files of the current folder by their names. A link is none of them, and neither is a folder, a device or
 /// a pipe: their names are missing, as is a name that no entry has. Each error of the system but that is a fault. To a
-/// caller of the trait it tells nothing of its files.
+/// caller of the trait it shows nothing of its files.
 #[derive(Drop)]
 pub struct DirShelf<'a, R: Files> {
     folder: &'a R,

@@ -45,7 +45,7 @@ pub struct ListedSource {
     pub ending: ListedEnding,
 }
 
-/// The lines of a source of at most 1,048,576 bytes with those of the files of a shelf that it copies, as a listing
+/// The lines of a source of at most 1,048,576 bytes with the lines of the files of a shelf that it copies, as a listing
 /// needs them, also where a line is refused. The shelf is asked for files as [`crate::copy_assemble`] asks it.
 ///
 /// # Errors
@@ -124,7 +124,7 @@ impl Copying {
         }
     }
 
-    /// The lines that were taken before an error that the definitions tell, or the error.
+    /// The lines that were taken before an error that the definitions give, or the error.
     fn listed_before(self, error: CopyError) -> Result<ListedSource, CopyError>
         requires { is_some self.kept ≡ true }
         ensures stops { StopsAt self.kept error result }

@@ -15,7 +15,7 @@ use bench_io::{Failed, Source};
 use std::marker::Model;
 
 /// A shelf of files in memory, of which the first of equal names counts. It gives as many bytes at a time as there is
-/// room for, and fails where it is told to.
+/// room for, and fails at given calls.
 #[derive(Debug, Drop)]
 pub struct MemShelf {
     files: Vec<(FileName, Vec<u8>)>,

@@ -13,7 +13,7 @@ use bench_io::Source;
 pub trait Shelf: Source {
     /// The open file as a source, with all that is counted of the files that were open; the counts of calls of
     /// `open_file` and of names that were missing; the names that it was asked for, where it keeps them; and the
-    /// files, where it shows them. No count falls but that of the bytes of the file opened last, which starts
+    /// files, where it shows them. No count falls but the count of bytes of the file opened last, which starts
     /// anew where one is opened, and no call changes the files.
     ghost shelf: { Self → ShelfState };
 
@@ -21,8 +21,8 @@ pub trait Shelf: Source {
     /// whatever its answer.
     ///
     /// # Errors
-    /// `Failed` comes only where the count of faults rose in this call, and `Missing` only where that of misses rose,
-    /// and exactly where the call did not fail and no file has the name. Nothing is left then.
+    /// `Failed` comes only where the count of faults rose in this call, and `Missing` only where the count of misses
+    /// rose, and exactly where the call did not fail and no file has the name. Nothing is left then.
     fn open_file(&mut self, name: &FileName) -> Result<(), OpenError>
         ensures opened { OnOk result (Opens (shelf self.old).files name.now (shelf self.new).source.left) }
         ensures refused { IfErr result (λ error. Refuses error (shelf self.old) (shelf self.new) name.now) }

@@ -43,7 +43,7 @@ const RUNS: &[(&[&[u8]], &[u8], Status, u64)] = &[
     (&[b"demo", b"1"], b"", Status::Done, 0),
 ];
 
-/// Whether a call of `take` that fails is a read fault with nothing written, whichever of so many it is, and it makes
+/// Whether a call of `take` that fails is a read fault with nothing written, whichever of the calls it is, and it makes
 /// no further call.
 fn each_take_fails(
     alloc: Global,

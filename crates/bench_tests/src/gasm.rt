@@ -457,7 +457,7 @@ const REPEATED: &[(&[u8], usize, &[u8], usize, &[u8])] = &[
     (b" ", 1048577, b"", 0, b"too large\n"),
 ];
 
-/// Whether so many lines give so many times these bytes, or are refused so.
+/// Whether a number of lines give these bytes as many times, or are refused so.
 fn repeated_gives(
     alloc: Global,
     line: &[u8],

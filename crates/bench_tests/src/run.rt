@@ -44,7 +44,7 @@ pub(crate) fn run(
     run_with(alloc, words, input, &mut shelf, take_fails, put_fails)
 }
 
-/// The same over a shelf. The words `glist`, `list`, `gsteps` and `steps` are those of `ti_debug`.
+/// The same over a shelf. The words `glist`, `list`, `gsteps` and `steps` are words of `ti_debug`.
 pub(crate) fn run_with(
     alloc: Global,
     words: &[&[u8]],

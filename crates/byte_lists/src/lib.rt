@@ -1,4 +1,4 @@
-//! Lists of bytes: so many zeros, and what holds of every slice of bytes.
+//! Lists of bytes: a given number of zeros, and what holds of every slice of bytes.
 #![tactic(auto)]
 
 ghost use Rattle.std.specs.Prelude.{◌<◌, ℕ, slice_index, IfOk};

@@ -26,8 +26,8 @@ place_text Registers at = codes "W" ++ register_place at
 unfoldable pub repeated_text : ℕ → ℕ → List ℕ
 repeated_text byte count = byte_digits byte ++ (if count == 1 then [] else codes "*" ++ decimal count)
 
--- Profile: a change is a blank, its place, an equals sign and the new bytes; if the change before it ended at its place,
--- a comma and the new bytes. No change ends at 0.
+-- Profile: a change is a blank, its place, an equals sign and the new bytes; if the change before it ended at its
+-- place, a comma and the new bytes. No change ends at 0.
 abbrev pub placed_change : List ℕ → ℕ → Change → List ℕ
 placed_change place end c =
     (if (c.at == end) && not (end == 0) then codes "," else codes " " ++ (place ++ codes "="))
@@ -46,7 +46,7 @@ change_texts part end (c ∷ cs) = change_text part end c ++ change_texts part (
 unfoldable pub part_text : Part → List Change → List ℕ
 part_text part cs = change_texts part 0 cs
 
--- Profile: the changes of a step are shown in order of place, those of the cells first, then those of the video memory
+-- Profile: the changes of a step are shown in order of place, first of the cells, then of the video memory
 -- and of its registers.
 unfoldable pub step_text : StepChanges → List ℕ
 step_text made =

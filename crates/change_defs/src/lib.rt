@@ -1,5 +1,5 @@
-//! What a step changes, all of it: the changes between two lists of bytes, what a list becomes by them, and how they are
-//! written. The definitions are in `specs/`.
+//! What a step changes, all of it: the changes between two lists of bytes, what a list becomes by them, and how they
+//! are written. The definitions are in `specs/`.
 #![tactic(auto)]
 
 mod laws;

@@ -109,8 +109,8 @@ impl Bus {
     }
 
     /// The word that holds an address, as `word_at` gives it. It is for the words of instructions, which stand in the
-    /// expansion memory: its two parts are told before all else, and first the one that is named. Which one that is has
-    /// no effect but on the time.
+    /// expansion memory: its two parts are tested before all else, and first the one that is named. Which one that is
+    /// has no effect but on the time.
     #[inline(always)]
     pub fn code_at(&self, at: u16, first: Expansion) -> Result<u16, PortStop>
         ensures word { answer_of result ≡ word_read self.now at }

@@ -25,17 +25,17 @@ end_of_step (Done word) = None
 end_of_step (Refused address) = Some (run.Refused address)
 end_of_step (Port address) = Some (run.Port address)
 
--- The machine after so many steps in a row.
+-- The machine after a number of steps in a row.
 abbrev pub after : ℕ → MachineState → MachineState
 after zero x = x
 after (suc made) x = (machine_step (after made x)).1
 
--- The last of so many steps executed the jump to itself.
+-- The last of a number of steps executed the jump to itself.
 abbrev pub self_jumped : ℕ → MachineState → Bool
 self_jumped zero x = false
 self_jumped (suc made) x = is_self_jump (machine_step (after made x)).0
 
--- What ends a run before a step from x, where so many were made, or at that step.
+-- What ends a run before a step from x, where a number of steps were made, or at that step.
 -- Profile: the end's address is looked at before the limit, and the limit before the step.
 abbrev pub end_before : Option ℕ → ℕ → ℕ → MachineState → Option RunEnd
 end_before stop limit made x =
@@ -43,13 +43,13 @@ end_before stop limit made x =
     else if made == limit then Some run.Limit
     else end_of_step (machine_step x).0
 
--- What ends a run from x, if anything does, where so many steps were made.
--- Profile: a jump to itself that was executed is told before the limit.
+-- What ends a run from x, if anything does, where a number of steps were made.
+-- Profile: a jump to itself that was executed is tested before the limit.
 abbrev pub end_at : Option ℕ → ℕ → ℕ → MachineState → Option RunEnd
 end_at stop limit made x =
     if self_jumped made x then Some run.SelfJump else end_before stop limit made (after made x)
 
--- A run from x to y, over so many executed instructions: the least number at which something ends it.
+-- A run from x to y, over a number of executed instructions: the least number at which something ends it.
 pub record IsRun (stop : Option ℕ) (limit made : ℕ) (x : MachineState) (ending : RunEnd) (y : MachineState) :
     Type 0 where
   pub ends : end_at stop limit made x ≡ Some ending

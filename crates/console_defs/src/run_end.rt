@@ -7,7 +7,7 @@ pub enum RunEnd {
     Reached,
     /// As many instructions were executed as the limit says.
     Limit,
-    /// A step was refused: the word at this address, that of the instruction, is none that is executed here.
+    /// A step was refused: the word of the instruction, at this address, is none that is executed here.
     Refused(u16),
     /// A step made a word access to the port at this address.
     Port(u16),

@@ -42,8 +42,8 @@ ListOn before after source report =
     MatchBool (nat_lt largest_input (length source)) ((report ≡ Faulty TooLarge) × (after ≡ before))
     (ListReported before after source report)
 
--- The report of a command. `list` takes the input and the files that it copies. Every other command takes the input, and
--- leaves the shelf as it was.
+-- The report of a command. `list` takes the input and the files that it copies. Every other command takes the input,
+-- and leaves the shelf as it was.
 abbrev pub Reports : DebugCommand → Reading → Reading → Report → Type 0
 Reports command.List before after report =
     (source : List ℕ) × ReadsInput before.input after.input source × ListOn before.shelf after.shelf source report
@@ -70,8 +70,8 @@ Leaves command.List before after =
 Leaves command before after =
     plain.Leaves debug_input command before.input after.input × (after.shelf ≡ before.shelf)
 
--- A call failed of what the command reads: of the input, and then no file was opened; or of the shelf, which `list` asks
--- for files after the input was taken whole, at the file that was asked for last.
+-- A call failed of what the command reads: of the input, and then no file was opened; or of the shelf, which `list`
+-- asks for files after the input was taken whole, at the file that was asked for last.
 abbrev pub ReadFails : DebugCommand → Reading → Reading → Type 0
 ReadFails command.List before after =
     (plain.Fails before.input after.input × (after.shelf ≡ before.shelf))
@@ -104,8 +104,8 @@ debug_program =
     }
 
 -- What is taken of a shelf at most, whatever the status: `list` asks for one file for each COPY line that may be
--- followed, and takes one byte more of it than it may have. Each other command, and words that are no command, leave the
--- shelf as it was, also the count of files that were asked for. It follows from how a run ends.
+-- followed, and takes one byte more of it than it may have. Each other command, and words that are no command, leave
+-- the shelf as it was, also the count of files that were asked for. It follows from how a run ends.
 abbrev pub TakesOfShelf : Option DebugCommand → ShelfState → ShelfState → Type 0
 TakesOfShelf None before after = after ≡ before
 TakesOfShelf (Some command.List) before after =

@@ -10,9 +10,9 @@ use Rattle.debug_commands.specs.Debug.{debug_program}
 
 -- There is at most one report, it was written whole if nothing fails, and two runs alike end alike. What is written
 -- before the end of a report is known begins the report. The bytes of the rows of a listing of a GPL source at their
--- addresses are the image of the source, and its names are those of the source. The listing of an assembler source that
--- is accepted shows its module, and one that `asm` refuses is refused by the same fault line. The changes that are read
--- from the lines give the states, and those of the lines of instructions give the memory.
+-- addresses are the image of the source, and its names are the names of the source. The listing of an assembler source
+-- that is accepted shows its module, and one that `asm` refuses is refused by the same fault line. The changes that are
+-- read from the lines give the states, and the changes of the lines of instructions give the memory.
 -- The words that the machine holds are the linked memory of the interpreter's source, and the machine after the first i
 -- turns of a program that is run matches its state after i steps, for each i up to the last.
 pub record LawsOfDebugRuns : Type 0 where

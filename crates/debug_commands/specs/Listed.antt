@@ -1,6 +1,6 @@
 -- What `list` reports of a source with the files that it copies, and what was asked of their shelf.
 --
--- A report is that of the definitions by the answers of the shelf. Each refusal has its cause: a file is too large
+-- A report is the one of the definitions by the answers of the shelf. Each refusal has its cause: a file is too large
 -- exactly where more bytes of one were taken than it may have.
 use Rattle.std.specs.Prelude.{◌≡◌, ◌⊎◌, ℕ, List, length, Option, Some, None, Result, Ok, Err}
 use Rattle.asm_defs.specs.Locations.{Line}
@@ -23,8 +23,8 @@ use Rattle.file_commands.specs.Reported.{CopyCauses, CopyFails}
 use Rattle.reports.specs.Outputs.{Outputs}
 use Rattle.reports.specs.Answers.{Reported, Ends}
 
--- The rows and the refusal are those of the listing of copied lines. Where no line is refused by the first checks, as
--- many files were copied as were asked for.
+-- The rows and the refusal are the ones of the listing of copied lines. Where no line is refused by the first checks,
+-- as many files were copied as were asked for.
 pub record GivesRows (asked : ℕ) (rows : List (List ℕ)) (refusal : Option CopyRefusal) (found : Copied) : Type 0 where
   pub rows_are : rows ≡ listing_rows (listing_of found)
   pub refusal_is : refusal ≡ (listing_of found).refusal

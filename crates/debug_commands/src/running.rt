@@ -21,19 +21,19 @@ use std::alloc::Global;
 use steps_command::steps;
 
 /// Runs the command that the words say. It reads all of `input` before it writes, and `list` reads the files that the
-/// source copies from `shelf` then. It writes the report to `out`, or a fault line or the usage line to `err`, and takes
-/// all its memory before the first byte is written. The line of a step is written once the step is made.
+/// source copies from `shelf` then. It writes the report to `out`, or a fault line or the usage line to `err`, and
+/// takes all its memory before the first byte is written. The line of a step is written once the step is made.
 ///
 /// The contract says of each status its cause, and what the input, the shelf and the outputs are then; that if what the
-/// command reads is shown (the bytes of the input, and to `list` the files of the shelf too) and nothing fails, there is
-/// one report on it, which was written whole, and the status is its own, or out of memory; how many bytes are taken of
-/// the shelf at most; that the words which the machine holds are the linked memory of the interpreter's source, and that
-/// for each i up to the last step of a program that is run the machine after the first i turns matches its state after
-/// i steps; that the changes which are read from the lines of the first i steps, made in the first state, give the
-/// state after i steps; that the bytes of the rows of a listing of a GPL source, at their addresses, are the image of
-/// its source, and its names those of the source; that the listing of an assembler source which is accepted shows its
-/// module, and that one which is refused has the fault line of `asm`; and that the changes of the lines of the first i
-/// instructions, made in the first memory, give the memory after i instructions.
+/// command reads is shown (the bytes of the input, and to `list` the files of the shelf too) and nothing fails, there
+/// is one report on it, which was written whole, and the status is its own, or out of memory; how many bytes are taken
+/// of the shelf at most; that the words which the machine holds are the linked memory of the interpreter's source, and
+/// that for each i up to the last step of a program that is run the machine after the first i turns matches its state
+/// after i steps; that the changes which are read from the lines of the first i steps, made in the first state, give
+/// the state after i steps; that the bytes of the rows of a listing of a GPL source, at their addresses, are the image
+/// of its source, and its names are the names of the source; that the listing of an assembler source which is accepted
+/// shows its module, and that one which is refused has the fault line of `asm`; and that the changes of the lines of
+/// the first i instructions, made in the first memory, give the memory after i instructions.
 #[tactic(auto, using(crate::proofs::Laws::laws))]
 pub fn debug<S: Source, F: Shelf, O: Sink, E: Sink>(
     alloc: Global,

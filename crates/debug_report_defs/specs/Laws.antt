@@ -37,8 +37,8 @@ told_of (Faulty fault) = Some (fault_line fault)
 told_of (Rejected line) = Some line
 told_of (RejectedAfter pieces line) = Some line
 
--- the law, which is proved: `list` refuses a source with the files that it copies exactly where `asm` of `ti_bench` does,
--- and by the same fault line
+-- the law, which is proved: `list` refuses a source with the files that it copies exactly where `asm` of `ti_bench`
+-- does, and by the same fault line
 abbrev pub ListRefusesAsAsm : Type 0
 ListRefusesAsAsm =
     (files : Files) (input : List ℕ) (listed assembled : Report)
@@ -54,9 +54,9 @@ abbrev pub state_by_texts : GplState → ℕ → SeenState
 state_by_texts s zero = seen_state s
 state_by_texts s (suc earlier) = state_applied (changes_of_text (text_after s earlier)) (state_by_texts s earlier)
 
--- The law, which is proved: the line of each step is its front and a text of changes; and the changes that are read from
--- the texts of the first steps of a program, made in its first state one step after the other, give the state after
--- these steps, but for the address of the next instruction, which the front of the next line has.
+-- The law, which is proved: the line of each step is its front and a text of changes; and the changes that are read
+-- from the texts of the first steps of a program, made in its first state one step after the other, give the state
+-- after these steps, but for the address of the next instruction, which the front of the next line has.
 pub record LinesGiveStates : Type 0 where
   pub lines : (s : GplState) (count : ℕ) → step_lines all_changes_text s count
       ≡ map (λ made. step_front (made + 1) (run made s).last ++ text_after s made) (range_with_len 0 count)

@@ -33,8 +33,8 @@ AcceptedReport command files input report = InputReport command input report
 abbrev pub ReportOn : DebugCommand → Files → List ℕ → Report → Type 0
 ReportOn command files = OnInput (AcceptedReport command files)
 
--- What is written before the end of a report is known, of an input that is not too large: `gsteps` and `steps` write the
--- line of each step once it is made.
+-- What is written before the end of a report is known, of an input that is not too large: `gsteps` and `steps` write
+-- the line of each step once it is made.
 abbrev pub PrefixOn : DebugCommand → List ℕ → Report → Type 0
 PrefixOn Glist input front = ⊥
 PrefixOn command.List input front = ⊥

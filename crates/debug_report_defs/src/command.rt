@@ -5,16 +5,16 @@
 pub enum DebugCommand {
     /// `glist`: lists a GPL source, each line with its address and its bytes, and its names.
     Glist,
-    /// `list`: lists an assembler source with the files that it copies, each line with its place and what it places, and
-    /// its names.
+    /// `list`: lists an assembler source with the files that it copies, each line with its place and what it places,
+    /// and its names.
     List,
-    /// `gsteps N`: assembles a GPL source, and the interpreter runs up to so many of its steps from the entry; each step
+    /// `gsteps N`: assembles a GPL source, and the interpreter runs up to N of its steps from the entry; each step
     /// is shown by a line with all that it changed.
     Gsteps {
         /// The most steps, up to 100,000.
         limit: u32,
     },
-    /// `steps N`: links object text and executes up to so many instructions of its linked memory from the entry; each is
+    /// `steps N`: links object text and executes up to N instructions of its linked memory from the entry; each is
     /// shown by a line with all that it changed.
     Steps {
         /// The most instructions, up to 10,000,000.

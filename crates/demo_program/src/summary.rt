@@ -13,8 +13,8 @@ use report_defs::Summary;
 use report_lines::{Line, append, append_count};
 use tms_step::Machine;
 
-/// The summary of a program that was made from a number and whose image has so many bytes: so many of its steps were
-/// made, it ended for a reason, if it did, and this is the machine that ran it.
+/// The summary of a program that was made from a number and whose image has a given number of bytes: how many of its
+/// steps were made, it ended for a reason, if it did, and this is the machine that ran it.
 pub fn summarize(
     number: u32,
     image: u64,

@@ -10,7 +10,7 @@ use std::alloc::{AllocError, Global};
 const LAST_LINES: &[u8] = b"       EXIT\nSUB    XOR @>8340,>5A\n       RTN\n       END >6000\n";
 
 /// The GPL source that is made from a number: as many blocks of one line, and then the end of the program and its
-/// subroutine. Each block has a number, which comes from that of the block before it, the first from this number.
+/// subroutine. Each block has a number, which comes from the number of the block before it, the first from this number.
 ///
 /// # Errors
 /// `AllocError` comes where memory is wanting.

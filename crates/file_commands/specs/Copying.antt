@@ -8,7 +8,7 @@ use Rattle.bench_shelf.specs.declared.copy_error.CopyError.TheVariants.{At, TooL
 use Rattle.report_defs.specs.declared.status.Status.{Status}
 use Rattle.report_defs.specs.declared.status.Status.TheVariants as status
 
--- the refusal of the definitions; a shelf that failed and want of memory have none
+-- the refusal of the definitions; a shelf that failed and a lack of memory have none
 abbrev pub copy_refusal : CopyError → Result CopyRefusal Status
 copy_refusal (At file line cause) = Ok (spec.At (record { file = file; line = line }) (defined_cause cause))
 copy_refusal TooLarge = Ok spec.TooLarge

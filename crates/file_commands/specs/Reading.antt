@@ -26,7 +26,7 @@ Refuses (Missing name) defined = defined ≡ Err (spec.Missing name)
 Refuses TooLarge defined = defined ≡ Err spec.TooLarge
 Refuses other defined = ⊤
 
--- what is read is what is defined; of a shelf that failed and of want of memory the definitions say nothing
+-- what is read is what is defined; of a shelf that failed and of a lack of memory the definitions say nothing
 abbrev pub Gives : {A B : Type 0} → (A → B) → Result A FileError → Result B FilesRefusal → Type 0
 Gives see (Ok value) defined = defined ≡ Ok (see value)
 Gives see (Err error) defined = Refuses error defined
@@ -48,7 +48,7 @@ EndsReading names (Err TooLarge) questions = EndsWith OverLimit questions
 EndsReading names (Err Fault) questions = EndsWith Unanswered questions
 EndsReading names (Err Memory) questions = ⊤
 
--- Files were read by their names. There are questions and answers such that the result is that of the definitions by
+-- Files were read by their names. There are questions and answers such that the result is the one of the definitions by
 -- these answers.
 pub record Reads {A : Type 0} (see : A → List (List ℕ × List ℕ)) (names : List (List ℕ))
     (result : Result A FileError) (before after : ShelfState) : Type 0 where
@@ -58,7 +58,7 @@ pub record Reads {A : Type 0} (see : A → List (List ℕ × List ℕ)) (names :
   pub gives : (contents : Contents) → Agrees largest_input contents 0 questions
       → Gives see result (read_by contents 0 names)
 
--- the refusal of the definitions; a shelf that failed and want of memory have none
+-- the refusal of the definitions; a shelf that failed and a lack of memory have none
 abbrev pub refusal_of : FileError → Result FilesRefusal Status
 refusal_of (Missing name) = Ok (spec.Missing name)
 refusal_of TooLarge = Ok spec.TooLarge

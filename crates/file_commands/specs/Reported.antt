@@ -1,6 +1,6 @@
 -- What is reported of files, and what was asked of their shelf.
 --
--- A report is that of the definitions by the answers of the shelf. Each refusal has its cause: a file is too large
+-- A report is the one of the definitions by the answers of the shelf. Each refusal has its cause: a file is too large
 -- exactly where more bytes of one were taken than it may have.
 use Rattle.std.specs.Prelude.{◌≡◌, List, ℕ, length, OnOk, Result, Ok, Err}
 use Rattle.count_defs.specs.Counts.{Rose}
@@ -90,5 +90,5 @@ LinkFails names before after status.ReadFault =
     × Failed largest_input before after questions
 LinkFails names before after status.Memory =
     (questions : List Question) × LinkDialogue before after names questions
-        × ReadWithinLimit largest_input before after
+    × ReadWithinLimit largest_input before after
 LinkFails names before after other = ⊥

@@ -34,7 +34,7 @@ pub record IsBehind (lines : List Line) (builder : GplLines) : Type 0 where
       → whole later lines ≡ replay later nothing builder.waiting.items
   pub room : (later : Names) → Grows builder.symbols later → AllByRecursion (HasRoom later) builder.waiting.items
 
--- what is told of a line that was taken after others
+-- what is returned of a line that was taken after others
 pub record Tells (lines : List Line) (line : Line) (told : TakenLine) : Type 0 where
   pub at : told.at ≡ place lines line
   pub origin : told.origin ≡ line.origin

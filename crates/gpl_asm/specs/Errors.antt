@@ -12,7 +12,8 @@ abbrev pub refusal_at : ℕ → Failure → GplError
 refusal_at number (failure.Refused cause) = At number cause
 refusal_at number failure.Memory = Memory
 
--- the definitions refuse a line, for a cause that does not stand for want of memory; want of memory says nothing
+-- the definitions refuse a line, for a cause that does not stand for a lack of memory; if memory ran out, nothing is
+-- said
 abbrev pub RefusesAt : {B : Type 0} → GplError → Result B (Refusal GplCause) → Type 0
 RefusesAt Memory defined = ⊤
 RefusesAt (At line cause) defined = (defined ≡ Err (record { line = line; cause = cause })) × NoMemory cause

@@ -14,7 +14,7 @@ use Rattle.gpl_asm.specs.Building.{HasAccepted}
 abbrev pub defined_program : GplProgram → Program
 defined_program program = record { image = program.image; entry = program.entry; names = program.names }
 
--- the program that is defined, or the refused line; want of memory says nothing
+-- the program that is defined, or the refused line; if memory ran out, nothing is said
 abbrev pub GivesProgram : Result GplProgram GplError → Result Program (Refusal GplCause) → Type 0
 GivesProgram (Ok found) defined = defined ≡ Ok (defined_program found)
 GivesProgram (Err error) defined = RefusesAt error defined

@@ -59,7 +59,7 @@ abbrev pub replay : Names → Built → List Pending → Result Built (Refusal G
 replay later built [] = Ok built
 replay later built (waiting ∷ others) = step later built waiting >>= λ next. replay later next others
 
--- a refusal that waits does not stand for want of memory
+-- a refusal that waits does not stand for a lack of memory
 abbrev pub WaitsFor : Rest → Type 0
 WaitsFor (Resolved found) = ⊤
 WaitsFor (Refused cause) = NoMemory cause

@@ -43,12 +43,12 @@ impl GplLines {
         })
     }
 
-    /// Takes a line after those that were taken, and tells where it stands. It is given without its line feed, and no
-    /// line that ends the source was taken before.
+    /// Takes a line after those that were taken, and returns where it is placed. It is given without its line feed, and
+    /// no line that ends the source was taken before.
     ///
     /// # Errors
     /// `At` comes exactly where the first checks refuse the line there, and carries its number, which is the number of
-    /// lines taken plus 1. `Memory` is want of memory. After an error the builder is as before.
+    /// lines taken plus 1. `Memory` means that memory ran out. After an error the builder is as before.
     pub fn line(&mut self, line: &[u8]) -> Result<TakenLine, GplError>
         requires open { IsOpen self.old }
         requires count { CanCount self.old }
@@ -59,7 +59,7 @@ impl GplLines {
         self.take(line)
     }
 
-    /// The names of the lines that were taken, beside those of registers.
+    /// The names of the lines that were taken, beside the names of registers.
     pub fn names(&self) -> &Symbols
         ensures { (lines : List Line) → IsBehind lines self.now → result.now ≡ names lines }
     {
@@ -82,12 +82,12 @@ impl GplLines {
         self.taken
     }
 
-    /// The program of the lines that were taken, which is that of their text, each line ended by a carriage return and
-    /// a line feed.
+    /// The program of the lines that were taken, which is the program of their text, each line ended by a carriage
+    /// return and a line feed.
     ///
     /// # Errors
     /// `At` carries the first line that the second checks refuse, and comes exactly where there is one. `Memory` is
-    /// want of memory. After an error the lines are given up.
+    /// a lack of memory. After an error the lines are given up.
     #[tactic(auto, using(crate::proofs::EndedLines::lines_make_texts))]
     pub fn finish(self) -> Result<GplProgram, GplError>
         ensures lines { (texts : List (List ℕ)) → HasAccepted texts self → GivesProgram result (program_of_lines texts) }

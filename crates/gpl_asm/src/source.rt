@@ -14,7 +14,7 @@ use std::alloc::Global;
 ///
 /// # Errors
 /// `At` carries the first line that the first checks refuse, else the first that the second checks refuse, and comes
-/// exactly where there is one. `Memory` is want of memory.
+/// exactly where there is one. `Memory` means that memory ran out.
 pub fn gpl_assemble(alloc: Global, text: &[u8]) -> Result<GplProgram, GplError>
     requires { length text.now < 2 ^ 32 }
     ensures { GivesProgram result (program_of_source text.now) }

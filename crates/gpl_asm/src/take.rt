@@ -17,7 +17,7 @@ use gpl_lines::{Checked, Scope};
 use gpl_source_defs::Location;
 
 impl GplLines {
-    /// Takes a line after those that were taken, and tells where it stands. A refused line leaves the builder as
+    /// Takes a line after those that were taken, and returns where it is placed. A refused line leaves the builder as
     /// before.
     pub(crate) fn take(&mut self, text: &[u8]) -> Result<TakenLine, GplError>
         requires { self.old.taken < 2 ^ 32 - 1 }
@@ -47,7 +47,7 @@ impl GplLines {
         })
     }
 
-    /// What is told of a line that says nothing.
+    /// What is returned of a line that says nothing.
     fn nothing_taken(&self) -> TakenLine
         ensures { result ≡ record { at = self.now.location; origin = None; label = None; value = 0 } }
     {

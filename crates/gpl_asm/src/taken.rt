@@ -1,4 +1,4 @@
-//! What a builder tells of a line.
+//! What a builder returns of a line.
 
 use asm_text::Name;
 use gpl_source_defs::Location;

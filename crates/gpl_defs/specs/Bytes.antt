@@ -32,8 +32,8 @@ abbrev pub is_vdp : Space → Bool
 is_vdp Cpu = false
 is_vdp Vdp = true
 
--- The bits of an operand's first byte that say what it is: the highest tells it from an operand of one byte; then
--- follow whether it has an index, lies in video memory, and is indirect.
+-- The bits of an operand's first byte that say what it is: the highest distinguishes it from an operand of one byte;
+-- then follow whether it has an index, lies in video memory, and is indirect.
 -- Profile: the bits of these forms.
 abbrev pub form_bits : GplOperand → ℕ
 form_bits operand =

@@ -1,6 +1,7 @@
 -- A GROM image: which addresses were written, and with what byte.
 --
--- Profile: a source is assembled to such an image, which tells an address that holds 0 from one that was never written.
+-- Profile: a source is assembled to such an image, which distinguishes an address that holds 0 from one that was never
+-- written.
 use Rattle.std.specs.Prelude.{◌≡◌, ℕ, ◌+◌, ◌-◌, ◌==◌, if◌then◌else◌, min, max, List, [], ◌∷◌, length, map, slice_index}
 use Rattle.std.specs.Prelude.{unwrap_or, EachIndex}
 use Rattle.std.specs.List.{range_with_len}

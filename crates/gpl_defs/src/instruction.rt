@@ -14,7 +14,7 @@ pub enum Space {
 pub struct GplOperand {
     /// Where the operand lies; for an indirect one, where the pointer leads to.
     pub space: Space,
-    /// Whether the address is that of a pointer, which always lies in the processor's memory.
+    /// Whether the address is a pointer's, which always lies in the processor's memory.
     pub indirect: bool,
     /// An offset from `>8300`, or the address of video memory where the space is `Vdp` and the operand not indirect.
     pub address: u16,

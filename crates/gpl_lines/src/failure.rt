@@ -1,4 +1,4 @@
-//! Why a line is refused, before its number is told.
+//! Why a line is refused, before its number is known.
 
 ghost use Rattle.std.specs.Prelude.{◌≡◌};
 ghost use Rattle.gpl_source_defs.specs.Skeletons.{operand_cause};

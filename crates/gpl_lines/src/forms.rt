@@ -82,7 +82,7 @@ fn in_memory(space: Space, indirect: bool, text: &[u8]) -> Form<'_>
     })
 }
 
-/// The text of an address, and that of an index where it has one: `(@e)` at the end.
+/// The text of an address, and the text of an index if it has one: `(@e)` at the end.
 fn indexed(text: &[u8]) -> (&[u8], Option<&[u8]>)
     ensures address { result.0.now ≡ spec.address_text text.now }
     ensures index { option_map (λ index. index.now) result.1 ≡ spec.index_text text.now }

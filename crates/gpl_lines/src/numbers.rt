@@ -13,7 +13,8 @@ use grom_defs::GROM_SIZE;
 /// The first address of the scratchpad.
 const SCRATCHPAD: u16 = 0x8300;
 
-/// The address that an operand holds: that of the video processor's memory, or an offset from the scratchpad's first.
+/// The address that an operand holds: an address of the video processor's memory, or an offset from the scratchpad's
+/// first.
 pub(crate) fn held_address(space: Space, indirect: bool, number: u16) -> u16
     ensures { result ≡ spec.held_address space indirect number }
 {

@@ -37,7 +37,7 @@ impl Scope<'_> {
     ///
     /// # Errors
     /// `Refused` carries what its values or their ranges are refused for first, and comes exactly where they are.
-    /// `Memory` is want of memory.
+    /// `Memory` means that memory ran out.
     #[tactic(auto, unfolding(gpl_source_defs::specs::SecondChecks::outcome))]
     pub fn outcome(&self, statement: &Statement<'_>) -> Result<Outcome, Failure>
         requires { IsValid statement.now }

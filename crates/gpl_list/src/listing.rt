@@ -37,8 +37,8 @@ pub struct Refused {
     pub cause: GplCause,
 }
 
-/// The listing of a source of fewer than 2^32 bytes. Of one that is refused it has the lines before the refused one, with
-/// their bytes where the second checks refuse it, and no names.
+/// The listing of a source of fewer than 2^32 bytes. Of one that is refused it has the lines before the refused one,
+/// with their bytes where the second checks refuse it, and no names.
 ///
 /// # Errors
 /// `AllocError` means out of memory.

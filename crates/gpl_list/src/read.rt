@@ -113,7 +113,7 @@ impl ReadLines {
     }
 }
 
-/// The address of a line at a place: that which it sets, or that of its place.
+/// The address of a line at a place: the one that it sets, or the address of its place.
 fn address_of(at: Location, origin: Option<Location>) -> u32
     ensures { result ≡ (set_or origin at).number }
 {

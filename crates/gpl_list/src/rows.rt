@@ -12,7 +12,7 @@ pub(crate) struct Row {
     pub(crate) number: u32,
     /// Its place.
     pub(crate) at: Location,
-    /// Its address, which is that of its place, or the one that it sets; and 65,536 after the last of all.
+    /// Its address, which is the address of its place, or the one that it sets; and 65,536 after the last of all.
     pub(crate) address: u32,
     /// The bytes that it places, as far as they are known.
     pub(crate) bytes: Vec<u8>,

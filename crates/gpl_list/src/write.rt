@@ -21,7 +21,7 @@ pub(crate) fn put_rows<O: Sink>(rows: &[Row], out: &mut O) -> Result<(), Failed>
     Ok(())
 }
 
-/// Writes a row: its line, and those of its further bytes.
+/// Writes a row: its line, and the lines of its further bytes.
 fn put_row<O: Sink>(row: &Row, out: &mut O) -> Result<(), Failed>
     ensures { Written result (O.state out.old) (O.state out.new) (spec.row_lines (defined_row row.now)) }
 {

@@ -19,18 +19,19 @@ abbrev pub with_names : Names → List NameRow → Names
 with_names names [] = names
 with_names names (row ∷ rows) = with_names (insert names row.name row.value) rows
 
--- the bytes of the rows at their addresses are the image, and the names are those of the program beside the registers
+-- the bytes of the rows at their addresses are the image, and the names are the names of the program beside the
+-- registers
 pub record GivesProgram (listing : Listing) (program : Program) : Type 0 where
   pub image : with_rows empty listing.rows ≡ program.image
   pub names : with_names predefined listing.names ≡ program.names
   pub accepted : listing.refused ≡ Ok tt
 
--- where there is no program, the refused line is told
+-- where there is no program, the refused line is reported
 abbrev pub ListsOf : Listing → Result Program (Refusal GplCause) → Type 0
 ListsOf listing (Ok program) = GivesProgram listing program
 ListsOf listing (Err refused) = listing.refused ≡ Err refused
 
--- The law, which is proved: the listing of a source that is accepted gives the program of the source, and that of one
--- that is refused tells its refused line.
+-- The law, which is proved: the listing of a source that is accepted gives the program of the source, and the listing
+-- of one that is refused gives its refused line.
 abbrev pub ListingsGivePrograms : Type 0
 ListingsGivePrograms = (source : List ℕ) → ListsOf (listing_of source) (program_of_source source)

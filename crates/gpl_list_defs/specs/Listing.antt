@@ -50,7 +50,7 @@ laid_listing texts (Err refused) =
 abbrev pub listing_of : List ℕ → Listing
 listing_of source = laid_listing (line_texts source) (laid check (line_texts source))
 
--- what is reported of it: a refused line is told after the lines before it
+-- what is reported of it: a refused line is reported after the lines before it
 abbrev pub report_by : List (List ℕ) → Result Unit (Refusal GplCause) → Report
 report_by lines (Ok done) = Whole Done lines
 report_by lines (Err refused) = RejectedAfter lines (gpl_line refused)

@@ -28,7 +28,7 @@ line_text row = line_front row ++ (row.text ++ codes "\n")
 unfoldable pub further_line : ℕ → List ℕ → List ℕ
 further_line at bytes = codes "        " ++ row_line at bytes
 
--- so many rows of bytes, of which the first stands at an address
+-- a number of rows of bytes, of which the first stands at an address
 abbrev pub further_rows : ℕ → ℕ → List ℕ → List (List ℕ)
 further_rows zero at bytes = []
 further_rows (suc count) at bytes = further_line at (take 8 bytes) ∷ further_rows count (at + 8) (drop 8 bytes)

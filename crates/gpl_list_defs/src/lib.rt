@@ -4,7 +4,7 @@
 ghost use Rattle.gpl_list_defs.specs.Laws.{ListingsGivePrograms};
 
 /// The bytes of the rows at their addresses are the image of the source, and the names are its names; the line that is
-/// refused of a source is told.
+/// refused of a source is reported.
 #[tactic(auto, using(crate::proofs::RowLaws::listings_give_programs))]
 pub fn listings_give_programs()
     ensures { ListingsGivePrograms }

@@ -16,8 +16,8 @@ ListingsComeBack =
     program_of_source (concat (grom_listing image low high))
     ≡ Ok (record { image = placed empty low (slice_range image low high); entry = None; names = predefined })
 
--- The law, which is proved: a listing has at most 16 bytes for each byte that it lists, and 299 more. So has one of BYTE
--- alone over all eight GROMs.
+-- The law, which is proved: a listing has at most 16 bytes for each byte that it lists, and 299 more. So has one of
+-- BYTE alone over all eight GROMs.
 abbrev pub ListingsAreShort : Type 0
 ListingsAreShort =
     (image : List ℕ) (low high : ℕ) → HoldsBytes 65536 image → low ≤ high → high ≤ 65536 →

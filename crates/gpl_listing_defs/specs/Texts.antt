@@ -34,8 +34,8 @@ prefix Cpu true = codes "*"
 prefix Vdp false = codes "V@"
 prefix Vdp true = codes "V*"
 
--- The address that an operand shows. Profile: one of the processor's memory, as that of each pointer, is held as an
--- offset from >8300.
+-- The address that an operand shows. Profile: one of the processor's memory, as the address of each pointer, is held as
+-- an offset from >8300.
 abbrev pub shown_address : Space → Bool → ℕ → ℕ
 shown_address Vdp false address = address
 shown_address Vdp true address = (address + SCRATCHPAD) % 0x10000

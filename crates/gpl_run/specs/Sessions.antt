@@ -14,7 +14,7 @@ pub record SessionState : Type 0 where
   pub machine : MachineState
   pub ended : Option Reason
 
--- The machine of a running program matches the state that it shows; that of one that has ended is halted.
+-- The machine of a running program matches the state that it shows; the machine of one that has ended is halted.
 abbrev pub IsSession : MachineState → Option Reason → Type 0
 IsSession x None = IsMatching x
 IsSession x (Some reason) = (s : GplState) × IsHalted s reason x

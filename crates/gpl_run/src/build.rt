@@ -17,7 +17,7 @@ use std::alloc::Global;
 /// the first of them at >2000, and no others: that the source gives them is proved, so they are not compared.
 ///
 /// # Errors
-/// `Memory` is want of memory.
+/// `Memory` means that memory ran out.
 pub fn build_interp(alloc: Global) -> Result<Linked, BuildError>
     // the source has such a memory, whether or not it is found here
     ensures law { SourceGivesWords }

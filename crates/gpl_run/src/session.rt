@@ -21,7 +21,7 @@ use tms_step::{Machine, Steps};
 /// A GPL program that the interpreter runs, step by step.
 ///
 /// Contracts see its machine and why the program has ended, if it has. The machine of a running program matches a state
-/// of GPL; that of a program that has ended is halted.
+/// of GPL; the machine of a program that has ended is halted.
 #[derive(Drop)]
 pub struct Session {
     machine: Machine,
@@ -72,7 +72,7 @@ impl Session {
         turn
     }
 
-    /// Runs a program that is running up to its end, and no more than so many steps: how many were made. It takes no
+    /// Runs a program that is running up to its end, and no more than `limit` steps: how many were made. It takes no
     /// memory.
     pub fn run<L: Ledger>(&mut self, limit: u32, steps: &mut Steps<L>) -> u32
         requires running { self.old.ended ≡ None }
@@ -93,7 +93,7 @@ impl Session {
     }
 
     /// Does nothing. Its contract says what holds of every session, for the proof of a caller: the machine of a running
-    /// program matches the state that it shows, and that of another is halted.
+    /// program matches the state that it shows, and the machine of another is halted.
     pub fn holds_match(&self)
         ensures { IsSession self.now.machine self.now.ended }
     {

@@ -23,7 +23,7 @@ use Rattle.gpl_source_defs.specs.declared.mnemonic.Mnemonic.TheVariants.{Plain, 
 abbrev pub name_of_words : Row → List ℕ
 name_of_words row = codes "D" ++ row.name
 
--- The name of an instruction: that of its row in the table of codes.
+-- The name of an instruction: the name of its row in the table of codes.
 abbrev pub name_of : Mnemonic → List ℕ
 name_of (Plain op) = (plain_row op).name
 name_of (Byte op) = (byte_row op).name

@@ -17,7 +17,8 @@ abbrev pub as_expr : {A : Type 0} → Result A ExprError → Result A GplCause
 as_expr (Ok value) = Ok value
 as_expr (Err error) = Err (Expr error)
 
--- The address that an operand holds. Profile: one of the processor is an offset from >8300, as is that of a pointer.
+-- The address that an operand holds. Profile: one of the processor is an offset from >8300, as is the address of a
+-- pointer.
 abbrev pub held_address : Space → Bool → ℕ → ℕ
 held_address Vdp false number = number
 held_address Vdp true number = (number + 0x10000 - SCRATCHPAD) % 0x10000
@@ -48,7 +49,7 @@ module _ (look : List ℕ → Option Value) (here : ℕ) where
   abbrev pub number : List ℕ → Result ℕ GplCause
   number text = as_expr (expression look (Absolute here) text >>= absolute)
 
-  -- those of expressions, from the left
+  -- the refusals of expressions, from the left
   abbrev pub numbers : List (List ℕ) → Result (List ℕ) GplCause
   numbers [] = Ok []
   numbers (text ∷ texts) = do

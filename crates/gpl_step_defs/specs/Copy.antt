@@ -1,4 +1,4 @@
--- MOVE: so many bytes go from one place to another. GPL Programmer's Guide, MOVE.
+-- MOVE: a number of bytes go from one place to another. GPL Programmer's Guide, MOVE.
 use Rattle.std.specs.Prelude.{ℕ, zero, suc, ◌+◌, nat_lt, nat_le, if◌then◌else◌, slice_index, Some, Result, Ok, Err}
 use Rattle.tms_defs.specs.Flags.{Word}
 use Rattle.grom_defs.specs.Addresses.{next_in_grom}

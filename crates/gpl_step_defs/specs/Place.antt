@@ -21,7 +21,7 @@ pub record Place : Type 0 where
   pub space : Space
   pub address : ℕ
 
--- so many bytes after a place
+-- a number of bytes after a place
 abbrev pub behind : ℕ → Place → Place
 behind bytes p = record p { address = plus p.address bytes }
 
@@ -51,7 +51,7 @@ abbrev pub ranged : ℕ → Space → ℕ → Result Place Reason
 ranged bytes Cpu offset = if is_visible bytes offset then Ok (record { space = Cpu; address = offset }) else Err Cell
 ranged bytes Vdp address = Ok (record { space = Vdp; address = address })
 
--- The place of an operand of so many bytes. Profile: its pointer is checked first, then its index, then its range.
+-- The place of an operand of a number of bytes. Profile: its pointer is checked first, then its index, then its range.
 abbrev pub place_of : GplState → ℕ → GplOperand → Result Place Reason
 place_of s bytes operand = do
   base ← pointed s operand.indirect operand.address

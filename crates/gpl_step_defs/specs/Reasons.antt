@@ -3,7 +3,7 @@ use Rattle.std.specs.Prelude.{ℕ}
 use Rattle.gpl_step_defs.specs.declared.reason.Reason.{Reason}
 use Rattle.gpl_step_defs.specs.declared.reason.Reason.TheVariants.{Exit, Opcode, Cell, Stack, Length, Register}
 
--- Profile: as they are told, and as the interpreter leaves them.
+-- Profile: as they are numbered, and as the interpreter leaves them.
 abbrev pub number_of : Reason → ℕ
 number_of Exit = 0
 number_of Opcode = 1

@@ -12,12 +12,12 @@ use Rattle.gpl_step_defs.specs.State.{GplState}
 use Rattle.gpl_step_defs.specs.Copy.{length_of}
 use Rattle.gpl_step_defs.specs.Step.{step}
 
--- The state after so many steps, or the reason of the first stop among them.
+-- The state after a number of steps, or the reason of the first stop among them.
 abbrev pub steps : ℕ → GplState → Result GplState Reason
 steps zero s = Ok s
 steps (suc count) s = step s >>= λ next. steps count next
 
--- A run of up to so many steps: how many were done, the last state, and why there was no further step, if it stopped.
+-- A run of up to `limit` steps: how many were done, the last state, and why there was no further step, if it stopped.
 pub record GplRun : Type 0 where
   pub done : ℕ
   pub last : GplState

@@ -46,12 +46,12 @@ Keeps watched s = watched ≡ watching (items_of watched) s
 abbrev pub first_kept : GplState → List WatchedItem → Option ℕ
 first_kept s watched = position (λ w. holds_since w.item w.kept s) watched
 
--- the sum of the bounds of the first so many turns of a run
+-- the sum of the bounds of a number of first turns of a run
 abbrev pub bounds : ℕ → GplState → ℕ
 bounds zero s = 0
 bounds (suc count) s = bounds count s + bound (run count s).last
 
--- A run of up to so many steps was made from x to y, with its answers: the turns are those of the run, a counter shows
+-- A run of up to `limit` steps was made from x to y, with its answers: the turns are those of the run, a counter shows
 -- their instructions, and these are at most as many as the bounds of the turns allow.
 pub record RunsWithin (limit : ℕ) (x y : SessionState) (before after done : ℕ) : Type 0 where
   pub runs : RunsTurns (seen x) limit x.machine y.machine before after done y.ended

@@ -13,7 +13,7 @@ use std::sync::ledger::Ledger;
 use tms_step::Steps;
 use watch_defs::Found;
 
-/// Runs a program up to the first step at which a watched item holds, and no more than so many steps.
+/// Runs a program up to the first step at which a watched item holds, and no more than a given number of steps.
 pub(crate) fn run_watched<L: Ledger>(
     watched: &mut [Watched],
     session: &mut Session,

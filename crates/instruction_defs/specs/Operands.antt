@@ -36,7 +36,7 @@ has_value _ = false
 abbrev pub following_words : Place → ℕ
 following_words place = if place.mode == 2 then 1 else 0
 
--- How many words an instruction has: its first, and those of its operands.
+-- How many words an instruction has: its first, and the words of its operands.
 abbrev pub words_of : Instr → ℕ
 words_of (Two op byte dst src) = 1 + following_words src + following_words dst
 words_of (Reg op number src) = 1 + following_words src

@@ -19,9 +19,9 @@ pub record TurnsWithin (s : GplState) (before after : ℕ) (x y : MachineState) 
 
 -- The machine after the first i turns, for each i up to the last turn of a run of up to so many steps from a state.
 -- As many instructions of the processor as are counted lead to it from the machine on which the interpreter begins; the
--- first is at GSTEP for the first time, after at most 400. It matches the GPL state after i steps, and the turn from there has at most as many
--- instructions as the bound of that step. After the last turn it matches the last state, or is halted with it and
--- the reason.
+-- first is at GSTEP for the first time, after at most 400. It matches the GPL state after i steps, and the turn from
+-- there has at most as many instructions as the bound of that step. After the last turn it matches the last state, or
+-- is halted with it and the reason.
 pub record MachinesOf (s : GplState) (limit : ℕ) (new left : MachineState) : Type 0 where
   pub machine : ℕ → MachineState
   pub instructions : ℕ → ℕ

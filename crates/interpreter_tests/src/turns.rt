@@ -221,7 +221,7 @@ const RUNS: &[(&str, Program, u32, u32, Option<Reason>, u16, Cells, Video)] = &[
 /// How a run ended: how many steps were made, and why there was no further one.
 type Ended = (u32, Option<Reason>);
 
-/// Runs up to so many steps of the program, on a counter of their own; none where the machine is not at boot.
+/// Runs up to a given number of steps of the program, on a counter of their own; none where the machine is not at boot.
 fn run<L: Ledger>(blank: Blank, machine: &mut Machine, most: u32) -> Option<Ended>
     requires name { blank.name ≡ L.name }
     requires parts { blank.parts ≡ L.parts }
@@ -236,7 +236,7 @@ fn run<L: Ledger>(blank: Blank, machine: &mut Machine, most: u32) -> Option<Ende
     Some(run_turns(machine, &mut steps, most))
 }
 
-/// The machine after so many steps of a program, and how they ended.
+/// The machine after a number of steps of a program, and how they ended.
 fn after(
     alloc: Global,
     program: Program,

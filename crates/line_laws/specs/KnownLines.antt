@@ -55,7 +55,7 @@ abbrev pub end_of : Location → List KnownLine → Location
 end_of location [] = location
 end_of location (line ∷ lines) = end_of (location_behind location line.found.move) lines
 
--- the names that a line defines, and those of all lines
+-- the names that a line defines, and the names of all lines
 abbrev pub names_in : KnownLine → List (List ℕ × Value)
 names_in line = label_entry line.found.label line.found.move.label
 

@@ -29,8 +29,8 @@ use_before words uses place = do
 abbrev pub most_places : ℕ
 most_places = 65536
 
--- The uses with those of one more name, from a place on, up to 0. Since no place stands in two chains or twice in one,
--- they are no more than there are places.
+-- The uses with the uses of one more name, from a place on, up to 0. Since no place stands in two chains or twice in
+-- one, they are no more than there are places.
 unfoldable pub uses_from : ℕ → List (ℕ × ℕ) → List ℕ → Uses → ℕ → Result Uses LinkCause
 uses_from zero words name uses place = Ok uses
 uses_from (suc places) words name uses place =

@@ -19,7 +19,7 @@ use Rattle.link_loader.specs.Answers.{Refuses}
 abbrev pub cell : Table → ℕ → Option ℕ
 cell table at = word_in table.cells.items at
 
--- the names of a map are those of DEFs, each with its value
+-- the names of a map are the names of DEFs, each with its value
 abbrev pub KeepsNames : BTreeMap (List ℕ) ℕ → List (List ℕ × ℕ) → Type 0
 KeepsNames names defs = (name : List ℕ) → tree.get (slice_cmp nat_cmp) names name ≡ value_in defs name
 
@@ -46,7 +46,7 @@ abbrev pub Loads : Result Table LinkError → List (ℕ × ℕ) → Type 0
 Loads (Ok table) words = (first is_taken words ≡ None) × HoldsWords table words
 Loads (Err error) words = Refuses error (unless (λ word. Overlap word.0) (first is_taken words))
 
--- a table has the value of its name at each of the uses that are defined; or the first cause is told
+-- a table has the value of its name at each of the uses that are defined; or the first cause is given
 abbrev pub Follows : {T : Type 0} → Result T LinkError → List (List ℕ × ℕ) → Table → Result Uses LinkCause → Type 0
 Follows (Ok _) defs table defined = (uses : Uses) × (defined ≡ Ok uses) × HoldsUses defs table uses
 Follows (Err error) defs table defined = Refuses error defined

@@ -20,7 +20,7 @@ use std::alloc::Global;
 ///
 /// # Errors
 /// The causes come in the order of `LinkError`, each for all modules before the next. Of one cause the first place in
-/// the order of the modules and of their lists is told. `Memory` is want of memory.
+/// the order of the modules and of their lists is returned. `Memory` means that memory ran out.
 pub fn link(alloc: Global, modules: &Vec<Module>) -> Result<Linked, LinkError>
     requires { vec_len modules.now ≤ 1024 }
     ensures { Gives defined_linked result (spec.linked (defined_modules modules.now.items)) }

@@ -29,7 +29,7 @@ memory_by_changes x (suc earlier) =
     (memory_by_changes x earlier)
 
 -- The law, which is proved: this is the memory after these instructions, but for the ROM and the bytes of the GROMs,
--- which are those of the first.
+-- which are the bytes of the first.
 pub record ChangesGiveMemory : Type 0 where
   pub seen : (x : MachineState) → IsMemory x.cpu.memory → (made : ℕ)
       → memory_by_changes x made ≡ seen_memory (after made x).cpu.memory

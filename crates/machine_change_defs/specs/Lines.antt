@@ -50,11 +50,11 @@ step_changes x next = memory_changes x.cpu.wp (seen_memory x.cpu.memory) (seen_m
 abbrev pub step_line : ℕ → MachineState → MachineState → List ℕ
 step_line number x next = step_front number x ++ (changes_text (step_changes x next) ++ codes "\n")
 
--- the line of the instruction after so many
+-- the line of the instruction after a number of instructions
 abbrev pub line_after : MachineState → ℕ → List ℕ
 line_after x made = step_line (made + 1) (after made x) (after (suc made) x)
 
--- the lines of so many instructions, numbered from 1
+-- the lines of a number of instructions, numbered from 1
 unfoldable pub step_lines : MachineState → ℕ → List (List ℕ)
 step_lines x count = map (line_after x) (range_with_len 0 count)
 

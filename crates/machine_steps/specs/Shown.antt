@@ -13,13 +13,13 @@ pub record ShowsWhole (limit : ℕ) (x y : MachineState) (out out' : SinkState) 
   pub run : IsRun None limit made x ending y
   pub wrote : Wrote out out' (step_lines x made)
 
--- The line of the last of so many instructions could not be written; nothing ended the run before.
+-- The line of the last of a number of instructions could not be written; nothing ended the run before.
 pub record BreaksOff (limit : ℕ) (x y : MachineState) (out out' : SinkState) : Type 0 where
   pub made : ℕ
   pub runs : (before : ℕ) → before < made → end_at None limit before x ≡ None
   pub missed : Missed out out' (step_lines x made)
 
--- a run of up to so many instructions, by the answer
+-- a run of up to a number of instructions, by the answer
 abbrev pub Shows : {E : Type 0} → ℕ → MachineState → MachineState → SinkState → SinkState → Result RunEnd E → Type 0
 Shows limit x y out out' (Ok ending) = ShowsWhole limit x y out out' ending
 Shows limit x y out out' (Err error) = BreaksOff limit x y out out'

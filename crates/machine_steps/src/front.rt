@@ -69,7 +69,7 @@ fn append_number(line: &mut Line, number: u32)
     append(line, digits.as_bytes());
 }
 
-/// The blanks before a number of so many digits.
+/// The blanks before a number of a given length.
 fn blanks_before(digits: usize) -> &'static [u8]
     ensures blanks { result.now ≡ replicate (6 - digits) 0x20 }
     ensures few { length result.now ≤ 6 }

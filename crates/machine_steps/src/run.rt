@@ -21,8 +21,8 @@ const SELF_JUMP: u16 = 0x10FF;
 /// is executed. What is kept in `seen` is what the machine shows, before and after. No memory is taken.
 ///
 /// # Errors
-/// `Failed` means that a line could not be written: those of the instructions before it were, and of it a front. The
-/// sink's count of faults rose, and the machine is as it was after the instruction of that line.
+/// `Failed` means that a line could not be written: the lines of the instructions before it were, and a front of it.
+/// The sink's count of faults rose, and the machine is as it was after the instruction of that line.
 pub fn show_run<O: Sink>(
     machine: &mut Machine,
     seen: &mut Seen,

@@ -1,4 +1,4 @@
--- The line that tells why modules are not linked.
+-- The line that says why modules are not linked.
 use Rattle.std.specs.Prelude.{◌≡◌, ℕ, List, Option, Some, None, Result, Ok, Err}
 use Rattle.arrayvec.specs.ArrayVec.{ArrayVec}
 use Rattle.link_defs.specs.Causes as causes
@@ -6,7 +6,7 @@ use Rattle.link_loader.specs.declared.error.LinkError.{LinkError}
 use Rattle.link_loader.specs.declared.error.LinkError.TheVariants as errors
 use Rattle.report_defs.specs.ObjectFaults.{link_line}
 
--- each cause has its line, and want of memory has none
+-- each cause has its line, and a lack of memory has none
 abbrev pub link_told : LinkError → Option (List ℕ)
 link_told (errors.DuplicateDef name) = Some (link_line (causes.DuplicateDef name))
 link_told (errors.OutOfMemoryRange address) = Some (link_line (causes.OutOfMemoryRange address))

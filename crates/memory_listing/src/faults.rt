@@ -64,7 +64,7 @@ fn text_of(bytes: &[u8]) -> Line
 /// The line of modules that are not linked.
 ///
 /// # Errors
-/// `AllocError` comes where the modules are not linked for want of memory, which has no line.
+/// `AllocError` comes where the modules are not linked because memory ran out, which has no line.
 pub fn link_line(error: &LinkError) -> Result<Line, AllocError>
     ensures { IsTold result (link_told error.now) }
 {

@@ -131,8 +131,8 @@ follow address (routine ∷ rest) = nat_eq address routine.0 && follow (address 
 abbrev pub RoutinesStand : Type 0
 RoutinesStand = IsTrue (follow origin routines)
 
--- Where the instruction of an operation begins: its own place, or that of the operands of all rows, where MUL and DIV
--- have a wider destination, and ST reads nothing there. A code byte that is no instruction's stops.
+-- Where the instruction of an operation begins: its own place, or the place of the operands of all rows, where MUL and
+-- DIV have a wider destination, and ST reads nothing there. A code byte that is no instruction's stops.
 abbrev pub operation_entry : Option GplOperation → ℕ
 operation_entry (Some (Plain RTN)) = GORTN
 operation_entry (Some (Plain RTNC)) = GORTN

@@ -343,7 +343,7 @@ pub const GOCALL: u16 = 0x26C2;
 /// The part of CALL after its target: the pointer of the stack.
 pub const CALLT: u16 = 0x26CC;
 
-/// Tells the next address, which CALL stacks.
+/// Finds the next address, which CALL stacks.
 pub const CALLN: u16 = 0x26DC;
 
 /// Stores the pointer and the address of CALL.

@@ -107,8 +107,8 @@ found_with form computed character None behind = Broken character None (BadTag c
 found_with form computed character (Some tag) behind =
     found_as character tag (group_of form computed character tag behind)
 
--- What stands in the place of a group. The checksum is that of the line's characters from the first through the group's
--- tag.
+-- What stands in the place of a group. The checksum is the one of the line's characters from the first through the
+-- group's tag.
 abbrev pub found_at : TextForm → List ℕ → ℕ → List ℕ → FoundGroup
 found_at form before character behind =
     found_with form (checksum (before ++ character ∷ [])) character (tag_at form (length before) character) behind

@@ -9,7 +9,7 @@ pub enum TagCause {
     BadDigit,
     /// The line ends inside a group.
     ShortField,
-    /// The checksum is not that of the line.
+    /// The checksum is not the checksum of the line.
     Checksum {
         /// The checksum that stands in the line.
         found: u16,

@@ -24,7 +24,7 @@ const COLUMNS: usize = 80;
 ///
 /// # Errors
 /// `At` carries the first bad place of the text with the number of its line or record, and comes exactly where the text
-/// has one. `Memory` is want of memory.
+/// has one. `Memory` means that memory ran out.
 pub fn read_modules(alloc: Global, bytes: &[u8]) -> Result<Vec<Module>, TagError>
     requires { length bytes.now < 2 ^ 32 }
     ensures { Gives (λ modules. defined_modules modules.items) result (reading.read bytes.now) }

@@ -21,7 +21,7 @@ use std::alloc::{AllocError, Global};
 /// The module's words stand at even places, and it has at most 32,768 words, 256 DEFs and 256 REFs.
 ///
 /// # Errors
-/// `AllocError` is want of memory.
+/// `AllocError` means that memory ran out.
 pub fn write_module(alloc: Global, module: &Module) -> Result<Vec<u8>, AllocError>
     requires { HasText (defined_module «module».now) }
     ensures text { IfOk result (λ text. text.items ≡ written (defined_module «module».now)) }

@@ -76,7 +76,7 @@ impl Writer {
         Ok(())
     }
 
-    /// Puts a group after those of the line, which has room for it.
+    /// Puts a group after the groups of the line, which has room for it.
     fn put(&mut self, text: &GroupText)
         requires { length self.old.line.items + length text.now.items ≤ 70 }
         ensures line { self.new.line.items ≡ self.old.line.items ++ text.now.items }

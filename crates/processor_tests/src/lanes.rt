@@ -68,7 +68,7 @@ fn differs_first(one: &[u8], other: &[u8], first: Option<usize>) -> bool {
     first_difference(one, other) == first && first_difference(other, one) == first
 }
 
-/// Whether so many places differ.
+/// Whether as many places differ.
 fn differs_in(one: &[u8], other: &[u8], count: usize) -> bool {
     one.len() == other.len() && count_differences(one, other) == count
 }

@@ -19,7 +19,7 @@ pub record IsStart (linked : LinkedMemory) (start : MachineState) : Type 0 where
   pub zeros : HoldsZeros 65536 image
   pub machine : IsLoadedMachine linked image 0 0x83E0 linked.entry start
 
--- the machine after up to so many instructions, and what ended them
+-- the machine after up to a number of instructions, and what ended them
 pub record Executes (limit : ℕ) (linked : LinkedMemory) (ending : RunEnd) (left : MachineState) : Type 0 where
   pub start : MachineState
   pub is_start : IsStart linked start

@@ -1,6 +1,6 @@
 -- The lines that standard error gets of files.
 --
--- Profile: what is wrong in a file is told with the file's name before the line.
+-- Profile: what is wrong in a file is reported with the file's name before the line.
 use Rattle.std.specs.Prelude.{ℕ, List, ◌∷◌, ◌++◌, codes, Option, Some, None}
 use Rattle.report_defs.specs.FaultLine.{refusal_line}
 use Rattle.report_defs.specs.SourceFaults.{asm_cause_text}
@@ -26,6 +26,6 @@ copy_cause_text (Missing name) = missing_text name
 abbrev pub place_line : Place → Cause → List ℕ
 place_line place cause = in_file place.file (refusal_line place.line (copy_cause_text cause))
 
--- Profile: a file that `link` does not find is told alone.
+-- Profile: a file that `link` does not find is reported alone.
 abbrev pub missing_line : List ℕ → List ℕ
 missing_line name = missing_text name ++ codes "\n"

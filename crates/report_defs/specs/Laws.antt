@@ -64,9 +64,9 @@ ListedInputsComeBack =
     → program_of_source (listed_text at input)
     ≡ Ok (record { image = placed empty at input; entry = None; names = predefined })
 
--- The law, which is proved: what gdis writes of an input has at most 16 bytes for each byte of it, and 299 more; and the
--- report of gasm on it is that input, if what is written is no larger than an input may be. So it is for each input of up
--- to 65,517 bytes.
+-- The law, which is proved: what gdis writes of an input has at most 16 bytes for each byte of it, and 299 more; and
+-- the report of gasm on it is that input, if what is written is no larger than an input may be. So it is for each input
+-- of up to 65,517 bytes.
 abbrev pub ListedBytesComeBack : Type 0
 ListedBytesComeBack =
     (at : ℕ) (input : List ℕ) (pieces : List (List ℕ))
@@ -103,8 +103,8 @@ EnteredWordsComeBack =
     → ReportOn Asm (concat (entered_listing at input entry)) (asm_report (listed_module at input (Some entry)))
 
 -- The law, which is proved: where that is object text, no larger than an input may be, the report of link on it is the
--- listing of the words of the input at their addresses and of nothing else, with that entry; or the refusal of the first
--- address at which nothing is loaded, exactly where there is one.
+-- listing of the words of the input at their addresses and of nothing else, with that entry; or the refusal of the
+-- first address at which nothing is loaded, exactly where there is one.
 abbrev pub EnteredWordsLink : Type 0
 EnteredWordsLink =
     (at : ℕ) (input : List ℕ) (entry : ℕ) (pieces : List (List ℕ)) → StandEven at input → entry < 65536

@@ -7,7 +7,7 @@ use Rattle.object_defs.specs.Reading.{read}
 use Rattle.link_defs.specs.LinkedMemory.{LinkedMemory, linked}
 use Rattle.report_defs.specs.ObjectFaults.{tag_line, link_line}
 
--- a value, or the line that tells the cause
+-- a value, or the line that gives the cause
 abbrev pub told : {T C : Type 0} → (C → List ℕ) → Result T C → Result T (List ℕ)
 told line (Ok value) = Ok value
 told line (Err cause) = Err (line cause)

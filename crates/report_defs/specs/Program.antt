@@ -11,8 +11,8 @@ use Rattle.report_defs.specs.declared.status.Status.{Status}
 use Rattle.report_defs.specs.declared.status.Status.TheVariants as status
 use Rattle.report_defs.specs.Dump.{dump_lines}
 
--- Profile: where a program ended there is a line that says why and where. EXIT is told by its name, the other reasons
--- by their numbers, which are one digit.
+-- Profile: where a program ended there is a line that says why and where. EXIT is reported by its name, the other
+-- reasons by their numbers, which are one digit.
 abbrev pub stop_text : Reason → List ℕ
 stop_text Exit = codes "exit at "
 stop_text reason = codes "stop " ++ (0x30 + number_of reason) ∷ codes " at "

@@ -42,8 +42,8 @@ use Rattle.report_defs.specs.Summary.{summary_of, summary_lines}
 use Rattle.report_defs.specs.Commands.{most_steps}
 
 -- The pieces that standard output gets, each by one write, with the status; or the fault whose line standard error
--- gets; or the line itself, of an input that is refused; or, of such an input, the pieces that standard output gets first
--- and then the line.
+-- gets; or the line itself, of an input that is refused; or, of such an input, the pieces that standard output gets
+-- first and then the line.
 pub data Report : Type 0 where
   Whole : Status → List (List ℕ) → Report
   Faulty : Fault → Report
@@ -134,8 +134,8 @@ trace_lines = shown_lines changes_text
 abbrev pub demo_lines : ℕ → ProgramRun → List (List ℕ)
 demo_lines number p = summary_lines (summary_of number (length (written_bytes p.image)) p.made p.left)
 
--- The report of a program that the interpreter runs for up to so many steps from its entry, by what is written of such
--- a run.
+-- The report of a program that the interpreter runs for up to a number of steps from its entry, by what is written of
+-- such a run.
 pub record ReportsProgram (lines : ProgramRun → List (List ℕ)) (limit : ℕ) (image : Image) (entry : ℕ)
     (report : Report) : Type 0 where
   pub bytes : List ℕ

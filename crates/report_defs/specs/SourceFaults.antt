@@ -19,7 +19,7 @@ abbrev pub text_error_text : TextError → List ℕ
 text_error_text LineTooLong = codes "line too long"
 text_error_text BadLabel = codes "bad label"
 
--- want of memory is no cause, and no line tells it
+-- a lack of memory is no cause, and no line reports it
 abbrev pub expr_error_text : ExprError → List ℕ
 expr_error_text expr.BadToken = codes "bad token"
 expr_error_text expr.UnknownName = codes "unknown name"

@@ -9,7 +9,7 @@ use Rattle.gpl_step_defs.specs.Reasons.{number_of}
 use Rattle.gpl_step_defs.specs.Run.{GplRun}
 use Rattle.report_defs.specs.declared.summary.Summary.{Summary}
 
--- Profile: a summary tells the number of the command, how many bytes the image has, how many steps were done, the sums
+-- Profile: a summary has the number of the command, how many bytes the image has, how many steps were done, the sums
 -- of the visible cells and of the video memory after them, why the program ended, and the machine's count of executed
 -- instructions.
 abbrev pub summary_of : (number image : ℕ) → GplRun → MachineState → Summary
@@ -24,12 +24,12 @@ summary_of number image r left =
       count = left.count;
     }
 
--- Profile: each but the reason is told by a label and a number in decimal digits.
+-- Profile: each but the reason is given by a label and a number in decimal digits.
 unfoldable pub counted_line : List ℕ → ℕ → List ℕ
 counted_line label count = label ++ (decimal count ++ codes "\n")
 
--- Profile: a program that leaves is told by a word, and one that is stopped by the number of the reason, which is one
--- digit. One that did neither has come to the most steps.
+-- Profile: a program that leaves is reported by a word, and one that is stopped by the number of the reason, which is
+-- one digit. One that did neither has come to the most steps.
 abbrev pub ended_line : Option Reason → List ℕ
 ended_line None = codes "limit\n"
 ended_line (Some Exit) = codes "exit\n"

@@ -31,7 +31,7 @@ unfoldable pub changed_text : List ℕ → (ℕ → List ℕ) → List ℕ → L
 changed_text label place before after =
     changed_from label place (count_differences before after) after (first_difference before after)
 
--- Profile: visible cells are shown by their addresses, as those of video memory are, and registers by their digits.
+-- Profile: visible cells are shown by their addresses, as addresses of video memory are, and registers by their digits.
 abbrev pub cell_place : ℕ → List ℕ
 cell_place at = hex_word (0x8300 + at)
 
@@ -62,7 +62,7 @@ ShowsChanges = SeenState → SeenState → List ℕ
 abbrev pub step_line : ShowsChanges → ℕ → GplState → GplState → List ℕ
 step_line shows number s next = step_front number s ++ (shows (seen_state s) (seen_state next) ++ codes "\n")
 
--- The lines of so many steps from a state on, numbered from 1.
+-- The lines of a number of steps from a state on, numbered from 1.
 unfoldable pub step_lines : ShowsChanges → GplState → ℕ → List (List ℕ)
 step_lines shows s count =
     map (λ made. step_line shows (made + 1) (run made s).last (run (made + 1) s).last) (range_with_len 0 count)

@@ -15,7 +15,7 @@ use Rattle.report_defs.specs.declared.status.Status.TheVariants.{Done}
 use Rattle.report_defs.specs.Program.{program_lines, program_status, state_lines}
 use Rattle.report_defs.specs.Report.{Report, Whole}
 
--- Profile: what changed is told by its lowest address and its new byte, and an address that was reached by `pc`.
+-- Profile: what changed is given by its lowest address and its new byte, and an address that was reached by `pc`.
 abbrev pub change_text : Option (ℕ × ℕ) → List ℕ
 change_text None = codes "pc"
 change_text (Some change) = hex_word change.0 ++ (0x3D ∷ byte_digits change.1)
@@ -43,7 +43,7 @@ watch_report (found.Hit step from item change) limit s left =
 watch_report found.None limit s left =
     Whole (program_status (run limit s).stop) (no_hit_line ∷ program_lines (run limit s).stop (run limit s).last left)
 
--- The report on a program whose items are watched for up to so many steps from its entry.
+-- The report on a program whose items are watched for up to a number of steps from its entry.
 pub record ReportsWatch (limit : ℕ) (items : List Item) (image : Image) (entry : ℕ) (report : Report) : Type 0 where
   pub bytes : List ℕ
   pub of_image : AreBytesOf image bytes

@@ -19,14 +19,14 @@ pub enum Command {
     },
     /// `link`: places and links the modules of an object text, and lists the memory.
     Link,
-    /// `exec N`: links the modules of an object text and executes up to so many instructions from the entry.
+    /// `exec N`: links the modules of an object text and executes up to N instructions from the entry.
     Exec {
         /// The most instructions, up to 10,000,000.
         limit: u32,
     },
     /// `interp`: builds the interpreter from its source, and lists its memory.
     Interp,
-    /// `run N`: assembles a GPL source, and the interpreter runs up to so many of its steps from the entry.
+    /// `run N`: assembles a GPL source, and the interpreter runs up to N of its steps from the entry.
     Run {
         /// The most steps, up to 100,000.
         limit: u32,

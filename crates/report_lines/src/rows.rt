@@ -12,7 +12,8 @@ use lane_scan::rows_equal;
 /// an asterisk. Each line is written by one call, and no memory is taken.
 ///
 /// # Errors
-/// `Failed` means that a line could not be written. The sink then got a front of the rows, and its count of faults rose.
+/// `Failed` means that a line could not be written. The sink then got a front of the rows, and its count of faults
+/// rose.
 pub fn put_rows<O: Sink>(first: u16, bytes: &[u8], out: &mut O) -> Result<(), Failed>
     requires { first + length bytes.now ≤ 65536 }
     ensures { Written result (O.state out.old) (O.state out.new) (rows.rows_lines first bytes.now) }

@@ -22,8 +22,8 @@ use Rattle.reports.specs.declared.command_error.CommandError.TheVariants.{Refuse
 use Rattle.reports.specs.Made.{defined_report}
 use Rattle.reports.specs.Outputs.{Outputs, EndsWith}
 
--- A refusal is a report too, which standard error gets. Of input that failed and of want of memory there is none, only
--- the status.
+-- A refusal is a report too, which standard error gets. Of input that failed and of a lack of memory there is none,
+-- only the status.
 abbrev pub error_answer : CommandError → Result Report Status
 error_answer (Refused line) = Ok (Rejected line.items)
 error_answer (Fault fault) = Ok (Faulty fault)

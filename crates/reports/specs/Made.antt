@@ -29,7 +29,7 @@ pieces_of (made.Demo summary) = summary_lines summary
 pieces_of (made.Memory linked) = linked_lines (defined_linked linked)
 pieces_of (made.Watched watched) = watched_lines watched.found watched.session
 
--- its status: a run has that of its end, and all else is done
+-- its status: a run has the status of its end, and all else is done
 abbrev pub own_status : Report → Status
 own_status (made.Execution ending machine) = end_status ending
 own_status (made.Program session) = program_status session.ended

@@ -57,8 +57,8 @@ pub record EndsByUsage {C W X : Type 0} (p : Program C W X) (run : Run C W) (end
   pub out : run.outputs.out' ≡ run.outputs.out
   pub line : EndsByLine p.usage Usage run.outputs.err run.outputs.err' end
 
--- The statuses of a command, each with its cause. None is the one of usage. Memory that runs out has no cause, but it is
--- never reported after something was written.
+-- The statuses of a command, each with its cause. None is the one of usage. Memory that runs out has no cause, but it
+-- is never reported after something was written.
 abbrev pub EndsSaid : {C W X : Type 0} → Program C W X → Option C → Run C W → Status → Type 0
 EndsSaid p None run end = EndsByUsage p run end
 EndsSaid p (Some command) run Done = EndsByReport p command run Done

@@ -13,7 +13,7 @@ abbrev pub found_line : Found → List ℕ
 found_line (found.Hit step from item change) = hit_line step from item change
 found_line found.None = no_hit_line
 
--- why the program ended, if it did, is told where nothing was found
+-- why the program ended, if it did, is reported if nothing was found
 abbrev pub end_lines : Found → SessionState → List (List ℕ)
 end_lines (found.Hit step from item change) session = []
 end_lines found.None session = stop_lines session.ended (seen session).pc

@@ -1,4 +1,4 @@
-//! Why nothing is reported, and how the errors of libraries are told.
+//! Why nothing is reported, and how the errors of libraries are reported.
 
 ghost use Rattle.std.specs.Prelude.{◌≡◌};
 ghost use Rattle.memory_listing.specs.Told.{link_told};
@@ -22,7 +22,7 @@ use std::alloc::{AllocError, AllocFailed};
 /// Why nothing is reported on standard output.
 #[derive(Drop)]
 pub enum CommandError {
-    /// An input or a file is refused, which standard error tells by this line.
+    /// An input or a file is refused, which standard error reports by this line.
     Refused(Line),
     /// A fault, whose line standard error gets.
     Fault(Fault),
@@ -33,7 +33,7 @@ pub enum CommandError {
 }
 
 impl CommandError {
-    /// Writes the line that tells it, if there is one, and gives the status that the program ends with. It takes no
+    /// Writes the line that reports it, if there is one, and gives the status that the program ends with. It takes no
     /// memory.
     pub(crate) fn finish<E: Sink>(&self, err: &mut E) -> Status
         ensures { (out : SinkState) → Ends (record {

@@ -21,7 +21,7 @@ pub struct Watched {
 }
 
 impl Watched {
-    /// The status of the report: after a hit it is done, else that of the program's end.
+    /// The status of the report: after a hit it is done, else the status of the program's end.
     pub(crate) fn status(&self) -> Status
         ensures { result ≡ watched_status self.now.found self.now.session }
     {

@@ -25,7 +25,7 @@ places lines = map (λ line. line.place) lines
 abbrev pub place_of : List Place → ℕ → Place
 place_of places number = unwrap_or (slice_get places (number - 1)) (record { file = None; line = number })
 
--- an answer of the assembler, whose refused line is told by its place
+-- an answer of the assembler, whose refused line is reported by its place
 abbrev pub in_place : {A : Type 0} → List PlacedLine → Result A (Refusal AsmCause) → Result A CopyRefusal
 in_place lines (Ok value) = Ok value
 in_place lines (Err refusal) = Err (At (place_of (places lines) refusal.line) (Asm refusal.cause))

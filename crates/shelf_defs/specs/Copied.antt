@@ -1,4 +1,4 @@
--- The lines of a source with those of the files that it copies.
+-- The lines of a source with the lines of the files that it copies.
 --
 -- Profile: each line keeps its number in its own file. Lines after the first END line of any file are not read. A file
 -- is copied at most four deep, and a source copies at most 64 files in all, each of at most 262,144 bytes. Of a COPY
@@ -86,7 +86,7 @@ own_line place copies text =
       ending = if ends_source text then Ended else Open;
     }
 
--- by what the COPY line at a place comes to, after so many others, that copies a file of this name
+-- by what the COPY line at a place comes to, after a number of others, that copies a file of this name
 module _ (copy : Place → ℕ → List ℕ → Copied) where
   abbrev pub asked_line : LineKind → Place → ℕ → List ℕ → Copied
   asked_line Itself place copies text = own_line place copies text
@@ -121,7 +121,7 @@ module _ (contents : Contents) where
       if nat_le most_copies copies then refused copies (At place TooMany)
       else copied_file (copy_line levels) place copies name (contents copies name)
 
--- the lines of a source with those of the files that it copies
+-- the lines of a source with the lines of the files that it copies
 abbrev pub copied_by : Contents → List ℕ → Copied
 copied_by contents source = lines_in (copy_line contents deepest) None 0 (line_texts source)
 

@@ -215,7 +215,7 @@ fn refused_as(
     Ok(refused && shelf.misses() == missed && shelf.faults() == 0)
 }
 
-/// Lines ` COPY 'EMPTY'`, so many.
+/// Lines ` COPY 'EMPTY'` , a given number of them.
 fn copies(alloc: Global, count: u32) -> Result<Vec<u8>, AllocError> {
     let mut source = Vec::new(alloc);
     for _ in 0..count {
@@ -243,7 +243,7 @@ fn copies_as_many_as_may_be(alloc: Global) -> Result<bool, AllocError> {
     )
 }
 
-/// Whether a file of so many line feeds is too large.
+/// Whether a file of a number of line feeds is too large.
 fn is_too_large(alloc: Global, size: usize) -> Result<bool, AllocError> {
     let mut files = Vec::new(alloc);
     files.push((name_of(b"BIG")?, vec![in alloc; b'\n'; size]?))?;

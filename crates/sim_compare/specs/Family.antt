@@ -1,4 +1,4 @@
--- The comparisons and the tests of the status, and what each tells.
+-- The comparisons and the tests of the status, and what each gives.
 use Rattle.std.specs.Prelude.{ℕ, ◌==◌, ◌||◌, bit_and, Bool, false, int_le, int_lt, nat_le, nat_lt, Option, Some, true}
 use Rattle.sim_rows.specs.Prelude.{CARRY, CARRY_BIT, CEQ, CGE, CGT, CH, CHE, CLOG, CTRUE, CZ, Exit, exit}
 use Rattle.sim_rows.specs.Prelude.{GplOperation, GREATER_BIT, GT, H, HIGHER_BIT, MachineState, One, OVERFLOW_BIT, OVF}
@@ -28,7 +28,7 @@ is_test _ = false
 abbrev pub is_compare : Option GplOperation → Bool
 is_compare operation = is_comparison operation || is_test operation
 
--- What a comparison tells of a destination and a source.
+-- What a comparison gives of a destination and a source.
 abbrev pub compared : GplOperation → Width → ℕ → ℕ → Bool
 compared (One CZ) width x y = x == 0
 compared (Two CH) width x y = nat_lt y x
@@ -39,7 +39,7 @@ compared (Two CEQ) width x y = x == y
 compared (Two CLOG) width x y = bit_and x y == 0
 compared operation width x y = false
 
--- The bit of the status that a test tells.
+-- The bit of the status that a test reads.
 abbrev pub tested : Option GplOperation → ℕ
 tested (Some (Plain H)) = HIGHER_BIT
 tested (Some (Plain GT)) = GREATER_BIT

@@ -5,7 +5,7 @@ use Rattle.std.specs.Prelude.{slice_set, true}
 use Rattle.sim_rows.specs.Prelude.{Byte, CFALSE, CONDITION_BIT, CTRUE, Exit, exit, GSTEP, join, last_out, low}
 use Rattle.sim_rows.specs.Prelude.{ones_cleared, ones_set, shifted, signed, SLA, STATUS, View, Word}
 
--- what holds leads to CTRUE, what does not to CFALSE; each takes so many instructions
+-- what holds leads to CTRUE, what does not to CFALSE; each takes a given number of instructions
 abbrev pub end_of : Bool → ℕ
 end_of true = CTRUE
 end_of false = CFALSE

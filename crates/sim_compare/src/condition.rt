@@ -10,7 +10,7 @@ use sim_rows::labels::CTRUE;
 use sim_rows::processor::{Machine, Steps};
 use std::sync::ledger::Ledger;
 
-/// Sets the condition or clears it, as the comparison tells.
+/// Sets the condition or clears it, as the comparison gives.
 pub fn end_comparison<L: Ledger>(machine: &mut Machine, steps: &mut Steps<L>)
     requires { IsTold machine.old }
     ensures { Exits machine.old machine.new steps.old steps.new

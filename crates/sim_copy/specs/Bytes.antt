@@ -10,7 +10,7 @@ use Rattle.sim_copy.specs.Pieces.{start_copy, VideoToCells, CopyPath}
 use Rattle.sim_rows.specs.sim_view.Bounds.{most_of_byte}
 use Rattle.sim_rows.specs.native_interp.declared.addresses.TheConstants.{COPYE}
 
--- A pointer to cells, at which so many bytes may be, one at least.
+-- A pointer to cells, at which a number of bytes may be, one at least.
 pub record Points (pointer bytes : ℕ) : Type 0 where
   pub from : first_cell ≤ pointer
   pub within : pointer + bytes ≤ first_cell + VISIBLE_CELLS

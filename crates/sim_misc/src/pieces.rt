@@ -17,7 +17,7 @@ pub fn set_border<L: Ledger>(machine: &mut Machine, steps: &mut Steps<L>)
     run_piece(machine, steps, &[]);
 }
 
-/// The piece of EX that keeps the old value of the destination and asks STORE for that of the source.
+/// The piece of EX that keeps the old value of the destination and asks STORE for the value of the source.
 pub fn keep_destination<L: Ledger>(machine: &mut Machine, steps: &mut Steps<L>)
     requires { Stands machine.old address.EXV }
     ensures { Exits machine.old machine.new steps.old steps.new (piece.keep_destination (view machine.old)) }

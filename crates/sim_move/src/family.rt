@@ -52,7 +52,7 @@ fn copy_found<L: Ledger>(machine: &mut Machine, steps: &mut Steps<L>)
     copy_bytes(machine, steps);
 }
 
-/// The reason that register 0 tells at a stop.
+/// The reason that register 0 has at a stop.
 fn reason_told(machine: &Machine) -> Reason
     requires { machine.now.cpu.wp ≡ WORKSPACE }
     ensures { (reason : Reason) → (view machine.now).r.r0 ≡ number_of reason → result ≡ reason }

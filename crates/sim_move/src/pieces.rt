@@ -74,7 +74,7 @@ pub fn ask_next<L: Ledger>(machine: &mut Machine, steps: &mut Steps<L>)
     run_piece(machine, steps, &[WHERE]);
 }
 
-/// The piece of MOVE that keeps the next address and asks SEEK for that of the source.
+/// The piece of MOVE that keeps the next address and asks SEEK for the address of the source.
 pub fn seek_source<L: Ledger>(machine: &mut Machine, steps: &mut Steps<L>)
     requires { Stands machine.old address.MOVEW }
     ensures { Exits machine.old machine.new steps.old steps.new (piece.seek_source (view machine.old)) }

@@ -24,7 +24,7 @@ pub(crate) fn index_source<L: Ledger>(machine: &mut Machine, steps: &mut Steps<L
     check_range(machine, steps);
 }
 
-/// Keeps the next address and sets GROM to that of the source.
+/// Keeps the next address and sets GROM to the address of the source.
 pub(crate) fn turn_to_source<L: Ledger>(machine: &mut Machine, steps: &mut Steps<L>)
     requires { Stands machine.old address.MOVEX }
     ensures { TurnsToSource machine.old machine.new steps.old steps.new }

@@ -27,7 +27,7 @@ fn run_row_of_two<L: Ledger>(machine: &mut Machine, steps: &mut Steps<L>, name: 
     }
 }
 
-/// The same, by the operation that was told.
+/// The same, by the operation that was found.
 fn run_row<L: Ledger>(machine: &mut Machine, steps: &mut Steps<L>, operation: GplOperation)
     requires entry { AtEntry is_muldiv operation machine.old }
     requires ready { IsReady machine.old }

@@ -10,8 +10,8 @@ use sim_rows::processor::{Machine, Steps};
 use sim_rows::run_piece;
 use std::sync::ledger::Ledger;
 
-/// The piece of MUL: the product of bytes is the result of the row; that of words is stored in two parts, and STORE
-/// is asked for the first of them.
+/// The piece of MUL: the product of bytes is the result of the row; the product of words is stored in two parts, and
+/// STORE is asked for the first of them.
 pub fn multiply<L: Ledger>(machine: &mut Machine, steps: &mut Steps<L>)
     requires { Stands machine.old address.MULV }
     ensures { Exits machine.old machine.new steps.old steps.new (piece.multiply (view machine.old)) }
@@ -27,7 +27,7 @@ pub fn low_product<L: Ledger>(machine: &mut Machine, steps: &mut Steps<L>)
     run_piece(machine, steps, &[STO]);
 }
 
-/// The piece of DIV that tells whether the quotient fits, and the width.
+/// The piece of DIV that finds whether the quotient fits, and the width.
 pub fn compare_divisor<L: Ledger>(machine: &mut Machine, steps: &mut Steps<L>)
     requires { Stands machine.old address.DIVV }
     ensures { Exits machine.old machine.new steps.old steps.new (piece.compare_divisor (view machine.old)) }

@@ -72,7 +72,7 @@ address v =
     then one_byte_address v
     else if base == 0x0F00 then sixteen_bit_address v else twelve_bit_address base v
 
--- The range in the cells must be visible; so many instructions were before its test.
+-- The range in the cells must be visible; a number of instructions were before its test.
 abbrev pub cells_range : ℕ → View → Exit
 cells_range before v =
     let end = sum_of Word v.r.r3 v.r.r2 in
@@ -85,7 +85,7 @@ cells_range before v =
 abbrev pub short_range : View → Exit
 short_range v = if nat_lt 4 v.r.r3 then cells_range 2 v else exit 3 (return_of v) v
 
--- APTR: the form of the operand comes down in register 5; where the operand is indirect, the address is that of a
+-- APTR: the form of the operand comes down in register 5; where the operand is indirect, the address is the one of a
 -- pointer, which is read if it may be.
 abbrev pub pointer : View → Exit
 pointer v =

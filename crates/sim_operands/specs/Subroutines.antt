@@ -67,7 +67,7 @@ pub record OperandStop (v : View) (reason : Reason) (w : View) : Type 0 where
     grom = grom_at v.grom.image next;
   }
 
--- The place is found, or the reason is told at GSTOP, within as many instructions as ADDR may take.
+-- The place is found, or the reason is given at GSTOP, within as many instructions as ADDR may take.
 abbrev pub Finds : MachineState → MachineState → ℕ → ℕ → ℕ → Result Place Reason → Type 0
 Finds x y before after next (Ok place) =
     ReachesWithin most_of_address x y before after (return_of (view x)) (Placed (view x) next place)
@@ -81,7 +81,7 @@ FindsOperand x y before after =
     let read = operand_at v.grom.image (next_at v) in
     Finds x y before after read.1 (place_of (state_of v) v.r.r3 read.0)
 
--- LOAD and STORE. The place that two registers tell: its space and its address.
+-- LOAD and STORE. The place that two registers give: its space and its address.
 abbrev pub space_numbered : ℕ → Space
 space_numbered number = if number == 0 then Cpu else Vdp
 

@@ -51,7 +51,7 @@ pub fn add_index<L: Ledger>(machine: &mut Machine, steps: &mut Steps<L>) -> bool
     machine.pc() == ASPACE
 }
 
-/// The piece of ADDR that tells the space and checks the range. It returns, or the machine stops by reason 2.
+/// The piece of ADDR that finds the space and checks the range. It returns, or the machine stops by reason 2.
 pub fn check_range<L: Ledger>(machine: &mut Machine, steps: &mut Steps<L>)
     requires { Stands machine.old address.ASPACE }
     ensures { Exits machine.old machine.new steps.old steps.new (piece.range (view machine.old)) }

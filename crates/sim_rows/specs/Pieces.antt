@@ -55,7 +55,7 @@ where_next v =
       grom = read_once (read_once v.grom);
     })
 
--- ROW, STROW and WIDE: the place of the first operand is asked for, of so many bytes; nothing was stored yet.
+-- ROW, STROW and WIDE: the place of the first operand is asked for, of a number of bytes; nothing was stored yet.
 abbrev pub ask_place : ℕ → ℕ → ℕ → View → Exit
 ask_place count bytes link v = exit count ADDR (record v { r = record v.r { r3 = bytes; r11 = link; r13 = 0 } })
 

@@ -55,7 +55,7 @@ StoresResult x y before after =
     (c : Changes) → (width : Width) → (place : Place) → (number : ℕ) → Storing c width place number (view x)
     → ReachesWithin most_of_result x y before after GSTEP (SeesFinished (with_value width place number c))
 
--- A row's operands are loaded, and its operation is told; or it stops.
+-- A row's operands are loaded, and its operation is known; or it stops.
 abbrev pub StartsRow : GplState → MachineState → MachineState → ℕ → ℕ → Option GplOperation
     → Result (Place × Source) Reason → Type 0
 StartsRow s x y before after told (Ok operands) =
@@ -67,7 +67,8 @@ StartsRow s x y before after told (Err reason) =
 pub record HasStarted (s : GplState) (x y : MachineState) (before after : ℕ) (told : Option GplOperation) : Type 0 where
   pub starts : StartsRow s x y before after told (operands_of s)
 
--- A row from its entry to the end of the step, for all operands that may be there: at most so many instructions.
+-- A row from its entry to the end of the step, for all operands that may be there: at most a given number of
+-- instructions.
 abbrev pub RunsRow : GplOperation → ℕ → MachineState → MachineState → ℕ → ℕ → Type 0
 RunsRow operation most x y before after =
     (s : GplState) → (place : Place) → (source : Source) → operation_in s ≡ Some operation

@@ -16,7 +16,7 @@ is_row (Some (One op)) = true
 is_row (Some (Two op)) = true
 is_row _ = false
 
--- An odd code byte is the form of words; below >A0 it is that of one operand; and 2 more is an immediate source.
+-- An odd code byte is the form of words; below >A0 it is the form of one operand; and 2 more is an immediate source.
 abbrev pub word_of : GplState → Bool
 word_of s = code_byte s % 2 == 1
 
@@ -99,12 +99,12 @@ abbrev pub loaded_of : GplState → Place → ℕ
 loaded_of s place =
     let width = width_in (destination_bytes s) in in_register width (value_at s width place)
 
--- ADDR is asked for the place of an operand of so many bytes, and returns to an address.
+-- ADDR is asked for the place of an operand of a number of bytes, and returns to an address.
 pub record Asking (s : GplState) (bytes at to : ℕ) (w : View) : Type 0 where
   pub holds : Holds s bytes at w
   pub link : w.r.r11 ≡ to
 
--- where it returns to with that of the destination
+-- where it returns to with the place of the destination
 abbrev pub behind_destination : Option GplOperation → ℕ
 behind_destination (Some (Two MUL)) = WIDDST
 behind_destination (Some (Two DIV)) = WIDDST

@@ -71,7 +71,7 @@ pub fn keep_first<L: Ledger>(machine: &mut Machine, steps: &mut Steps<L>)
     run_piece(machine, steps, &[GO, OPSTWO]);
 }
 
-/// The piece of MUL and DIV that keeps the value, and tells the width of the source.
+/// The piece of MUL and DIV that keeps the value, and finds the width of the source.
 pub fn keep_wide<L: Ledger>(machine: &mut Machine, steps: &mut Steps<L>)
     requires { Stands machine.old address.WIDVAL }
     ensures { Exits machine.old machine.new steps.old steps.new (piece.keep_wide (view machine.old)) }
@@ -191,8 +191,9 @@ fn load_operands<L: Ledger>(machine: &mut Machine, steps: &mut Steps<L>) -> bool
     true
 }
 
-/// Begins a row at its dispatch: both operands are found, what the row reads of them is loaded, and the machine is at the
-/// entry of the row. The answer is the operation, and None where an operand is not visible: the machine then stops by reason 2.
+/// Begins a row at its dispatch: both operands are found, what the row reads of them is loaded, and the machine is at
+/// the entry of the row. The answer is the operation, and None where an operand is not visible: the machine then stops
+/// by reason 2.
 pub fn start_row<L: Ledger>(machine: &mut Machine, steps: &mut Steps<L>) -> Option<GplOperation>
     requires { AtDispatch is_row machine.old }
     ensures { HasStarted (state_at_dispatch (view machine.old)) machine.old machine.new steps.old steps.new result }

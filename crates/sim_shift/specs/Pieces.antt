@@ -25,7 +25,7 @@ ask_turn_count v = asking SRCB v
 abbrev pub low_four : ℕ → ℕ
 low_four word = shifted SRL (shifted SLA word 12) 12
 
--- the count is told; where it is 0 the value is stored as it is
+-- the count is found; where it is 0 the value is stored as it is
 abbrev pub counted : ℕ → ℕ → View → Exit
 counted most word v =
     let told = record v { r = record v.r { r0 = low_four word } } in

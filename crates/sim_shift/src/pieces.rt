@@ -42,7 +42,7 @@ pub fn ask_turn_count<L: Ledger>(machine: &mut Machine, steps: &mut Steps<L>)
     run_piece(machine, steps, &[COUNT]);
 }
 
-/// The piece that tells the count of a shift, the low four bits of the source. Is there one? If it is 0 the machine
+/// The piece that finds the count of a shift, the low four bits of the source. Is there one? If it is 0 the machine
 /// goes to STO, and else the piece returns.
 pub fn take_count<L: Ledger>(machine: &mut Machine, steps: &mut Steps<L>) -> bool
     requires { Stands machine.old address.COUNT }

@@ -18,7 +18,7 @@ pub fn read_call_target<L: Ledger>(machine: &mut Machine, steps: &mut Steps<L>)
     run_piece(machine, steps, &[CALLN]);
 }
 
-/// The piece of CALL that tells the next address.
+/// The piece of CALL that finds the next address.
 pub fn find_next<L: Ledger>(machine: &mut Machine, steps: &mut Steps<L>)
     requires { Stands machine.old address.CALLN }
     ensures { Exits machine.old machine.new steps.old steps.new (piece.find_next (view machine.old)) }

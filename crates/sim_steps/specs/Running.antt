@@ -2,7 +2,7 @@
 use Rattle.std.specs.Prelude.{ℕ, ◌+◌, ◌≡◌, Option}
 use Rattle.sim_rows.specs.Prelude.{GplState, MachineState, Reason, run, RunsSteps}
 
--- The turns from x to y are the run of up to so many steps from a state, with what the run's answers are, and a
+-- The turns from x to y are the run of up to a number of steps from a state, with what the run's answers are, and a
 -- counter shows their instructions.
 pub record RunsTurns (s : GplState) (limit : ℕ) (x y : MachineState) (before after done : ℕ) (stop : Option Reason)
     : Type 0 where

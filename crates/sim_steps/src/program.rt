@@ -8,8 +8,8 @@ use sim_rows::processor::{Machine, Steps};
 use sim_rows::{Reason, Turn};
 use std::sync::ledger::Ledger;
 
-/// Makes steps of GPL up to the first that stops, and no more than so many: how many were made, and why there was no
-/// further one, if a step stopped.
+/// Makes steps of GPL up to the first that stops, and no more than a given number: how many were made, and why there
+/// was no further one, if a step stopped.
 ///
 /// The machine is as the run of the definitions leaves it: it matches the last state, or is halted with it and the
 /// reason. No turn takes more TMS9900 instructions than the bound of its step.

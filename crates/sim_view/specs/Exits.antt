@@ -18,7 +18,7 @@ pub record Exits (x y : MachineState) (before after : ℕ) (e : Exit) : Type 0 w
   pub shows : view y ≡ e.left
   pub stands : Stands y e.to
 
--- At most so many instructions lead from x to y at an address, of whose view something holds.
+-- At most a given number of instructions lead from x to y at an address, of whose view something holds.
 pub record ReachesWithin (most : ℕ) (x y : MachineState) (before after : ℕ) (to : ℕ) (Holds : View → Type 0) : Type 0 where
   pub count : ℕ
   pub within : count ≤ most

@@ -30,7 +30,7 @@ pub record Ran : Type 0 where
 abbrev pub one_more : Ran → Ran
 one_more r = record r { count = suc r.count }
 
--- At most so many steps, up to the last of a piece.
+-- At most a given number of steps, up to the last of a piece.
 unfoldable pub ran : List ℕ → ℕ → MachineState → Ran
 ran ends zero x = record { count = 0; left = x }
 ran ends (suc most) x =

@@ -54,7 +54,7 @@ relisted words =
     }
 
 -- Registers, the 194 visible cells from >8300 on, the 15 words from >83C2 on, both expansion memories, the ROM, and the
--- ports: a memory by the parts that the interpreter tells apart. Nothing is left out.
+-- ports: a memory by the parts that the interpreter distinguishes. Nothing is left out.
 pub record View : Type 0 where
   pub r : Registers
   pub cells : List ℕ

@@ -27,7 +27,7 @@ pub fn run_piece<L: Ledger>(machine: &mut Machine, steps: &mut Steps<L>, ends: &
     machine.holds_bounds();
 }
 
-/// Steps up to the last of a piece, and no more than so many.
+/// Steps up to the last of a piece, and no more than a given number.
 fn run_at_most<L: Ledger>(machine: &mut Machine, steps: &mut Steps<L>, ends: &[u16], most: u64)
     ensures left { machine.new ≡ (spec.ran ends.now most machine.old).left }
     ensures count { steps.new ≡ steps.old + (spec.ran ends.now most machine.old).count }

@@ -2,8 +2,8 @@
 --
 -- Editor/Assembler manual, "Expressions": an optional minus sign and a term, then operators with terms, which are taken
 -- from left to right without precedence.
--- Profile: the first refusal from the left is the expression's, and a term's own refusal stands before that of joining
--- it.
+-- Profile: the first refusal from the left is the expression's, and a term's own refusal stands before the refusal of
+-- joining it.
 use Rattle.std.specs.Prelude.{ℕ, ◌+◌, ◌-◌, ◌*◌, ◌/◌, ◌%◌, ◌==◌, Bool, false, not, ◌&&◌, nat_le, if◌then◌else◌, List}
 use Rattle.std.specs.Prelude.{[], ◌∷◌, length, slice_range, Option, Some, None, Result, Ok, Err}
 use Rattle.source_defs.specs.declared.causes.ExprError.{ExprError}

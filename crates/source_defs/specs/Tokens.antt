@@ -133,7 +133,7 @@ token_at text start =
     else if is_operator byte then Ok (token_to (Sign byte) start (start + 1))
     else Err BadToken
 
--- the tokens from a place on, each after the other, where at most so many bytes are left
+-- the tokens from a place on, each after the other, where at most a given number of bytes are left
 unfoldable pub tokens_from : ℕ → List ℕ → ℕ → Result (List Token) ExprError
 tokens_from zero text start = Ok []
 tokens_from (suc left) text start =

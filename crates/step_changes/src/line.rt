@@ -10,8 +10,8 @@ use change_defs::Part;
 use std::alloc::{AllocError, Global};
 use std::marker::Model;
 
-/// The most bytes of a line, which is that of an instruction of the machine: 192 of its front, 47 for each register of
-/// the workspace, 16 for each byte that can change, 192 for what the ports hold, and the line feed.
+/// The most bytes of a line, which is the line of an instruction of the machine: 192 of its front, 47 for each register
+/// of the workspace, 16 for each byte that can change, 192 for what the ports hold, and the line feed.
 pub const LONGEST: usize = 192 + 16 * 47 + 16 * (256 + 8192 + 24576 + 16384 + 8) + 192 + 1;
 
 /// A line that grows, with room for the longest.

@@ -26,7 +26,7 @@ pub record MissesSome (limit : ℕ) (x y : MachineState) (out out' : SinkState) 
   pub run : IsRun None limit made x ending y
   pub missed : Missed out out' (run_lines x made ending y)
 
--- a run of up to so many instructions, by the answer
+-- a run of up to a number of instructions, by the answer
 abbrev pub Writes : {E : Type 0} → ℕ → MachineState → MachineState → SinkState → SinkState → Result RunEnd E → Type 0
 Writes limit x y out out' (Ok ending) = WritesWhole limit x y out out' ending
 Writes limit x y out out' (Err error) = BreaksOff limit x y out out' ⊎ MissesSome limit x y out out'

@@ -20,7 +20,7 @@ fn is_written_as(image: &GromImage, low: u32, bytes: &[u8]) -> bool {
             || (image.high() - image.low()) as usize == bytes.len() && image.written() == bytes)
 }
 
-/// Whether the image tells the addresses that were written from others.
+/// Whether the image distinguishes the addresses that were written from others.
 fn tells_written(image: &GromImage) -> bool {
     image.is_written(0x6001)
         && image.is_written(0xFFFF)

@@ -44,7 +44,7 @@ const ASSEMBLED: &[(&[u8], &[Piece])] = &[
             word!(Relocatable 4, Relocatable 0),
         ],
     ),
-    // The label of BES stands after its block, that of DATA at the even place.
+    // The label of BES stands after its block, the label of DATA at the even place.
     (
         b"L BES 3\nM DATA L,M\n END\n FOO\n",
         &[
@@ -93,7 +93,7 @@ fn gives(alloc: Global, source: &[u8], words: &[Piece]) -> bool {
     }
 }
 
-/// Whether a name of REF that is used twice is told with the place of its last use.
+/// Whether a name of REF that is used twice is reported with the place of its last use.
 fn tells_the_last_use(alloc: Global) -> bool {
     match assemble(alloc, b" REF FOO\n DATA FOO,1,FOO\n") {
         Ok(module) => match module.refs.as_slice() {

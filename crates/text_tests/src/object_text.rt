@@ -161,7 +161,7 @@ const REFUSED: &[(&[u8], u32, TagCause)] = &[
     ),
 ];
 
-/// Whether a text has so many modules, of which the last has these words.
+/// Whether a text has a number of modules, of which the last has these words.
 pub(crate) fn gives(alloc: Global, text: &[u8], count: usize, words: &[Piece]) -> bool {
     if text.len() > 1000 {
         return false;

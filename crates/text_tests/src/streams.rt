@@ -28,7 +28,7 @@ impl Read for Broken {
     }
 }
 
-/// A writer that takes so many bytes, and then fails or takes nothing.
+/// A writer that takes a given number of bytes, and then fails or takes nothing.
 #[derive(Drop)]
 struct Narrow {
     room: usize,
@@ -105,7 +105,7 @@ const READINGS: &[(usize, u64, usize, Result<usize, ReadError>)] = &[
     (9000, 4, 10000, Ok(9000)),
 ];
 
-/// Whether so many bytes are read as said, and the source has counted a fault where it is one.
+/// Whether a number of bytes are read as said, and the source has counted a fault where it is one.
 fn reads_as(
     alloc: Global,
     size: usize,

@@ -2,12 +2,12 @@
 use Rattle.std.specs.Prelude.{◌≡◌, ◌<◌, ℕ, ◌+◌, List, length, slice_index, slice_set}
 use Rattle.tms_defs.specs.Words.{high, low, join}
 
--- The list has so many items, and each is a byte.
+-- The list has a given number of items, and each is a byte.
 pub record HoldsBytes (count : ℕ) (bytes : List ℕ) : Type 0 where
   pub size : length bytes ≡ count
   pub fits : (at : ℕ) → slice_index bytes at < 256
 
--- The list has so many items, and each is 0.
+-- The list has a given number of items, and each is 0.
 pub record HoldsZeros (count : ℕ) (bytes : List ℕ) : Type 0 where
   pub size : length bytes ≡ count
   pub zeros : (at : ℕ) → slice_index bytes at ≡ 0

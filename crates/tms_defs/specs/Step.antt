@@ -20,8 +20,8 @@ use Rattle.tms_defs.specs.declared.instruction.Instr.TheVariants.{Two, Reg, Shif
 use Rattle.tms_defs.specs.declared.step_end.StepEnd.{StepEnd}
 use Rattle.tms_defs.specs.declared.step_end.StepEnd.TheVariants.{Done, Refused, Port}
 
--- Profile: these operations are not executed: those of the communication register unit, those of external devices, and
--- the execution of a word elsewhere.
+-- Profile: these operations are not executed: those of the communication register unit, the instructions of external
+-- devices, and the execution of a word elsewhere.
 abbrev pub is_unsupported : Instr → Bool
 is_unsupported (Reg LDCR number src) = true
 is_unsupported (Reg STCR number src) = true

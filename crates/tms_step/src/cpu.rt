@@ -96,7 +96,7 @@ impl Cpu {
         self.code_word(Expansion::High)
     }
 
-    /// The same, where the given part of the expansion memory is told first (see `Bus::code_at`).
+    /// The same, where the given part of the expansion memory is tested first (see `Bus::code_at`).
     #[inline(always)]
     pub(crate) fn code_word(&mut self, first: Expansion) -> Result<u16, PortStop>
         ensures value { left_by result (λ word. (word, self.new)) ≡ next_word Memory console self.old }

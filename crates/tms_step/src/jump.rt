@@ -25,8 +25,8 @@ impl Cpu {
     }
 }
 
-/// The condition of a jump (TMS9900 data manual, "Jump instructions"). Those that programs make most are told first, by
-/// tests, and not by a table of jumps (see `step`).
+/// The condition of a jump (TMS9900 data manual, "Jump instructions"). Those that programs make most are found first,
+/// by tests, and not by a table of jumps (see `step`).
 #[inline(always)]
 fn condition(op: JumpOp, status: Status) -> bool
     requires set { op ≢ SBO }
@@ -73,7 +73,7 @@ fn other_condition(op: JumpOp, status: Status) -> bool
     }
 }
 
-/// The address so many words from another one, in 16 bits (TMS9900 data manual, "Jump instructions").
+/// The address a number of words from another one, in 16 bits (TMS9900 data manual, "Jump instructions").
 #[inline(always)]
 #[tactic(auto, using(crate::proofs::Jumps::even_target))]
 fn jump_target(pc: u16, disp: i8) -> u16

@@ -29,7 +29,7 @@ impl Cpu {
         self.undo_on_stop(end, self.auto_incremented_by(at, address))
     }
 
-    /// An operation on the operand at an address. Those that programs make most are told first, by tests, and not by a
+    /// An operation on the operand at an address. Those that programs make most are found first, by tests, and not by a
     /// table of jumps (see `step`).
     #[inline]
     fn one(&mut self, op: OneOp, address: u16) -> Result<(), PortStop>

@@ -29,7 +29,7 @@ impl Machine {
     ) -> RunEnd
         ensures rises { steps.old ≤ steps.new }
         ensures run { IsRun stop limit (steps.new - steps.old) self.old result self.new }
-        // so many steps that all executed an instruction lead to the machine
+        // a number of steps that all executed an instruction lead to the machine
         ensures steps { machine.steps (steps.new - steps.old) self.old ≡ Gives self.new }
         ensures count { self.new.count ≡ saturating_sum self.old.count (steps.new - steps.old) }
         ensures limit { steps.new - steps.old ≤ limit }

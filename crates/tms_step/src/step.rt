@@ -1,8 +1,8 @@
 //! One step: the instruction at the program counter is read and executed.
 //!
-//! The operations that programs make most are told from the others by a few tests, and not by a `match` of many arms,
+//! The operations that programs make most are found by a few tests, and not by a `match` of many arms,
 //! which is compiled into a table of jumps: on the machines where this was measured, a jump through a table takes half
-//! as long as a whole step. What is told so stands in functions that are not inlined into each other.
+//! as long as a whole step. What is found so stands in functions that are not inlined into each other.
 
 ghost use Rattle.std.specs.Prelude.{◌≡◌, OnErr, IsFalse};
 ghost use Rattle.tms_defs.specs.Instructions.{HasRoom};

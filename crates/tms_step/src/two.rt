@@ -101,7 +101,7 @@ impl Cpu {
         self.two(op, true, value, address)
     }
 
-    /// An operation on a source and the destination at an address. It is told by tests, and not by a table of jumps
+    /// An operation on a source and the destination at an address. It is found by tests, and not by a table of jumps
     /// (see `step`).
     #[inline(always)]
     pub(crate) fn two(

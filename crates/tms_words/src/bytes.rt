@@ -7,7 +7,7 @@ ghost use Rattle.tms_defs.specs.Flags.{absolute_flags, by_order, no_flags, has_o
 
 use tms_defs::{Flags, Out8};
 
-/// The sum of two bytes; its status bits are those of `add16` at the width of a byte.
+/// The sum of two bytes; its status bits are the bits of `add16` at the width of a byte.
 /// TMS9900 data manual, "Add bytes".
 #[tactic(auto, using(tms_defs::proofs::OverflowLaws::sum_overflows_by_signs))]
 pub fn add8(d: u8, s: u8) -> Out8
@@ -23,7 +23,7 @@ pub fn add8(d: u8, s: u8) -> Out8
     }
 }
 
-/// The difference `d - s` of two bytes; its status bits are those of `sub16` at the width of a byte.
+/// The difference `d - s` of two bytes; its status bits are the bits of `sub16` at the width of a byte.
 /// TMS9900 data manual, "Subtract bytes".
 #[tactic(auto, using(tms_defs::proofs::OverflowLaws::difference_overflows_by_signs))]
 pub fn sub8(d: u8, s: u8) -> Out8
@@ -39,7 +39,7 @@ pub fn sub8(d: u8, s: u8) -> Out8
     }
 }
 
-/// The negative of a byte; its status bits are those of `neg16` at the width of a byte.
+/// The negative of a byte; its status bits are the bits of `neg16` at the width of a byte.
 /// TMS9900 data manual, "Negate".
 pub fn neg8(x: u8) -> Out8
     ensures value { result.value ≡ negation_of Byte x }
@@ -52,7 +52,7 @@ pub fn neg8(x: u8) -> Out8
     }
 }
 
-/// The absolute value of a byte; its status bits are those of `abs16` at the width of a byte.
+/// The absolute value of a byte; its status bits are the bits of `abs16` at the width of a byte.
 /// TMS9900 data manual, "Absolute value".
 pub fn abs8(x: u8) -> Out8
     ensures value { result.value ≡ absolute_of Byte x }

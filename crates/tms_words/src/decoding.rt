@@ -1,6 +1,6 @@
 //! The instruction of a word.
 //!
-//! The row of a word is told by tests in the order in which programs use the rows. They are a chain of `if`, which
+//! The row of a word is found by tests in the order in which programs use the rows. They are a chain of `if`, which
 //! keeps its order; a `match` on ranges is compiled in an order of its own. `decode`, `operation_at`, `two_at`,
 //! `jump_at` and `operands_at` are inlined into each of their callers, since a call of them takes long beside the
 //! rest of a step; of the other parts the compiler decides.
@@ -60,7 +60,7 @@ fn control_at(word: u16) -> Option<Operation>
     Some(Operation::Bare(bare_at(word)?))
 }
 
-/// The operation on two operands in a word, beside the bit that tells words from bytes.
+/// The operation on two operands in a word, beside the bit that distinguishes words from bytes.
 #[inline(always)]
 fn two_at(word: u16) -> TwoOp
     requires { 0x4000 ≤ word }

@@ -8,18 +8,18 @@ use Rattle.sim_steps.specs.Running.{RunsTurns}
 use Rattle.gpl_run.specs.Sessions.{SessionState, seen}
 use Rattle.report_defs.specs.Trace.{ShowsChanges, step_line, step_lines}
 
--- The run of up to so many steps was made, and the lines of all its steps were written.
+-- The run of up to a number of steps was made, and the lines of all its steps were written.
 pub record PlaysWhole (shows : ShowsChanges) (limit : ℕ) (x y : SessionState) (before after : ℕ) (out out' : SinkState)
     (done : ℕ) : Type 0 where
   pub runs : RunsTurns (seen x) limit x.machine y.machine before after done y.ended
   pub wrote : Wrote out out' (step_lines shows (seen x) done)
 
--- the line of the step after so many
+-- the line of the step after a number of steps
 abbrev pub line_behind : ShowsChanges → GplState → ℕ → List ℕ
 line_behind shows s made = step_line shows (made + 1) (run made s).last (run (made + 1) s).last
 
--- A line could not be written: those of the steps before it were, each by one call, and of it a front. Its step is the
--- last that was made, and the program is running.
+-- A line could not be written: the lines of the steps before it were, each by one call, and a front of it. Its step is
+-- the last that was made, and the program is running.
 pub record BreaksOff (shows : ShowsChanges) (limit : ℕ) (x y : SessionState) (before after : ℕ) (out out' : SinkState)
     : Type 0 where
   pub shown : ℕ
@@ -30,7 +30,7 @@ pub record BreaksOff (shows : ShowsChanges) (limit : ℕ) (x y : SessionState) (
   pub wrote : Wrote out between (step_lines shows (seen x) shown)
   pub missed : Missed between out' (line_behind shows (seen x) shown ∷ [])
 
--- A program was run for up to so many steps, and a counter shows its instructions; by the answer.
+-- A program was run for up to a number of steps, and a counter shows its instructions; by the answer.
 abbrev pub Plays : {E : Type 0} → ShowsChanges → ℕ → SessionState → SessionState → ℕ → ℕ → SinkState → SinkState
     → Result ℕ E → Type 0
 Plays shows limit x y before after out out' (Ok done) = PlaysWhole shows limit x y before after out out' done

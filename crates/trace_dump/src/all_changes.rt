@@ -55,8 +55,8 @@ impl StepLine for AllChanges {
     }
 }
 
-/// Ends the front of a step's line by all that has changed since, and a line feed; and keeps what is seen of the machine
-/// now.
+/// Ends the front of a step's line by all that has changed since, and a line feed; and keeps what is seen of the
+/// machine now.
 #[tactic(auto, unfolding(change_defs::specs::Text::step_text), using(std::proofs::Common::append_assoc))]
 fn append_changes(line: &mut LongLine, seen: &mut Seen, machine: &Machine)
     requires { length line.old ≤ 77 }

@@ -1,5 +1,5 @@
-//! What a machine looks like, line by line, to any sink, and the lines of a GPL program: those of its steps, of its end
-//! and of its state. Nothing takes memory but [`Seen::new`] and [`AllChanges::new`].
+//! What a machine looks like, line by line, to any sink, and the lines of a GPL program: the lines of its steps, of its
+//! end and of its state. Nothing takes memory but [`Seen::new`] and [`AllChanges::new`].
 #![tactic(auto)]
 
 mod all_changes;

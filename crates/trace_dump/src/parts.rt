@@ -51,7 +51,7 @@ fn put_registers<O: Sink>(machine: &Machine, out: &mut O) -> Result<(), Failed>
     put_processor(machine, out)
 }
 
-/// Writes the count of executed instructions, the processor's own registers and those of its workspace.
+/// Writes the count of executed instructions, the processor's own registers and the registers of its workspace.
 #[tactic(auto, using(bench_io::proofs::Writing::written_behind, bench_io::proofs::Writing::missed_at))]
 fn put_processor<O: Sink>(machine: &Machine, out: &mut O) -> Result<(), Failed>
     ensures { Written result (O.state out.old) (O.state out.new)

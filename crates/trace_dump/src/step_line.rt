@@ -22,8 +22,8 @@ pub trait StepLine {
         requires { array_string_len front.now ≤ 77 }
         ensures { bytes self.new ≡ front.now.bytes };
 
-    /// Ends the front of a step's line by what has changed since, and a line feed; and keeps what is seen of the machine
-    /// now.
+    /// Ends the front of a step's line by what has changed since, and a line feed; and keeps what is seen of the
+    /// machine now.
     fn end(&mut self, seen: &mut Seen, machine: &Machine)
         requires { length (bytes self.old) ≤ 77 }
         ensures text { bytes self.new ≡ bytes self.old

@@ -19,8 +19,8 @@ use tms_step::Steps;
 /// is what the machine shows, before and after. No memory is taken.
 ///
 /// # Errors
-/// `Failed` comes where a line could not be written: those of the steps before it were, and of it a front. The sink's
-/// count of faults rose; the program is running, and its last step is that of the line that failed.
+/// `Failed` comes where a line could not be written: the lines of the steps before it were, and a front of it. The
+/// sink's count of faults rose; the program is running, and its last step is the one of the line that failed.
 pub fn play<T: StepLine, O: Sink, L: Ledger>(
     session: &mut Session,
     seen: &mut Seen,

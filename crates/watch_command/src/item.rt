@@ -46,21 +46,21 @@ fn range_word(space: Space, text: &[u8]) -> Option<Item>
     range_in(space, at, size)
 }
 
-/// The first bytes of a text, so many or all.
+/// The first bytes of a text, a given number or all.
 fn front(text: &[u8], count: usize) -> &[u8]
     ensures { result.now ≡ take count text.now }
 {
     &text[..count.min(text.len())]
 }
 
-/// The bytes of a text after the first so many.
+/// The bytes of a text after a given number of first bytes.
 fn behind(text: &[u8], count: usize) -> &[u8]
     ensures { result.now ≡ drop count text.now }
 {
     &text[count.min(text.len())..]
 }
 
-/// A range of so many bytes from an address on, where it lies in what a program sees.
+/// A range of a given number of bytes from an address on, where it lies in what a program sees.
 fn range_in(space: Space, at: u16, size: u32) -> Option<Item>
     requires { size ≤ 0x4000 }
     ensures item { result ≡ spec.range_in space at size }

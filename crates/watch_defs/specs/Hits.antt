@@ -9,7 +9,7 @@ use Rattle.watch_defs.specs.declared.found.Found.{Found}
 use Rattle.watch_defs.specs.declared.found.Found.TheVariants as result
 use Rattle.watch_defs.specs.Items.{holds, change}
 
--- The state after so many steps of a run.
+-- The state after a number of steps of a run.
 abbrev pub behind : GplState → ℕ → GplState
 behind s made = (run made s).last
 
@@ -31,10 +31,10 @@ hit_between items number before next =
 abbrev pub hit_at : List Item → GplState → ℕ → Option Found
 hit_at items s number = hit_between items number (behind s (number - 1)) (behind s number)
 
--- the hits of the first so many steps
+-- the hits of a number of first steps
 abbrev pub hits : List Item → GplState → ℕ → List Found
 hits items s count = filter_map (hit_at items s) (range_with_len 1 count)
 
--- What is found in a run of up to so many steps: the first of its hits, if it has one.
+-- What is found in a run of up to a number of steps: the first of its hits, if it has one.
 abbrev pub found : List Item → ℕ → GplState → Found
 found items limit s = unwrap_or (slice_get (hits items s (run limit s).done) 0) result.None

@@ -50,7 +50,7 @@ bytes_of (Range space at len) s = slice_range (bytes_in space s) (at - base_of s
 bytes_of (Pc at) s = []
 
 -- Profile: whether an item holds at a step that leads from bytes of its range to a state: a byte of the range
--- differs, or the address is that of the next instruction.
+-- differs, or the address is the address of the next instruction.
 abbrev pub holds_since : Item → List ℕ → GplState → Bool
 holds_since (Range space at len) before s = is_some (first_difference before (bytes_of (Range space at len) s))
 holds_since (Pc at) before s = s.pc == at

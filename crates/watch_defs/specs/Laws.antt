@@ -18,8 +18,8 @@ abbrev pub NoneHolds : List Item → GplState → GplState → Type 0
 NoneHolds list before next =
     (place : ℕ) (item : Item) → slice_get list place ≡ Some item → IsFalse (items.holds item before next)
 
--- A step of a run of up to so many steps is the first at which an item holds. The item is the first that holds there,
--- and its change is shown.
+-- A step of a run of up to a number of steps is the first at which an item holds. The item is the first that holds
+-- there, and its change is shown.
 pub record IsFirstHit (list : List Item) (limit : ℕ) (s : GplState) (step from number : ℕ)
     (shown : Option (ℕ × ℕ)) : Type 0 where
   pub counted : 1 ≤ step

@@ -38,7 +38,7 @@ module_of_words at words entry =
       entry = option_map spot.Absolute entry;
     }
 
--- so many words from the next instruction on lead below address 0, or past the last address
+-- a number of words from the next instruction on lead below address 0, or past the last address
 abbrev pub leads_out : ℕ → ℤ → Bool
 leads_out next (pos count) = nat_lt 0xFFFF (next + 2 * count)
 leads_out next (negsuc count) = nat_lt next (2 * suc count)
@@ -61,8 +61,8 @@ wraps at (Some (Imm op number)) = false
 wraps at (Some (Bare op)) = false
 wraps at None = false
 
--- The first listed jump that wraps, by the number of its line. The lines are those of words, of which the first stands
--- at an address and may belong to the instruction before it.
+-- The first listed jump that wraps, by the number of its line. The lines are the lines of words, of which the first
+-- stands at an address and may belong to the instruction before it.
 abbrev pub first_wrapping : ℕ → ℕ → ℕ → List ℕ → Option ℕ
 first_wrapping number at belonging [] = None
 first_wrapping number at (suc belonging) (word ∷ words) = first_wrapping number (at + 2) belonging words

@@ -39,7 +39,7 @@ AsmOn before after source report =
     (CopyReported before after source report)
 
 -- The report of a command. `asm` takes the input and the files that it copies, `link` with names of files takes these
--- alone, and every other command is that of `bench`, or `watch`, and leaves the shelf as it was.
+-- alone, and every other command is a command of `bench`, or `watch`, and leaves the shelf as it was.
 abbrev pub Reports : ProgramCommand → Reading → Reading → Report → Type 0
 Reports (OverFiles AsmFiles) before after report =
     (source : List ℕ) × ReadsInput before.input after.input source × AsmOn before.shelf after.shelf source report
@@ -70,7 +70,7 @@ ReadsFirst before after =
 abbrev pub Leaves : ProgramCommand → Reading → Reading → Type 0
 Leaves (OverFiles AsmFiles) before after =
     TookWithin before.input after.input × ReadWithinLimit most_bytes before.shelf after.shelf
-        × ReadsFirst before after
+    × ReadsFirst before after
 Leaves (OverFiles (LinkFiles names)) before after =
     (after.input ≡ before.input) × ReadWithinLimit largest_input before.shelf after.shelf
     × (questions : List Question) × LinkDialogue before.shelf after.shelf names questions

@@ -6,9 +6,9 @@ use Rattle.reports.specs.RunLaws.{LawsOfProgram}
 use Rattle.bench_commands.specs.Laws.{LawsOfRuns}
 use Rattle.workbench.specs.FileProgram.{file_program}
 
--- There is at most one report, it was written whole where nothing fails, and two runs alike end alike; what dis lists is
--- assembled to what was listed, whatever files there are; what is found of watched items is the first step at which one
--- holds, a range by its bytes; and the laws of runs without files.
+-- There is at most one report, it was written whole where nothing fails, and two runs alike end alike; what dis lists
+-- is assembled to what was listed, whatever files there are; what is found of watched items is the first step at which
+-- one holds, a range by its bytes; and the laws of runs without files.
 pub record LawsOfFileRuns : Type 0 where
   pub runs : LawsOfProgram file_program
   pub listed_words : ListedWordsComeBackWith

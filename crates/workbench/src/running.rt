@@ -23,8 +23,8 @@ use std::alloc::Global;
 /// the usage line to `err`, and all memory is taken before the first byte is written.
 ///
 /// The contract says of each status its cause, and what the input, the shelf and the outputs are then; that there is at
-/// most one report on each command, input and files; that where what the command reads is told (the input's bytes, the
-/// shelf's files, or both) and nothing fails, the answer is that report with its status, or want of memory; how many
+/// most one report on each command, input and files; that where what the command reads is known (the input's bytes, the
+/// shelf's files, or both) and nothing fails, the answer is that report with its status, or memory ran out; how many
 /// bytes are taken of the shelf at most; and that what `watch` finds is the first step at which an item holds.
 #[tactic(auto, using(crate::proofs::Laws::laws))]
 pub fn bench_with<S: Source, F: Shelf, O: Sink, E: Sink>(

@@ -72,7 +72,7 @@ fn start(alloc: Global, linked: &Linked) -> Result<Machine, AllocError>
     )
 }
 
-/// Executes up to so many instructions on a machine that has executed none.
+/// Executes up to `limit` instructions on a machine that has executed none.
 fn run<L: Ledger>(machine: &mut Machine, limit: u64, blank: Blank) -> RunEnd
     requires name { blank.name ≡ L.name }
     requires parts { blank.parts ≡ L.parts }

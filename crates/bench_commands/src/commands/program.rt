@@ -29,8 +29,8 @@ pub struct LoadedProgram {
 /// is accepted and names an entry.
 ///
 /// # Errors
-/// `Refused` comes where the source is refused, and `Fault` where it names no entry; `Memory` is want of memory.
-/// `ReadFault` never comes.
+/// `Refused` comes where the source is refused, and `Fault` where it names no entry; `Memory` means that memory ran
+/// out. `ReadFault` never comes.
 pub fn load_program(alloc: Global, input: &[u8]) -> Result<LoadedProgram, CommandError>
     requires { length input.now ≤ largest_input }
     ensures { LoadsSource (program_of_source input.now) result }
