@@ -40,7 +40,7 @@ def addresses_file(listing):
     """A constant for each label."""
     constants = [
         ('WORKSPACE', 'u16', 0x83E0, 'The interpreter\'s workspace: the address of its register 0.'),
-        ('BEHIND', 'u16', listing.behind, 'The address behind the interpreter\'s last word.'),
+        ('BEHIND', 'u16', listing.behind, 'The address after the interpreter\'s last word.'),
     ] + [(part.label, 'u16', part.place, part.documentation) for part in listing.parts]
     lines = [f'// {WRITTEN}',
              '//! Addresses in the interpreter. Profile: where the interpreter and its workspace stand.']
@@ -93,7 +93,7 @@ def all_words_file(listing):
     joined = ' ++ ('.join(names[:-1]) + f' ++ {names[-1]}' + ')' * (len(names) - 2)
     lines += [
         '', '-- every part with its address', 'abbrev pub routines : List (ℕ × List ℕ)', f'routines = {joined}',
-        '', '-- all words, one part behind the other', 'abbrev pub words : List ℕ',
+        '', '-- all words, one part after the other', 'abbrev pub words : List ℕ',
         'words = flat_map (λ routine. routine.1) routines',
         '', '-- the word at an address, whose lowest bit is dropped', 'abbrev pub word_at : ℕ → ℕ',
         'word_at address = slice_index words ((address - origin) / 2)', '']
@@ -173,7 +173,7 @@ def counts_file(listing):
 
 def chain_file(listing):
     found = blocks(listing)
-    lines = [f'-- {WRITTEN}', '-- The blocks, one behind the other: all lines before the last.',
+    lines = [f'-- {WRITTEN}', '-- The blocks, one after the other: all lines before the last.',
              'use Rattle.line_table.proofs.Counts.{most, name_count}',
              'use Rattle.line_table.proofs.Fronts.{Front, none_yet, with_block}']
     for file, some in zip(FILES, shared(found)):

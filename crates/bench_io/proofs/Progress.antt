@@ -2,7 +2,7 @@
 use Rattle.std.proofs.Common.{◌≡◌, ℕ, List, [], ◌∷◌, ◌++◌, refl, sym, ap, ◌∙◌, subst, append_assoc, append-nil}
 use Rattle.bench_io.specs.Stream.{SinkState}
 use Rattle.bench_io.specs.Written.{Wrote, Missed}
-use Rattle.bench_io.proofs.Writing.{wrote_none, wrote_more, missed_more, missed_early}
+use Rattle.bench_io.proofs.Writes.{wrote_none, wrote_more, missed_more, missed_early}
 
 -- some of all lines were written, and these are left
 pub record Listed (before now : SinkState) (all left : List (List ℕ)) : Type 0 where

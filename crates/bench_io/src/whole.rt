@@ -79,7 +79,7 @@ pub fn read_all<S: Source>(
 }
 
 /// One call of `take`.
-#[tactic(auto, using(crate::proofs::Taking::took_once, crate::proofs::Taking::failed_once))]
+#[tactic(auto, using(crate::proofs::TakeCalls::took_once, crate::proofs::TakeCalls::failed_once))]
 fn take_once<S: Source>(source: &mut S, buffer: &mut [u8]) -> Result<usize, Failed>
     requires { 0 < length buffer.old }
     ensures within { IfOk result (λ count. count ≤ length buffer.old) }

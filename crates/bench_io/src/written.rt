@@ -9,7 +9,7 @@ use crate::{Failed, Sink};
 ///
 /// # Errors
 /// As [`Sink::put`].
-#[tactic(auto, using(crate::proofs::Writing::written_one))]
+#[tactic(auto, using(crate::proofs::Writes::written_one))]
 pub fn put_chunk<K: Sink>(sink: &mut K, piece: &[u8]) -> Result<(), Failed>
     ensures { Written result (K.state sink.old) (K.state sink.new) (piece.now ∷ []) }
 {

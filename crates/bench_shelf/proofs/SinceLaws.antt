@@ -1,7 +1,7 @@
 -- What an answer tells of a shelf holds of an earlier shelf too.
 use Rattle.std.proofs.Common.{◌≡◌, Ok, Err, arith}
 use Rattle.std.specs.Prelude.{Result, IfErr}
-use Rattle.bench_io.proofs.Taking.{rose_since}
+use Rattle.bench_io.proofs.TakeCalls.{rose_since}
 use Rattle.shelf_defs.specs.Copied.{most_bytes}
 use Rattle.bench_shelf.specs.States.{ShelfState}
 use Rattle.bench_shelf.specs.declared.error.FileError.{FileError}
@@ -12,7 +12,7 @@ use Rattle.bench_shelf.specs.declared.copy_error.CopyError.{CopyError}
 use Rattle.bench_shelf.specs.declared.copy_error.CopyError.TheVariants.{At, TooLarge, Fault, Memory}
 use Rattle.bench_shelf.specs.Causes.{CountsGrew, FileCauses, ShelfCauses, ReadWithinLimit}
 use Rattle.bench_shelf.specs.CopyAnswers.{unread_at}
-use Rattle.bench_shelf.proofs.Keeping.{within_then}
+use Rattle.bench_shelf.proofs.UnchangedParts.{within_then}
 
 -- what an unread file says of the shelf, the error of its COPY line says too
 pub causes_unread : (a b : ShelfState) (place : Place) (error : FileError) (said : CopyError) → said ≡ unread_at place error → FileCauses most_bytes error a b

@@ -19,9 +19,9 @@ use Rattle.reports.proofs.NoUsage.{IsNoUsage, same_no_usage, large_no_usage}
 use Rattle.bench_commands.specs.InputRun.{input_program}
 use Rattle.bench_commands.specs.Loaded.{RunsNone}
 use Rattle.bench_commands.proofs.NoUsage as shown
-use Rattle.bench_commands.proofs.Loading.{program_none}
+use Rattle.bench_commands.proofs.LoadedSources.{program_none}
 use Rattle.bench_commands.proofs.Ends.{HasNoUsage, run_of, by_answer, by_front, reading, within}
-use Rattle.bench_commands.proofs.Tracing.{by_trace}
+use Rattle.bench_commands.proofs.Traces.{by_trace}
 use Rattle.debug_report_defs.specs.declared.command.DebugCommand.{DebugCommand}
 use Rattle.debug_report_defs.specs.declared.command.DebugCommand.TheVariants.{Glist, Gsteps, Steps}
 use Rattle.debug_report_defs.specs.declared.command.DebugCommand.TheVariants as command

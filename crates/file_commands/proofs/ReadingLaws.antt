@@ -14,7 +14,7 @@ use Rattle.bench_shelf.specs.declared.error.FileError.TheVariants as unread
 use Rattle.bench_shelf.specs.States.{ShelfState}
 use Rattle.bench_shelf.specs.Causes.{ReadsOnce, AsksOne, CountsGrew, FileCauses, IsOfName, ReadWithinLimit, answer_by}
 use Rattle.bench_shelf.specs.Leading.{AllGiven}
-use Rattle.bench_shelf.proofs.Keeping.{within_then}
+use Rattle.bench_shelf.proofs.UnchangedParts.{within_then}
 use Rattle.bench_shelf.proofs.AskingLaws.{agrees_front, agrees_back, shown_then, shown_one, shown_none, reads_none, reads_then, none_follow, turns_then}
 use Rattle.report_defs.specs.Report.{largest_input}
 use Rattle.report_defs.specs.LinkedFiles as spec

@@ -29,11 +29,11 @@ use Rattle.asm_defs.specs.Modules.{unused, definition_in}
 use Rattle.line_laws.specs.KnownLines.{KnownLine, known_line, all_names, all_words, names_behind, are_new, are_close}
 use Rattle.line_laws.specs.Laws.{looks, AreKnown, HasWords, KnownLinesHaveTheirWords}
 use Rattle.line_laws.proofs.EarlierLines.{is_free}
-use Rattle.line_laws.proofs.Laying.{StandFor, laid_list, AreLaid, are_laid, check_behind}
-use Rattle.line_laws.proofs.Placing.{HoldWords, few_words, content_of}
-use Rattle.line_laws.proofs.Settling.{as_settled, settled_list, settle_is, AreSettled, are_settled, settled_step}
-use Rattle.line_laws.proofs.Settling.{room_by}
-use Rattle.line_laws.proofs.Linking.{pieces_held}
+use Rattle.line_laws.proofs.LaidLines.{StandFor, laid_list, AreLaid, are_laid, check_behind}
+use Rattle.line_laws.proofs.PlacedWords.{HoldWords, few_words, content_of}
+use Rattle.line_laws.proofs.SecondChecks.{as_settled, settled_list, settle_is, AreSettled, are_settled, settled_step}
+use Rattle.line_laws.proofs.SecondChecks.{room_by}
+use Rattle.line_laws.proofs.LinkedPieces.{pieces_held}
 use Rattle.line_laws.proofs.Small.{both, append_none}
 
 pub registers_stand : StandFor predefined registers

@@ -10,7 +10,7 @@ pub fn known_lines_have_their_words()
 {}
 
 /// Each of such lines stands where it is known to stand, and comes to what it is known to come to.
-#[tactic(auto, using(crate::proofs::Standing::known_lines_stand))]
+#[tactic(auto, using(crate::proofs::Locations::known_lines_stand))]
 pub fn known_lines_stand()
     ensures { KnownLinesStand }
 {}

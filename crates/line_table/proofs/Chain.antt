@@ -1,5 +1,5 @@
 -- Written by tools/interpreter from crates/native_interp/src/source.
--- The blocks, one behind the other: all lines before the last.
+-- The blocks, one after the other: all lines before the last.
 use Rattle.line_table.proofs.Counts.{most, name_count}
 use Rattle.line_table.proofs.Fronts.{Front, none_yet, with_block}
 use Rattle.line_table.proofs.FirstBlocks.{lines_000, lines_040, lines_080, lines_120, lines_160, lines_200, lines_240}

@@ -10,7 +10,7 @@ use Rattle.object_defs.specs.declared.spot.Spot.TheVariants as spot
 use Rattle.asm_defs.specs.Locations.{Line}
 use Rattle.asm_defs.specs.FirstChecks.{check, line_of, external_entries, refs_in}
 use Rattle.line_laws.specs.KnownLines.{KnownLine, names_in, all_names, are_plain, is_plain, is_plain_statement}
-use Rattle.line_laws.proofs.Laying.{laid_list, plain_free}
+use Rattle.line_laws.proofs.LaidLines.{laid_list, plain_free}
 use Rattle.line_laws.proofs.Whole.{front, final, all_laid}
 use Rattle.native_interp.specs.declared.addresses.TheConstants.{GBOOT}
 use Rattle.line_table.specs.Table.{defined}

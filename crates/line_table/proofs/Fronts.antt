@@ -6,7 +6,7 @@ use Rattle.asm_defs.specs.declared.location.Location.{Location}
 use Rattle.line_laws.specs.Laws.{looks}
 use Rattle.line_table.specs.declared.line_row.LineRow.{LineRow}
 use Rattle.line_table.specs.Table.{rows, defined}
-use Rattle.line_table.proofs.Reading.{Reads, reads_of, join, take_on}
+use Rattle.line_table.proofs.RowLines.{Reads, reads_of, join, take_on}
 use Rattle.line_table.proofs.Blocks.{Block, texts, place}
 
 -- so many lines from the first on, with so many names

@@ -15,7 +15,7 @@ use Rattle.line_laws.specs.Texts.{IsWithoutControls}
 use Rattle.line_laws.specs.Laws.{HaveWords}
 use Rattle.line_laws.proofs.FedTexts.{fed_texts_have_their_lines}
 use Rattle.line_laws.proofs.Whole.{have_their_words}
-use Rattle.line_laws.proofs.Linking.{are_words, memory_of, module_linked, word_found, pair_found}
+use Rattle.line_laws.proofs.LinkedPieces.{are_words, memory_of, module_linked, word_found, pair_found}
 use Rattle.native_interp.specs.Source.{lines, source}
 use Rattle.native_interp.specs.Words.{words}
 use Rattle.native_interp.specs.declared.addresses.TheConstants.{GBOOT, ORIGIN, WORD_COUNT}

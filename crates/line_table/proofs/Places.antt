@@ -11,8 +11,8 @@ use Rattle.asm_defs.specs.SecondChecks.{Outcome, Nothing, Words, Bytes, Entry}
 use Rattle.line_laws.specs.KnownLines as known
 use Rattle.line_laws.specs.KnownLines.{KnownLine, words_in, is_plain, are_plain, is_plain_statement}
 use Rattle.line_laws.specs.Laws.{StandsIn}
-use Rattle.line_laws.proofs.Placing.{are_numbers}
-use Rattle.line_laws.proofs.Standing.{known_lines_stand}
+use Rattle.line_laws.proofs.PlacedWords.{are_numbers}
+use Rattle.line_laws.proofs.Locations.{known_lines_stand}
 use Rattle.native_interp.specs.Source.{lines}
 use Rattle.native_interp.specs.Words.{words}
 use Rattle.native_interp.specs.declared.addresses.TheConstants.{GBOOT}
@@ -24,7 +24,7 @@ use Rattle.line_table.specs.declared.rows.flow.TheConstants.{FLOW_ROWS}
 use Rattle.line_table.specs.declared.rows.copy.TheConstants.{COPY_ROWS}
 use Rattle.line_table.specs.Table.{Row, table, as_row, rows, defined, nothing, no_row, location_of, words_of}
 use Rattle.line_table.specs.Rows.{Places, IsRow}
-use Rattle.line_table.proofs.Reading.{Shown, shown, row_shown}
+use Rattle.line_table.proofs.RowLines.{Shown, shown, row_shown}
 use Rattle.line_table.proofs.Counts.{line_count, most}
 use Rattle.line_table.proofs.Known.{last, ending, front_texts, front_lines, are_known, lines_are}
 use Rattle.line_table.proofs.Chain.{to_last}

@@ -23,12 +23,12 @@ use Rattle.object_defs.specs.Reading.{NumberedLine, numbered_line, has_line_feed
 use Rattle.object_laws.specs.Running.{OpenModule, opened, begun, more, Kept, nothing_kept, with_current, kept_groups, kept_line, kept_lines}
 use Rattle.object_defs.specs.Laws.{FitsSpot, FitsPiece, FitsDefinition, FitsReference, IsModule, WrittenModulesAreRead}
 use Rattle.object_defs.proofs.FieldsAgain.{number_again, module_name_again, digits_length}
-use Rattle.object_laws.proofs.Adding.{leads, Adds, group_adds, with_piece, piece_adds, with_def, definition_adds, with_ref, reference_adds, with_entry_at}
-use Rattle.object_laws.proofs.Adding.{entry_adds}
+use Rattle.object_laws.proofs.AddedGroups.{leads, Adds, group_adds, with_piece, piece_adds, with_def, definition_adds, with_ref, reference_adds, with_entry_at}
+use Rattle.object_laws.proofs.AddedGroups.{entry_adds}
 use Rattle.object_defs.proofs.FirstLine.{left_lines, first_line}
 use Rattle.object_defs.proofs.Characters.{behind_each_other, decimal_number_prints, padded_prints, summed_prints, piece_prints, definition_prints}
 use Rattle.object_defs.proofs.Characters.{reference_prints, entry_prints, header_prints, name_padded, name_length}
-use Rattle.object_laws.proofs.Running.{read_is}
+use Rattle.object_laws.proofs.ReaderRuns.{read_is}
 
 -- ---- a line up to its line feed
 

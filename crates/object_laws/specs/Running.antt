@@ -1,5 +1,5 @@
 -- What a reader may keep of the groups that it has read, in place of the groups: the module so far, and a load address
--- that each word moves. No rule stands here; that reading so is reading is proved (`proofs/Running`).
+-- that each word moves. No rule stands here; that reading so is reading is proved (`proofs/ReaderRuns`).
 use Rattle.std.specs.Prelude.{ℕ, ◌++◌, Bool, true, false, if◌then◌else◌, List, [], ◌∷◌, length, Option, Some, None}
 use Rattle.std.specs.Prelude.{Result, Ok, Err}
 use Rattle.source_defs.specs.Refusals.{Refusal, ◌>>=◌, at_line}

@@ -3,7 +3,7 @@ use Rattle.std.proofs.Common.{◌≡◌, ℕ, zero, suc, ◌+◌, ◌<◌, ◌�
 use Rattle.std.proofs.Common.{append_assoc, append-nil, length-drop, arith}
 use Rattle.bench_io.specs.Stream.{SinkState}
 use Rattle.bench_io.specs.Written.{Wrote, Missed}
-use Rattle.bench_io.proofs.Writing.{wrote_more, missed_more, missed_early}
+use Rattle.bench_io.proofs.Writes.{wrote_more, missed_more, missed_early}
 use Rattle.source_defs.specs.Characters.{is_line_feed}
 use Rattle.report_defs.specs.TextLines.{in_front, text_lines, first_line}
 

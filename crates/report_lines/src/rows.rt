@@ -25,7 +25,7 @@ pub fn put_rows<O: Sink>(first: u16, bytes: &[u8], out: &mut O) -> Result<(), Fa
 }
 
 /// Writes what a dump shows for the row with a number.
-#[tactic(auto, using(bench_io::proofs::Writing::wrote_none))]
+#[tactic(auto, using(bench_io::proofs::Writes::wrote_none))]
 fn put_row<O: Sink>(first: u16, bytes: &[u8], number: usize, out: &mut O) -> Result<(), Failed>
     requires place { first + length bytes.now ≤ 65536 }
     requires number { number < length bytes.now / 16 }

@@ -4,7 +4,7 @@ use Rattle.std.proofs.Common.{ap, ◌∙◌, append_assoc, append-nil, drop-drop
 use Rattle.std.specs.Prelude.{codes}
 use Rattle.bench_io.specs.Stream.{SinkState}
 use Rattle.bench_io.specs.Written.{Wrote, Missed}
-use Rattle.bench_io.proofs.Writing.{wrote_none, wrote_more, missed_more, missed_early}
+use Rattle.bench_io.proofs.Writes.{wrote_none, wrote_more, missed_more, missed_early}
 use Rattle.source_defs.specs.Digits.{hex_byte}
 use Rattle.tms_defs.specs.Words.{join}
 use Rattle.instruction_defs.specs.Printed.{printed}

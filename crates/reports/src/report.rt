@@ -107,7 +107,7 @@ impl Report {
 }
 
 /// Writes bytes by one call, or by none where there are none.
-#[tactic(auto, using(bench_io::proofs::Writing::wrote_none))]
+#[tactic(auto, using(bench_io::proofs::Writes::wrote_none))]
 fn put_image<O: Sink>(out: &mut O, bytes: &[u8]) -> Result<(), Failed>
     ensures { Written result (O.state out.old) (O.state out.new) (spec.one_piece bytes.now) }
 {

@@ -58,7 +58,7 @@ fn put_found<O: Sink>(found: Found, out: &mut O) -> Result<(), Failed>
 }
 
 /// Writes how a program ended, if it did and nothing was found.
-#[tactic(auto, using(bench_io::proofs::Writing::wrote_none))]
+#[tactic(auto, using(bench_io::proofs::Writes::wrote_none))]
 fn put_end<O: Sink>(watched: &Watched, out: &mut O) -> Result<(), Failed>
     ensures { Written result (O.state out.old) (O.state out.new) (end_lines watched.now.found watched.now.session) }
 {

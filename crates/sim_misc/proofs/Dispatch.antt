@@ -4,9 +4,9 @@ use Rattle.sim_rows.specs.Prelude.{AtEntry, HasStarted}
 use Rattle.sim_rows.proofs.Common.{AtDispatch, Byte, EX, GplOperation, GplState, is_row, IsVisible, LoadsFrom, LoadsFromSource, MachineState}
 use Rattle.sim_rows.proofs.Common.{most_of_exchange_row, most_to_dispatch, operation_entry, operation_in_view, Place, row_width, RunsRow, size_of, space_small}
 use Rattle.sim_rows.proofs.Common.{Stands, state_at_dispatch, Stepped, Turned, Two, TwoName, view, visible_of, Width, Word}
-use Rattle.sim_rows.proofs.Rowing.{source_visible}
+use Rattle.sim_rows.proofs.WholeRows.{source_visible}
 use Rattle.sim_misc.specs.Family.{is_exchange, is_misc}
-use Rattle.sim_misc.proofs.Exchanging.{source_place}
+use Rattle.sim_misc.proofs.Exchanges.{source_place}
 use Rattle.sim_rows.proofs.Family as family
 
 pub rows : (o : Option GplOperation) → is_exchange o ≡ true → is_row o ≡ true

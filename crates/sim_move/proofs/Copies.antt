@@ -11,7 +11,7 @@ use Rattle.sim_move.specs.Family.{is_move}
 use Rattle.sim_move.specs.Moves.{Arrives, AsksAddress, AsksTarget, AtCopy, copy_in, FindsCopy, FindsLength, FindsTarget, IndexesSource, length_read, LengthTold}
 use Rattle.sim_move.specs.Moves.{source_entry, source_read, SourceTold, target_in, target_read, TargetTold, TurnsToSource}
 use Rattle.sim_move.proofs.Codes.{has_index, told}
-use Rattle.sim_move.proofs.Arriving.{both, Found, found, missing}
+use Rattle.sim_move.proofs.Arrivals.{both, Found, found, missing}
 use Rattle.sim_move.proofs.Numbers.{within_is}
 
 -- a MOVE is of some kind

@@ -6,10 +6,10 @@ use Rattle.sim_rows.proofs.Common.{ShowsState, Stands, Stepped, Stopped, stops, 
 use Rattle.sim_copy.specs.Copying.{CopiesBytes, StandsFrom}
 use Rattle.sim_move.specs.Family.{is_move}
 use Rattle.sim_move.specs.Moves.{AtCopy, begun, copy_in, FindsCopy, MayCopy, source_read, target_read}
-use Rattle.sim_move.proofs.Arriving.{Found, found, Missing, missing}
+use Rattle.sim_move.proofs.Arrivals.{Found, found, Missing, missing}
 use Rattle.sim_move.proofs.Copies.{kind_of}
 use Rattle.sim_move.proofs.Lies.{FromLies, registers_there, source_lies, source_visible, target_lies, target_visible, ToLies}
-use Rattle.sim_move.proofs.Moving.{bound_is, made, no_exit, parts, step_copies, step_stops}
+use Rattle.sim_move.proofs.MoveSteps.{bound_is, made, no_exit, parts, step_copies, step_stops}
 
 -- where GROM stands before the first byte
 abbrev place_in_grom : Changes → From → ℕ

@@ -7,7 +7,7 @@ use Rattle.sim_rows.proofs.Common.{SeesFinished, shifted, size_of, SLA, Source, 
 use Rattle.sim_rows.proofs.Common.{Storing, Two, unchanged, value_at, View, view, Width, width_in, with_double, with_value, Word}
 use Rattle.sim_muldiv.specs.Family.{is_muldiv, IsReady}
 use Rattle.sim_muldiv.proofs.Numbers.{byte_product, high_of}
-use Rattle.sim_muldiv.proofs.Turning.{as_byte, as_word, byte_fits_at, exits_by, first_visible, loaded_is, second_visible, width_there, word_visible}
+use Rattle.sim_muldiv.proofs.RowFacts.{as_byte, as_word, byte_fits_at, exits_by, first_visible, loaded_is, second_visible, width_there, word_visible}
 use Rattle.sim_muldiv.specs.Pieces as pieces
 
 is_mul : (s : GplState) → operation_in s ≡ Some (Two MUL) → is_muldiv (operation_in s) ≡ true

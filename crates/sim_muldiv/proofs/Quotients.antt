@@ -14,7 +14,7 @@ use Rattle.sim_muldiv.specs.Family.{AreVisible, Divided, dividend_in, Divides, E
 use Rattle.sim_muldiv.specs.Family.{second_in}
 use Rattle.sim_muldiv.proofs.Numbers.{byte_divides, byte_fits, divisor_down, high_of, low_of, no_first_word, quotient_fits, remainder_fits, together}
 use Rattle.sim_muldiv.proofs.Numbers.{word_divides}
-use Rattle.sim_muldiv.proofs.Turning.{loaded_is, ready_again, second_visible, width_if, width_there, word_fits_at, word_visible}
+use Rattle.sim_muldiv.proofs.RowFacts.{loaded_is, ready_again, second_visible, width_if, width_there, word_fits_at, word_visible}
 use Rattle.sim_muldiv.specs.Pieces as pieces
 
 is_div : (s : GplState) → operation_in s ≡ Some (Two DIV) → is_muldiv (operation_in s) ≡ true

@@ -3,12 +3,12 @@ pub use Rattle.sim_view.proofs.Common.{comes, comes_as, comes_on, comes_then, gi
 pub use Rattle.sim_view.proofs.Common.{on, Part, part_then, pick, piece, previous-next, reg_word, Rest}
 pub use Rattle.sim_view.specs.Bounds.{most_of_address, most_of_alu_row, most_of_byte, most_of_case_row, most_of_exchange_row, most_of_load, most_of_product_row}
 pub use Rattle.sim_view.specs.Bounds.{most_of_quotient_row, most_of_shift_row, most_of_stack_row, most_of_store, most_to_copy}
-pub use Rattle.sim_operands.proofs.Addressing.{Answers, index_read, IndexRead, range_read, RangeRead}
+pub use Rattle.sim_operands.proofs.AddressPieces.{Answers, index_read, IndexRead, range_read, RangeRead}
 pub use Rattle.sim_operands.proofs.Facts.{at_most, byte_is, down, no_other, not_limit, spot_cell}
 pub use Rattle.sim_operands.proofs.Paths.{rest_is}
 pub use Rattle.sim_operands.proofs.Ready.{idle_grom, idle_video, ready, set_is}
 pub use Rattle.sim_rows.proofs.Again.{begins, fetched_again, first_way, idle_again, idle_told, second_way}
-pub use Rattle.sim_rows.proofs.Beginning.{back_is, from, just, known, located_at, lost, where_found}
+pub use Rattle.sim_rows.proofs.StepStart.{back_is, from, just, known, located_at, lost, where_found}
 pub use Rattle.sim_rows.proofs.Codes.{if_true, one_below, two_above}
 pub use Rattle.sim_rows.proofs.Ends.{fetched_of, idle_of, leaves, matches, reaches, same_state, state_at, stops, turned_by, turned_from}
 pub use Rattle.sim_rows.proofs.Facts.{not_above}
@@ -16,11 +16,11 @@ pub use Rattle.sim_rows.proofs.FirstOperand.{operand_stop, barred_stops, finds_o
 pub use Rattle.sim_rows.proofs.FirstOperand.{space_small}
 pub use Rattle.sim_rows.proofs.Operands.{value_same, visible_of}
 pub use Rattle.sim_rows.proofs.Places.{Lies, lies_at, place_lies}
-pub use Rattle.sim_rows.proofs.Rowing.{both, destination_visible, row_changed}
+pub use Rattle.sim_rows.proofs.WholeRows.{both, destination_visible, row_changed}
 pub use Rattle.sim_rows.proofs.Sources.{code_fits}
 pub use Rattle.sim_rows.proofs.Steps.{bound_made, bound_stop, place_same, step_branch, step_byte, step_jump, step_move, step_none, step_plain}
-pub use Rattle.sim_rows.proofs.Storing.{changed_again, ChangedFrom, store_then, stored_idle, storing_again, value_keeps, width_again}
-pub use Rattle.sim_rows.proofs.Telling.{stands_at}
+pub use Rattle.sim_rows.proofs.StoredResults.{changed_again, ChangedFrom, store_then, stored_idle, storing_again, value_keeps, width_again}
+pub use Rattle.sim_rows.proofs.RowStart.{stands_at}
 pub use Rattle.sim_rows.specs.Prelude.{◌>>=◌, absolute_flags, absolute_of, ABSV, ADDR, Addressed, ADDV, ALL, ANDV, Answer, AreTurns, Asking, ASPACE, AtDispatch}
 pub use Rattle.sim_rows.specs.Prelude.{AtRow, B, BACK, OperandStop, behind, behind_code, behind_first, bit_of, bound, bound_at, bound_by, BRANCH, Branch, branched}
 pub use Rattle.sim_rows.specs.Prelude.{BTARG, Byte, byte_at, byte_from, byte_in, bytes_by, bytes_or_none, CALL, CALLN, CALLS, CARRY, CASE, CASEN, CASET, CASEV}

@@ -8,8 +8,8 @@ use Rattle.sim_view.specs.gpl_step_defs.declared.reason.Reason.{Reason}
 use Rattle.sim_view.specs.gpl_step_defs.declared.reason.Reason.TheVariants.{Exit}
 use Rattle.sim_rows.proofs.Ends.{fetched_of, idle_of}
 use Rattle.sim_rows.proofs.FirstOperand.{space_small}
-use Rattle.sim_rows.proofs.Storing.{width_again}
-use Rattle.sim_rows.proofs.Rowing.{destination_visible, Started, started, stopped_row, turned_or_stopped, turned_row}
+use Rattle.sim_rows.proofs.StoredResults.{width_again}
+use Rattle.sim_rows.proofs.WholeRows.{destination_visible, Started, started, stopped_row, turned_or_stopped, turned_row}
 use Rattle.sim_view.specs.gpl_defs.declared.instruction.OneName.TheVariants as one
 use Rattle.sim_view.specs.gpl_defs.declared.instruction.TwoName.TheVariants as two
 use Rattle.sim_view.specs.gpl_defs.declared.instruction.GplOperation.TheVariants as operation

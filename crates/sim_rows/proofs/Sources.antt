@@ -10,7 +10,7 @@ use Rattle.sim_rows.specs.Prelude.{width_in, word_of, word_or_byte}
 use Rattle.sim_view.specs.gpl_defs.Reading.{value_at as value_in}
 use Rattle.sim_operands.proofs.Transfers.{streams}
 use Rattle.sim_rows.proofs.Again.{first_way, second_way}
-use Rattle.sim_rows.proofs.Beginning.{from, known}
+use Rattle.sim_rows.proofs.StepStart.{from, known}
 use Rattle.sim_rows.proofs.FirstOperand.{finds_of, holds_again, space_small, width_of_size}
 use Rattle.sim_rows.proofs.Operands.{bars_second, finds_second, Found, immediate_bit, Loading, loads, Operand, value_same}
 use Rattle.sim_rows.specs.sim_operands.Pieces as operands

@@ -19,7 +19,7 @@ use Rattle.sim_view.proofs.Answers.{given, given_by}
 use Rattle.sim_view.proofs.Lists.{double_suc, listed-relisted, spell-words, length-words, words-spell}
 use Rattle.sim_view.proofs.Seen.{spell, seen_run}
 use Rattle.sim_view.proofs.Simulates.{Shows}
-use Rattle.sim_view.proofs.Following.{machine, followed}
+use Rattle.sim_view.proofs.ViewRuns.{machine, followed}
 
 -- The state in which a piece begins.
 abbrev pub at : View → Status → ℕ → Cpu View

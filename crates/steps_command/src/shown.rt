@@ -35,7 +35,7 @@ pub(crate) fn write_run<O: Sink>(
 }
 
 /// Writes how a run ended, the machine that it left, and its expansion memory.
-#[tactic(auto, using(bench_io::proofs::Writing::written_more, bench_io::proofs::Writing::missed_early))]
+#[tactic(auto, using(bench_io::proofs::Writes::written_more, bench_io::proofs::Writes::missed_early))]
 fn put_left<O: Sink>(ending: RunEnd, machine: &Machine, out: &mut O) -> Result<(), Failed>
     ensures { Written result (O.state out.old) (O.state out.new)
         (exec_lines ending machine.now ++ expansion_lines machine.now.cpu.memory) }

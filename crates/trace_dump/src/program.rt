@@ -13,7 +13,7 @@ use gpl_step_defs::Reason;
 use report_defs::Status;
 
 /// Writes how a program ended, if it did. It takes no memory.
-#[tactic(auto, using(bench_io::proofs::Writing::wrote_none))]
+#[tactic(auto, using(bench_io::proofs::Writes::wrote_none))]
 pub fn put_stop<O: Sink>(session: &Session, out: &mut O) -> Result<(), Failed>
     ensures { Written result (O.state out.old) (O.state out.new)
         (spec.stop_lines session.now.ended (seen session.now).pc) }

@@ -11,7 +11,7 @@ use report_lines::{Line, append, append_word};
 use tms_step::Machine;
 
 /// Writes the sixteen registers of the workspace, where it can be shown.
-#[tactic(auto, unfolding(report_defs::specs::Dump::workspace_lines), using(bench_io::proofs::Writing::written_more))]
+#[tactic(auto, unfolding(report_defs::specs::Dump::workspace_lines), using(bench_io::proofs::Writes::written_more))]
 pub(crate) fn put_workspace<O: Sink>(machine: &Machine, out: &mut O) -> Result<(), Failed>
     ensures { Written result (O.state out.old) (O.state out.new) (spec.workspace_lines machine.now.cpu) }
 {

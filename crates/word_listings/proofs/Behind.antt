@@ -23,8 +23,8 @@ use Rattle.asm_defs.specs.Memory.{Settled}
 use Rattle.asm_defs.specs.Modules.{settle, settle_at, with_room, module_by, title, entry}
 use Rattle.line_laws.specs.KnownLines.{numbers_of, is_at}
 use Rattle.source_defs.specs.OperandLists.{is_empty}
-use Rattle.line_laws.proofs.Placing.{HoldWords, ComesNext, hold_more}
-use Rattle.line_laws.proofs.Settling.{has_room}
+use Rattle.line_laws.proofs.PlacedWords.{HoldWords, ComesNext, hold_more}
+use Rattle.line_laws.proofs.SecondChecks.{has_room}
 use Rattle.line_laws.proofs.Small.{chosen}
 use Rattle.word_listings.proofs.LineBacks.{absolute_at, LineBack, Counts, come_unless, words_back}
 use Rattle.std.proofs.Common.{length-append, append_assoc, append-nil, take-append-drop, length-take-le, take, drop, sym, subst}

@@ -11,7 +11,7 @@ use Rattle.link_defs.specs.Placing.{sections, first_base, word_at, words_of}
 use Rattle.link_defs.specs.First.{first_behind}
 use Rattle.link_defs.specs.LinkedMemory.{linked, linked_parts, is_outside, is_loadable}
 use Rattle.line_laws.specs.KnownLines.{pieces_of}
-use Rattle.line_laws.proofs.Linking.{are_words, pairs_of, pairs_there, none_taken, all_filled, append_empty, memory_of, word_found, pair_found}
+use Rattle.line_laws.proofs.LinkedPieces.{are_words, pairs_of, pairs_there, none_taken, all_filled, append_empty, memory_of, word_found, pair_found}
 use Rattle.word_listings.specs.Modules.{padded_words, module_of_words, unless_far}
 use Rattle.word_listings.specs.Linking.{first_outside, GivesWords, LinksTo, ModulesOfWordsLink, EnteredListingsLink}
 use Rattle.word_listings.proofs.Instructions.{AreWords}

@@ -23,7 +23,7 @@ use Rattle.asm_defs.specs.Locations.{Line, start}
 use Rattle.asm_defs.specs.FirstChecks.{Checked, parsed, moved, check, line_of, names, set_to, is_end}
 use Rattle.asm_defs.specs.SecondChecks.{Nothing, outcome, Outcome}
 use Rattle.asm_defs.specs.Modules.{settle, module_by, module_behind, module_of_source}
-use Rattle.line_laws.proofs.Placing.{HoldWords}
+use Rattle.line_laws.proofs.PlacedWords.{HoldWords}
 use Rattle.line_laws.proofs.Whole.{none_by, room_still, hold_still}
 use Rattle.word_listings.specs.Listing.{memory_listing, words_in, lines_from, odd_byte_lines}
 use Rattle.listed_lines.proofs.DigitLaws.{word_passes}
@@ -36,7 +36,7 @@ use Rattle.word_listings.proofs.Slots.{known, word_value}
 use Rattle.word_listings.proofs.Instructions.{AreWords, instr_at-signed}
 use Rattle.word_listings.proofs.LineBacks.{absolute_at, byte_line, end_text, end_line, IsEntry, words_back, LineBack}
 use Rattle.word_listings.proofs.Behind.{Stands, Holds, Ends, same_place, texts_from, goes_from, Closes}
-use Rattle.word_listings.proofs.Closing.{closes_end, breaks_end, closes_byte, breaks_byte, words_held}
+use Rattle.word_listings.proofs.LastLines.{closes_end, breaks_end, closes_byte, breaks_byte, words_held}
 use Rattle.source_defs.specs.Names.{is_word}
 use Rattle.std.specs.Prelude.{ℤ, pos, negsuc, FitsSigned, IfSome, if◌then◌else◌}
 use Rattle.std.specs.Int.{w8}

@@ -1,7 +1,7 @@
 use Rattle.std.proofs.Common.{◌<◌, length, ap, ◌∙◌, arith}
 use Rattle.std.proofs.lemmas.Bool.Decides.{nat_tests}
 use Rattle.object_defs.specs.Digits.{padded}
-use Rattle.asm_checks.proofs.Padding.{padded_more}
+use Rattle.asm_checks.proofs.PaddedNames.{padded_more}
 use Rattle.asm_checks.proofs.titles.title_in.Goals as goal
 
 pub loop-name-preserved : goal.loop-name-preserved

@@ -4,7 +4,7 @@ use Rattle.reports.specs.Outputs.{Outputs}
 use Rattle.bench_commands.specs.Bench.{bench_input}
 use Rattle.bench_commands.proofs.NoUsage.{no_usage}
 use Rattle.bench_commands.proofs.Ends.{by_unread, by_answer}
-use Rattle.bench_commands.proofs.Tracing.{by_prepared}
+use Rattle.bench_commands.proofs.Traces.{by_prepared}
 use Rattle.bench_commands.proofs.running.run_command.Goals as goal
 
 pub returns-in-Err : goal.returns-in-Err

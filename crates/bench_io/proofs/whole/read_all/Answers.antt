@@ -1,7 +1,7 @@
 use Rattle.std.proofs.Common.{◌≡◌, ◌≤◌, [], length, take, drop, ◌++◌, ap, ◌∙◌, refl, arith, rules, length-append, length-take}
 use Rattle.std.proofs.lemmas.Result.{err_from_is_err_and}
 use Rattle.std.proofs.lemmas.List.{take-append-le}
-use Rattle.bench_io.proofs.Taking.{took_then, took_more, took_last, largest_last, rose_since, few_calls}
+use Rattle.bench_io.proofs.TakeCalls.{took_then, took_more, took_last, largest_last, rose_since, few_calls}
 use Rattle.bench_io.proofs.whole.read_all.Goals as goal
 
 pub loop-bytes-preserved : goal.loop-bytes-preserved

@@ -1,4 +1,4 @@
-use Rattle.bench_shelf.proofs.Reading.{asks_fault, asks_memory}
+use Rattle.bench_shelf.proofs.FileReads.{asks_fault, asks_memory}
 use Rattle.bench_shelf.proofs.named_file.read_named.Goals as goal
 
 pub returns-in-Err-Fault-clause-refused : goal.returns-in-Err-Fault-clause-refused

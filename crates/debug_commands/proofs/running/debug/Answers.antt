@@ -2,7 +2,7 @@ use Rattle.std.proofs.Common.{Option, refl, subst}
 use Rattle.debug_report_defs.specs.declared.command.DebugCommand.{DebugCommand}
 use Rattle.reports.specs.Run.{EndsSaid, Run}
 use Rattle.debug_commands.specs.Debug.{Reading, debug_program}
-use Rattle.debug_commands.proofs.Taking.{takes_of_shelf}
+use Rattle.debug_commands.proofs.ShelfUse.{takes_of_shelf}
 use Rattle.debug_commands.proofs.running.debug.Goals as goal
 
 pub returns-in-Some-clause-ends : goal.returns-in-Some-clause-ends

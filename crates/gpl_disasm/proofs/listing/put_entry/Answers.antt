@@ -2,7 +2,7 @@ use Rattle.std.proofs.Common.{[], ◌∷◌, map}
 use Rattle.std.proofs.lemmas.List.{map-append}
 use Rattle.std.proofs.lemmas.Result.{err_from_is_err_and}
 use Rattle.source_defs.specs.ListedLines.{listing_line}
-use Rattle.bench_io.proofs.Writing.{missed_early, written_more}
+use Rattle.bench_io.proofs.Writes.{missed_early, written_more}
 use Rattle.gpl_listing_defs.specs.Listing.{listed_at, origin_texts_at}
 use Rattle.gpl_disasm.proofs.listing.put_entry.Goals as goal
 

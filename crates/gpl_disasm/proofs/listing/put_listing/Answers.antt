@@ -3,7 +3,7 @@ use Rattle.std.proofs.lemmas.List.{map-append}
 use Rattle.std.specs.Prelude.{codes}
 use Rattle.std.proofs.lemmas.Result.{err_from_is_err_and}
 use Rattle.source_defs.specs.ListedLines.{listing_line}
-use Rattle.bench_io.proofs.Writing.{missed_early, missed_more, written_more}
+use Rattle.bench_io.proofs.Writes.{missed_early, missed_more, written_more}
 use Rattle.gpl_listing_defs.specs.Listing.{origin_texts, texts_from, grom_listing}
 use Rattle.gpl_disasm.proofs.listing.put_listing.Goals as goal
 

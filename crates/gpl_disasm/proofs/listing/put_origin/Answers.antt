@@ -3,7 +3,7 @@ use Rattle.std.specs.Prelude.{codes}
 use Rattle.std.proofs.lemmas.Result.{err_from_is_err_and}
 use Rattle.source_defs.specs.Digits.{hex_word}
 use Rattle.source_defs.specs.ListedLines.{listing_line}
-use Rattle.bench_io.proofs.Writing.{missed_early, written_more}
+use Rattle.bench_io.proofs.Writes.{missed_early, written_more}
 use Rattle.gpl_disasm.proofs.listing.put_origin.Goals as goal
 
 pub returns-in_err-put_chunk : goal.returns-in_err-put_chunk

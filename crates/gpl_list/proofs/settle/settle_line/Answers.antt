@@ -1,6 +1,6 @@
 use Rattle.std.proofs.Common.{sym, ◌∙◌}
 use Rattle.gpl_lines.specs.Defined.{defined_outcome}
-use Rattle.gpl_list.proofs.Placing.{fits, placed_there, refused_there, bytes_there}
+use Rattle.gpl_list.proofs.PlacedLines.{fits, placed_there, refused_there, bytes_there}
 use Rattle.gpl_list.proofs.settle.settle_line.Goals as goal
 
 pub returns-in-Ok : goal.returns-in-Ok

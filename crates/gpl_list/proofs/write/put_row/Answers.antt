@@ -1,7 +1,7 @@
 use Rattle.std.proofs.Common.{◌≡◌, ℕ, List, ◌+◌, ◌/◌, ◌%◌, length, drop, sym, ap, subst, ◌∙◌, arith}
 use Rattle.std.proofs.lemmas.Result.{err_from_is_err_and}
 use Rattle.bench_io.specs.Written.{Written}
-use Rattle.bench_io.proofs.Writing.{missed_at, written_behind}
+use Rattle.bench_io.proofs.Writes.{missed_at, written_behind}
 use Rattle.gpl_list_defs.specs.Text.{line_text, further_lines, row_lines}
 use Rattle.gpl_list.specs.Reading.{defined_row}
 use Rattle.gpl_list.proofs.Further.{rows_wrap}

@@ -1,7 +1,7 @@
 use Rattle.std.proofs.Common.{◌∙◌, sym, subst, rules}
 use Rattle.asm_core.specs.Finishing.{RefusesAt}
 use Rattle.line_table.proofs.Joined.{source_gives_words}
-use Rattle.gpl_run.proofs.Feeding.{none_taken, all_taken}
+use Rattle.gpl_run.proofs.FurtherLines.{none_taken, all_taken}
 use Rattle.gpl_run.proofs.assembling.interpreter_module.Goals as goal
 
 pub take_source-requires : goal.take_source-requires

@@ -4,7 +4,7 @@ use Rattle.asm_core.specs.Finishing.{RefusesAt}
 use Rattle.asm_defs.specs.FirstChecks.{check}
 use Rattle.source_defs.specs.Layout.{laid, numbered}
 use Rattle.line_table.proofs.Joined.{source_gives_words}
-use Rattle.gpl_run.proofs.Feeding.{goes_on, stays_ended, refused}
+use Rattle.gpl_run.proofs.FurtherLines.{goes_on, stays_ended, refused}
 use Rattle.gpl_run.proofs.assembling.take_line.Goals as goal
 
 pub returns-then-is_ended : goal.returns-then-is_ended

@@ -2,7 +2,7 @@ use Rattle.std.proofs.Common.{◌≡◌, sym, arith, ◌∙◌}
 use Rattle.std.proofs.lemmas.Option.{slice_get-get_or}
 use Rattle.gpl_run.specs.Sessions.{seen}
 use Rattle.gpl_watch.proofs.Kept.{kept_items, keeps, kept_from}
-use Rattle.gpl_watch.proofs.Watching
+use Rattle.gpl_watch.proofs.WatchedRuns
 use Rattle.gpl_watch.proofs.run.run_watched.Goals as goal
 
 pub loop-made-init : goal.loop-made-init

@@ -1,5 +1,5 @@
 use Rattle.gpl_watch.specs.Watches.{items_of}
-use Rattle.gpl_watch.proofs.Watching.{Watching}
+use Rattle.gpl_watch.proofs.WatchedRuns.{Watching}
 use Rattle.gpl_watch.proofs.run.run_watched.Given as goal
 
 -- so many steps were made, and no item held

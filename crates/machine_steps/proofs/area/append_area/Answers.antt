@@ -1,8 +1,8 @@
 use Rattle.std.proofs.Common.{◌+◌, ◌++◌, slice_index_or, refl, sym, ap, subst, length, ◌≤◌, List, ℕ, ◌∙◌, arith}
 use Rattle.std.proofs.lemmas.Bool.Decides.{nat_tests}
 use Rattle.step_changes.proofs.Neighbours.{change, change_is}
-use Rattle.step_changes.proofs.Appending.{unchanged}
-use Rattle.machine_steps.proofs.Appending.{append_none, append_more}
+use Rattle.step_changes.proofs.AppendedChanges.{unchanged}
+use Rattle.machine_steps.proofs.AppendedChanges.{append_none, append_more}
 use Rattle.machine_steps.proofs.area.append_area.Goals as goal
 
 pub loop-from-init : goal.loop-from-init

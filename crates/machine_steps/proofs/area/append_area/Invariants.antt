@@ -1,5 +1,5 @@
 use Rattle.std.proofs.Common.{◌-◌, length}
-use Rattle.machine_steps.proofs.Appending.{Appending}
+use Rattle.machine_steps.proofs.AppendedChanges.{Appending}
 use Rattle.machine_steps.proofs.area.append_area.Given as goal
 
 -- the changes up to a place stand in the line

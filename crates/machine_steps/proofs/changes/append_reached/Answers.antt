@@ -2,7 +2,7 @@ use Rattle.std.proofs.Common.{◌++◌, List, ℕ, sym, ap, subst, ◌∙◌, ap
 use Rattle.machine_change_defs.specs.Seen.{seen_memory}
 use Rattle.machine_steps.specs.declared.reach.Reach.{Reach}
 use Rattle.machine_steps.specs.Reach.{Stays}
-use Rattle.machine_steps.proofs.Staying.{nothing_shown}
+use Rattle.machine_steps.proofs.UnchangedParts.{nothing_shown}
 use Rattle.machine_steps.proofs.changes.append_reached.Goals as goal
 
 pub returns-in-Nothing-clause-text : goal.returns-in-Nothing-clause-text

@@ -3,7 +3,7 @@ use Rattle.std.specs.List.{flat_map}
 use Rattle.machine_change_defs.specs.Seen.{SeenMemory, seen_memory, workspace_place, workspace_at, with_workspace}
 use Rattle.machine_change_defs.specs.Changes.{register_changes, other_changes}
 use Rattle.machine_change_defs.specs.Text.{register_text, bytes_text, ports_text, changes_text}
-use Rattle.machine_steps.proofs.Staying.{ports_none, workspace_keeps}
+use Rattle.machine_steps.proofs.UnchangedParts.{ports_none, workspace_keeps}
 use Rattle.machine_steps.proofs.changes.append_words.Goals as goal
 
 pub returns-clause-text : goal.returns-clause-text

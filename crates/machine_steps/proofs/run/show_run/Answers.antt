@@ -1,8 +1,8 @@
 use Rattle.std.proofs.Common.{◌≡◌, ◌+◌, refl, arith}
 use Rattle.std.proofs.lemmas.Result.{err_from_is_err_and}
 use Rattle.std.proofs.lemmas.Bool.Decides.{nat_tests}
-use Rattle.machine_steps.proofs.Showing
-use Rattle.machine_steps.proofs.Staying.{stays_at}
+use Rattle.machine_steps.proofs.ShownRuns
+use Rattle.machine_steps.proofs.UnchangedParts.{stays_at}
 use Rattle.machine_steps.proofs.run.show_run.Goals as goal
 
 pub loop-made-init : goal.loop-made-init

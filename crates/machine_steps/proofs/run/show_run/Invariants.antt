@@ -1,4 +1,4 @@
-use Rattle.machine_steps.proofs.Showing.{Showing}
+use Rattle.machine_steps.proofs.ShownRuns.{Showing}
 use Rattle.machine_steps.proofs.run.show_run.Given as goal
 
 -- so many instructions were executed and shown

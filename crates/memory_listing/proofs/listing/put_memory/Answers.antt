@@ -1,7 +1,7 @@
 use Rattle.std.proofs.Common.{[], ◌∷◌, ◌++◌, map}
 use Rattle.std.specs.FinMap.{entries}
 use Rattle.std.proofs.lemmas.Result.{err_from_is_err_and}
-use Rattle.bench_io.proofs.Writing.{missed_early, missed_more, written_more}
+use Rattle.bench_io.proofs.Writes.{missed_early, missed_more, written_more}
 use Rattle.report_defs.specs.MemoryListing.{entry_line, name_line, rows_from, linked_lines}
 use Rattle.link_loader.specs.View.{defined_linked}
 use Rattle.memory_listing.proofs.listing.put_memory.Goals as goal

@@ -5,7 +5,7 @@ use Rattle.object_defs.specs.declared.causes.TagCause.{TagCause}
 use Rattle.object_defs.specs.Modules as defined
 use Rattle.object_defs.specs.Reading.{read, form_of, text_lines}
 use Rattle.object_laws.specs.Running.{kept_lines, finished}
-use Rattle.object_laws.proofs.Running.{read_is}
+use Rattle.object_laws.proofs.ReaderRuns.{read_is}
 use Rattle.object_tags.specs.Answers.{Gives, defined_modules}
 use Rattle.object_tags.specs.Reads.{kept_of}
 use Rattle.object_tags.proofs.LineSteps.{refuses_same}

@@ -1,5 +1,5 @@
 use Rattle.std.proofs.Common.{arith}
-use Rattle.bench_io.proofs.Writing.{wrote_none}
+use Rattle.bench_io.proofs.Writes.{wrote_none}
 use Rattle.report_lines.proofs.rows.put_row.Goals as goal
 
 pub returns : goal.returns

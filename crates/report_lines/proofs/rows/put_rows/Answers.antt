@@ -1,6 +1,6 @@
 use Rattle.std.proofs.Common.{◌≡◌, ◌≤◌, ◌+◌, ◌/◌, length, arith}
 use Rattle.std.proofs.lemmas.Result.{err_from_is_err_and}
-use Rattle.bench_io.proofs.Writing.{wrote_more, missed_more, missed_early}
+use Rattle.bench_io.proofs.Writes.{wrote_more, missed_more, missed_early}
 use Rattle.report_defs.specs.Rows.{row_lines, rows_lines}
 use Rattle.report_defs.proofs.Ranges.{more, all_split}
 use Rattle.report_lines.proofs.rows.put_rows.Goals as goal

@@ -1,6 +1,6 @@
 use Rattle.std.proofs.Common.{[], ◌∷◌}
 use Rattle.std.proofs.lemmas.Result.{err_from_is_err_and}
-use Rattle.bench_io.proofs.Writing.{missed_early, written_more}
+use Rattle.bench_io.proofs.Writes.{missed_early, written_more}
 use Rattle.report_defs.specs.Dump.{dump_lines}
 use Rattle.report_defs.specs.Exec.{end_line}
 use Rattle.reports.proofs.execution.put_execution.Goals as goal

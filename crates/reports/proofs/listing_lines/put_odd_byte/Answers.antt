@@ -1,5 +1,5 @@
 use Rattle.std.proofs.Common.{arith}
-use Rattle.bench_io.proofs.Writing.{wrote_none}
+use Rattle.bench_io.proofs.Writes.{wrote_none}
 use Rattle.reports.proofs.Listings.{odd_none, odd_last}
 use Rattle.reports.proofs.listing_lines.put_odd_byte.Goals as goal
 

@@ -1,5 +1,5 @@
 use Rattle.std.proofs.lemmas.Result.{err_from_is_err_and}
-use Rattle.bench_io.proofs.Writing.{missed_early, written_more}
+use Rattle.bench_io.proofs.Writes.{missed_early, written_more}
 use Rattle.gpl_run.specs.Sessions.{seen}
 use Rattle.report_defs.specs.Program.{stop_lines, state_lines}
 use Rattle.reports.proofs.report.put_program.Goals as goal

@@ -1,6 +1,6 @@
 use Rattle.std.proofs.Common.{[], ◌∷◌, ◌++◌}
 use Rattle.std.proofs.lemmas.Result.{err_from_is_err_and}
-use Rattle.bench_io.proofs.Writing.{missed_early, missed_more, written_more}
+use Rattle.bench_io.proofs.Writes.{missed_early, missed_more, written_more}
 use Rattle.gpl_run.specs.Sessions.{seen}
 use Rattle.report_defs.specs.Program.{state_lines}
 use Rattle.reports.specs.Watched.{end_lines, found_line}

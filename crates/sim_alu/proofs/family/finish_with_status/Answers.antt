@@ -1,4 +1,4 @@
-use Rattle.sim_alu.proofs.Finishing.{status_idle, with_status_stored}
+use Rattle.sim_alu.proofs.StoredResults.{status_idle, with_status_stored}
 use Rattle.sim_alu.proofs.family.finish_with_status.Goals as goal
 
 pub end_row-requires-clause-idle : goal.end_row-requires-clause-idle

@@ -1,6 +1,6 @@
 use Rattle.std.proofs.Common.{◌≡◌, arith, Some}
 use Rattle.sim_rows.proofs.Common.{row_entry, STO}
-use Rattle.sim_alu.proofs.Finishing
+use Rattle.sim_alu.proofs.StoredResults
 use Rattle.sim_alu.proofs.family.run_row.Goals as goal
 
 pub finish_row-requires-clause-idle : goal.finish_row-requires-clause-idle

@@ -1,5 +1,5 @@
 use Rattle.sim_rows.proofs.Common.{is_view}
-use Rattle.sim_compare.proofs.Telling
+use Rattle.sim_compare.proofs.Comparisons
 use Rattle.sim_compare.proofs.family.run_comparison.Goals as goal
 
 pub end_comparison-requires : goal.end_comparison-requires

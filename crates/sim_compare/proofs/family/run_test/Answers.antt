@@ -1,7 +1,7 @@
 use Rattle.std.proofs.Common.{◌≡◌, ℕ, ap, Option, subst, true}
 use Rattle.sim_rows.proofs.Common.{GplOperation, operation_entry, Stands}
 use Rattle.sim_compare.specs.Family.{is_test}
-use Rattle.sim_compare.proofs.Testing
+use Rattle.sim_compare.proofs.StatusTests
 use Rattle.sim_compare.proofs.family.run_test.Goals as goal
 
 pub test_status-requires-clause-stands : goal.test_status-requires-clause-stands

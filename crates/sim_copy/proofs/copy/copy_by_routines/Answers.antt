@@ -1,4 +1,4 @@
-use Rattle.sim_copy.proofs.Counting
+use Rattle.sim_copy.proofs.CopiedBytes
 use Rattle.sim_copy.proofs.Routines
 use Rattle.sim_copy.proofs.copy.copy_by_routines.Goals as goal
 

@@ -1,4 +1,4 @@
-use Rattle.sim_copy.proofs.Ending
+use Rattle.sim_copy.proofs.CopyEnds
 use Rattle.sim_copy.proofs.copy.copy_bytes.Goals as goal
 
 pub copy_rest-requires : goal.copy_rest-requires

@@ -1,6 +1,6 @@
 use Rattle.std.proofs.Common.{◌≡◌, arith}
 use Rattle.sim_rows.proofs.Common.{SHOW}
-use Rattle.sim_copy.proofs.Ending
+use Rattle.sim_copy.proofs.CopyEnds
 use Rattle.sim_copy.proofs.copy.end_copy.Goals as goal
 
 pub leave_copy-requires : goal.leave_copy-requires

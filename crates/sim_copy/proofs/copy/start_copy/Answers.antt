@@ -1,5 +1,5 @@
 use Rattle.std.proofs.Common.{◌≡◌, arith}
-use Rattle.sim_copy.proofs.Ending
+use Rattle.sim_copy.proofs.CopyEnds
 use Rattle.sim_copy.proofs.copy.start_copy.Goals as goal
 use Rattle.sim_rows.specs.native_interp.declared.addresses.TheConstants.{SETR, SETW}
 

@@ -1,5 +1,5 @@
 use Rattle.sim_rows.proofs.Common.{off, on}
-use Rattle.sim_flow.proofs.Branching
+use Rattle.sim_flow.proofs.Branches
 use Rattle.sim_flow.proofs.family.run_branch.Goals as goal
 
 pub read_branch_target-requires : goal.read_branch_target-requires

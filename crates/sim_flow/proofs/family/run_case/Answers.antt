@@ -1,4 +1,4 @@
-use Rattle.sim_flow.proofs.Selecting
+use Rattle.sim_flow.proofs.Cases
 use Rattle.sim_flow.proofs.family.run_case.Goals as goal
 
 pub find_branch-requires : goal.find_branch-requires

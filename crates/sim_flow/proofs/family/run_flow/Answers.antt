@@ -1,6 +1,6 @@
 use Rattle.std.proofs.Common.{◌∙◌, ap, Some, sym}
 use Rattle.sim_flow.proofs.Dispatch.{case_here, is_exit, is_jump, stands_at}
-use Rattle.sim_flow.proofs.Jumping
+use Rattle.sim_flow.proofs.Jumps
 use Rattle.sim_flow.proofs.family.run_flow.Goals as goal
 
 pub leave-requires : goal.leave-requires

@@ -1,5 +1,5 @@
 use Rattle.std.proofs.Common.{refl}
-use Rattle.sim_flow.proofs.Jumping
+use Rattle.sim_flow.proofs.Jumps
 use Rattle.sim_flow.proofs.family.run_jump.Goals as goal
 
 pub jump-requires : goal.jump-requires

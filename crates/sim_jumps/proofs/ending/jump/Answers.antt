@@ -1,4 +1,4 @@
-use Rattle.sim_jumps.proofs.Going
+use Rattle.sim_jumps.proofs.Jumps
 use Rattle.sim_jumps.proofs.ending.jump.Goals as goal
 
 pub returns : goal.returns

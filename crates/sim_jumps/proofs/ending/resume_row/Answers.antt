@@ -1,4 +1,4 @@
-use Rattle.sim_jumps.proofs.Going
+use Rattle.sim_jumps.proofs.Jumps
 use Rattle.sim_jumps.proofs.ending.resume_row.Goals as goal
 
 pub end_row-requires-clause-stands : goal.end_row-requires-clause-stands

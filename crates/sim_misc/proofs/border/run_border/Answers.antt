@@ -1,4 +1,4 @@
-use Rattle.sim_misc.proofs.Bordering
+use Rattle.sim_misc.proofs.Borders
 use Rattle.sim_misc.proofs.Dispatch.{entered}
 use Rattle.sim_misc.proofs.border.run_border.Goals as goal
 

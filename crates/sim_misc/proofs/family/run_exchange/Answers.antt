@@ -1,4 +1,4 @@
-use Rattle.sim_misc.proofs.Exchanging
+use Rattle.sim_misc.proofs.Exchanges
 use Rattle.sim_misc.proofs.family.run_exchange.Goals as goal
 
 pub run_store-requires-clause-idle : goal.run_store-requires-clause-idle

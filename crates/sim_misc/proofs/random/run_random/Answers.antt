@@ -1,5 +1,5 @@
 use Rattle.sim_misc.proofs.Dispatch.{entered}
-use Rattle.sim_misc.proofs.Drawing
+use Rattle.sim_misc.proofs.RandomNumbers
 use Rattle.sim_misc.proofs.random.run_random.Goals as goal
 
 pub draw_seed-requires : goal.draw_seed-requires

@@ -1,6 +1,6 @@
 use Rattle.std.proofs.Common.{◌≡◌, arith}
 use Rattle.sim_misc.proofs.Dispatch.{entered}
-use Rattle.sim_misc.proofs.Filling
+use Rattle.sim_misc.proofs.Fills
 use Rattle.sim_misc.proofs.screen.run_fill.Goals as goal
 
 pub begin_fill-requires : goal.begin_fill-requires

@@ -1,5 +1,5 @@
 use Rattle.sim_rows.proofs.Common.{state_at_dispatch, view}
-use Rattle.sim_misc.proofs.Filling.{Filling}
+use Rattle.sim_misc.proofs.Fills.{Filling}
 use Rattle.sim_misc.proofs.screen.run_fill.Given as goal
 
 abbrev pub invariant-loop : goal.invariant-loop

@@ -2,7 +2,7 @@ use Rattle.std.proofs.Common.{arith}
 use Rattle.sim_rows.proofs.Common.{state_at_dispatch, view}
 use Rattle.sim_rows.proofs.Family.{at_row, begun, entry, stopped, turned}
 use Rattle.sim_muldiv.proofs.Dispatch.{rows}
-use Rattle.sim_muldiv.proofs.Turning.{ready_at}
+use Rattle.sim_muldiv.proofs.RowFacts.{ready_at}
 use Rattle.sim_muldiv.proofs.family.run_muldiv.Goals as goal
 
 pub start_row-requires : goal.start_row-requires

@@ -1,5 +1,5 @@
 use Rattle.std.proofs.Common.{◌∙◌, ◌≡◌, Bool, false, sym}
-use Rattle.sim_operands.proofs.Finding
+use Rattle.sim_operands.proofs.FoundPlaces
 use Rattle.sim_operands.proofs.address.run_address.Goals as goal
 
 -- the other end of the first piece

@@ -1,5 +1,5 @@
 use Rattle.std.proofs.Common.{arith}
-use Rattle.sim_operands.proofs.Carrying
+use Rattle.sim_operands.proofs.TransferPieces
 use Rattle.sim_operands.proofs.store.run_store.Goals as goal
 
 pub returns-then-space-eq1-clause-value : goal.returns-then-space-eq1-clause-value

@@ -3,7 +3,7 @@ use Rattle.sim_view.proofs.Common.{off, on}
 use Rattle.sim_rows.specs.Prelude.{ROW}
 use Rattle.sim_view.specs.native_interp.declared.addresses.TheConstants.{STROW}
 use Rattle.sim_rows.proofs.FirstOperand
-use Rattle.sim_rows.proofs.Telling.{stands_at}
+use Rattle.sim_rows.proofs.RowStart.{stands_at}
 use Rattle.sim_rows.proofs.row.ask_destination.Goals as goal
 
 pub ask_first-requires : goal.ask_first-requires

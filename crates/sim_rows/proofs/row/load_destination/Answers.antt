@@ -6,7 +6,7 @@ use Rattle.std.proofs.Common.{refl}
 use Rattle.sim_rows.proofs.Ends.{fetched_of, idle_of}
 use Rattle.sim_rows.proofs.Entries.{Kind}
 use Rattle.sim_rows.proofs.FirstOperand.{narrow_here}
-use Rattle.sim_rows.proofs.Loading
+use Rattle.sim_rows.proofs.Destinations
 use Rattle.sim_rows.proofs.row.load_destination.Given.{Over}
 use Rattle.sim_rows.proofs.row.load_destination.Goals.{After-load_first, After-load_wide, After-run_address}
 use Rattle.sim_rows.proofs.row.load_destination.Goals as goal

@@ -3,8 +3,8 @@ use Rattle.sim_view.proofs.Common.{off, on}
 use Rattle.sim_rows.specs.Prelude.{behind_first, first_of, GplState, LoadsDestination, state_at_dispatch, view, word_of}
 use Rattle.sim_view.specs.native_interp.declared.addresses.TheConstants.{OPSTWO}
 use Rattle.sim_rows.proofs.Ends.{fetched_of, idle_of}
-use Rattle.sim_rows.proofs.Loading.{few_bytes}
-use Rattle.sim_rows.proofs.Telling
+use Rattle.sim_rows.proofs.Destinations.{few_bytes}
+use Rattle.sim_rows.proofs.RowStart
 use Rattle.sim_rows.proofs.row.load_operands.Given.{Over}
 use Rattle.sim_rows.proofs.row.load_operands.Goals.{After-load_destination}
 use Rattle.sim_rows.proofs.row.load_operands.Goals as goal

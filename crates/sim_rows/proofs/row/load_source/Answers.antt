@@ -3,7 +3,7 @@ use Rattle.sim_view.proofs.Common.{is_view, off, on}
 use Rattle.sim_rows.specs.Prelude.{GSTOP, OPVAL, PortsAreIdle, return_of, Stands, View, view}
 use Rattle.sim_view.specs.native_interp.declared.addresses.TheConstants.{STREAM}
 use Rattle.sim_rows.proofs.Again.{fetched_again, idle_again}
-use Rattle.sim_rows.proofs.Loading.{found_there, FoundThere, visible_again}
+use Rattle.sim_rows.proofs.Destinations.{found_there, FoundThere, visible_again}
 use Rattle.sim_rows.proofs.Sources
 use Rattle.sim_rows.specs.Pieces as pieces
 use Rattle.sim_rows.proofs.row.load_source.Given.{Over}

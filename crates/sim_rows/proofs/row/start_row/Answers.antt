@@ -2,7 +2,7 @@ use Rattle.std.proofs.Common.{◌∙◌, ◌≡◌, ap, arith, Bool, subst, true
 use Rattle.sim_rows.specs.Prelude.{code_byte, GplState, LoadsOperands, operands_of, operation_at, state_at_dispatch, view}
 use Rattle.sim_rows.proofs.Codes.{row_code}
 use Rattle.sim_rows.proofs.FirstOperand.{fits}
-use Rattle.sim_rows.proofs.Telling
+use Rattle.sim_rows.proofs.RowStart
 use Rattle.sim_rows.proofs.row.start_row.Given.{Over}
 use Rattle.sim_rows.proofs.row.start_row.Goals.{After-load_operands}
 use Rattle.sim_rows.proofs.row.start_row.Goals as goal

@@ -1,7 +1,7 @@
 use Rattle.std.proofs.Common.{refl}
 use Rattle.sim_rows.specs.Prelude.{shown_by, view}
 use Rattle.sim_rows.proofs.Matched.{bytes_fit, pc_fits, sees_at}
-use Rattle.sim_rows.proofs.Beginning.{begins}
+use Rattle.sim_rows.proofs.StepStart.{begins}
 use Rattle.sim_rows.proofs.step.begin_step.Goals as goal
 
 pub returns : goal.returns

@@ -2,7 +2,7 @@ use Rattle.std.proofs.Common.{◌≡◌, ap, arith}
 use Rattle.sim_view.proofs.Common.{is_view, off, on}
 use Rattle.sim_rows.specs.Prelude.{View, view}
 use Rattle.sim_rows.proofs.Again.{idle_again}
-use Rattle.sim_rows.proofs.Storing
+use Rattle.sim_rows.proofs.StoredResults
 use Rattle.sim_rows.proofs.tail.end_row.Goals as goal
 
 pub returns-then-register-eq0 : goal.returns-then-register-eq0

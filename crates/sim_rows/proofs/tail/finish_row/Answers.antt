@@ -1,7 +1,7 @@
 use Rattle.std.proofs.Common.{◌<◌, ◌≡◌, ap, subst, sym}
 use Rattle.sim_rows.specs.Prelude.{even, IsVisible, return_of, SHOW, Stands, View, view}
 use Rattle.sim_rows.proofs.Again.{idle_again}
-use Rattle.sim_rows.proofs.Storing
+use Rattle.sim_rows.proofs.StoredResults
 use Rattle.sim_rows.proofs.tail.finish_row.Goals as goal
 
 pub run_store-requires-clause-idle : goal.run_store-requires-clause-idle

@@ -1,7 +1,7 @@
 use Rattle.std.proofs.Common.{ℕ, ◌∙◌, subst, sym}
 use Rattle.sim_rows.proofs.Common.{Stands, view}
-use Rattle.sim_shift.proofs.Shifting.{idle_kept, near_kept, shifts, visible_kept}
-use Rattle.sim_shift.proofs.Rowing
+use Rattle.sim_shift.proofs.Shifts.{idle_kept, near_kept, shifts, visible_kept}
+use Rattle.sim_shift.proofs.ShiftRows
 use Rattle.sim_shift.proofs.family.run_named.Goals as goal
 
 pub finish_row-requires-clause-idle : goal.finish_row-requires-clause-idle

@@ -1,6 +1,6 @@
 use Rattle.std.proofs.Common.{◌≡◌, arith}
 use Rattle.sim_rows.proofs.Common.{GSTOP, on, state_at_dispatch, view}
-use Rattle.sim_stack.proofs.Calling
+use Rattle.sim_stack.proofs.Calls
 use Rattle.sim_stack.proofs.call.run_call.Given.{Over}
 use Rattle.sim_stack.proofs.call.run_call.Goals as goal
 use Rattle.sim_stack.proofs.call.run_call.Goals.{After-find_next}

@@ -1,6 +1,6 @@
 use Rattle.sim_rows.proofs.Family.{at_row, entry, stopped}
 use Rattle.sim_stack.proofs.Dispatch.{rows}
-use Rattle.sim_stack.proofs.Turning.{byte_row, turned}
+use Rattle.sim_stack.proofs.StackRows.{byte_row, turned}
 use Rattle.sim_stack.proofs.family.run_stack_row.Goals as goal
 
 pub start_row-requires : goal.start_row-requires

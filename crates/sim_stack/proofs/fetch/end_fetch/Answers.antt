@@ -1,4 +1,4 @@
-use Rattle.sim_stack.proofs.Fetching
+use Rattle.sim_stack.proofs.FetchParts
 use Rattle.sim_stack.proofs.fetch.end_fetch.Goals as goal
 
 pub run_store-requires-clause-idle : goal.run_store-requires-clause-idle

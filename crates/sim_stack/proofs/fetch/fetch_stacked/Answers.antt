@@ -1,4 +1,4 @@
-use Rattle.sim_stack.proofs.Fetching
+use Rattle.sim_stack.proofs.FetchParts
 use Rattle.sim_stack.proofs.fetch.fetch_stacked.Goals as goal
 
 pub returns : goal.returns

@@ -1,4 +1,4 @@
-use Rattle.sim_stack.proofs.Fetching
+use Rattle.sim_stack.proofs.FetchParts
 use Rattle.sim_stack.proofs.fetch.load_stacked.Goals as goal
 
 pub run_load-requires-clause-idle : goal.run_load-requires-clause-idle

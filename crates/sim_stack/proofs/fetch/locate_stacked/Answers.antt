@@ -1,6 +1,6 @@
 use Rattle.std.proofs.Common.{refl}
 use Rattle.sim_rows.proofs.Common.{FETCHB}
-use Rattle.sim_stack.proofs.Locating
+use Rattle.sim_stack.proofs.NextAddress
 use Rattle.sim_stack.proofs.fetch.locate_stacked.Goals as goal
 
 pub returns : goal.returns

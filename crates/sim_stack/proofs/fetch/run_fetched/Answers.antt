@@ -2,7 +2,7 @@ use Rattle.std.proofs.Common.{◌≡◌, arith}
 use Rattle.sim_rows.proofs.Common.{grom_at, GSTOP, next_at, on, ready, view}
 use Rattle.sim_stack.proofs.fetch.run_fetched.Given.{Over}
 use Rattle.sim_stack.proofs.fetch.run_fetched.Goals.{After-set_aside}
-use Rattle.sim_stack.proofs.Reading
+use Rattle.sim_stack.proofs.FetchRows
 use Rattle.sim_stack.proofs.fetch.run_fetched.Goals as goal
 
 -- What is known once the next address is set aside: the stack is not full, and where GROM goes on.

@@ -1,6 +1,6 @@
 use Rattle.std.proofs.Common.{refl}
 use Rattle.sim_rows.proofs.Common.{FETCHN}
-use Rattle.sim_stack.proofs.Locating
+use Rattle.sim_stack.proofs.NextAddress
 use Rattle.sim_stack.proofs.fetch.set_aside.Goals as goal
 
 pub returns : goal.returns

@@ -1,5 +1,5 @@
 use Rattle.sim_rows.proofs.Common.{off, on}
-use Rattle.sim_stack.proofs.Pushing
+use Rattle.sim_stack.proofs.Pushes
 use Rattle.sim_stack.proofs.push.run_push.Goals as goal
 
 pub returns-then-pc-eq-GSTOP : goal.returns-then-pc-eq-GSTOP

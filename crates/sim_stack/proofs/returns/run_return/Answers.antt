@@ -1,5 +1,5 @@
 use Rattle.sim_rows.proofs.Common.{off, on, state_at_dispatch, view}
-use Rattle.sim_stack.proofs.Returning
+use Rattle.sim_stack.proofs.Returns
 use Rattle.sim_stack.proofs.returns.run_return.Goals as goal
 
 pub returns-then-pc-eq-GSTOP : goal.returns-then-pc-eq-GSTOP

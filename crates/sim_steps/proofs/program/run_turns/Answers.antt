@@ -1,6 +1,6 @@
 use Rattle.std.proofs.Common.{ℕ, ◌≡◌, arith, subst}
 use Rattle.sim_rows.proofs.Common.{shown_by, Turn, Turned}
-use Rattle.sim_steps.proofs.Running.{none_yet, stepped, Stepping, stopped, whole}
+use Rattle.sim_steps.proofs.TurnRuns.{none_yet, stepped, Stepping, stopped, whole}
 use Rattle.sim_steps.proofs.program.run_turns.Goals as goal
 
 pub loop-made-init : goal.loop-made-init

@@ -1,5 +1,5 @@
 use Rattle.sim_rows.proofs.Common.{shown_by}
-use Rattle.sim_steps.proofs.Running.{Stepping}
+use Rattle.sim_steps.proofs.TurnRuns.{Stepping}
 use Rattle.sim_steps.proofs.program.run_turns.Given as goal
 
 abbrev pub invariant-loop-made : goal.invariant-loop-made

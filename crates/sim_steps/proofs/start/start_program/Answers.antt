@@ -1,5 +1,5 @@
 use Rattle.sim_rows.proofs.Common.{idle_grom, idle_video, is_view}
-use Rattle.sim_steps.proofs.Booting.{begins}
+use Rattle.sim_steps.proofs.Boots.{begins}
 use Rattle.sim_steps.proofs.start.start_program.Goals as goal
 
 pub returns : goal.returns

@@ -1,7 +1,7 @@
 use Rattle.std.proofs.Common.{◌≡◌, Option, subst, true}
 use Rattle.sim_rows.proofs.Common.{GplOperation, shown_by}
 use Rattle.sim_steps.specs.Families.{belongs}
-use Rattle.sim_steps.proofs.Turning
+use Rattle.sim_steps.proofs.Turns
 use Rattle.sim_steps.proofs.turn.gpl_turn.Goals as goal
 
 pub current_operation-requires-clause-wp : goal.current_operation-requires-clause-wp

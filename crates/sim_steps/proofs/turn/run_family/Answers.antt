@@ -2,7 +2,7 @@ use Rattle.std.proofs.Common.{subst}
 use Rattle.sim_rows.proofs.Common.{AtDispatch}
 use Rattle.sim_steps.specs.declared.family.Family.{Family}
 use Rattle.sim_steps.specs.Families.{belongs}
-use Rattle.sim_steps.proofs.Turning.{refused, stands_stop}
+use Rattle.sim_steps.proofs.Turns.{refused, stands_stop}
 use Rattle.sim_steps.proofs.turn.run_family.Goals as goal
 
 pub stop_code-requires : goal.stop_code-requires

@@ -1,7 +1,7 @@
 use Rattle.std.proofs.Common.{◌≡◌, ◌-◌, false, sym, ap, ◌∙◌, arith}
 use Rattle.console_defs.specs.Machine.{machine_step}
 use Rattle.sim_view.specs.Running.{Ran, is_last, ran}
-use Rattle.sim_view.proofs.Turning.{ran_none, ran_last, ran_more, executed_one}
+use Rattle.sim_view.proofs.FirstStep.{ran_none, ran_last, ran_more, executed_one}
 use Rattle.sim_view.proofs.run.run_at_most.Goals as goal
 
 pub returns-then-step_is_last-clause-left : goal.returns-then-step_is_last-clause-left

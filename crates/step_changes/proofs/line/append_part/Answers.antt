@@ -1,7 +1,7 @@
 use Rattle.std.proofs.Common.{◌+◌, ◌++◌, slice_index_or, refl, sym, ap, subst, length, ◌≤◌, List, ℕ, ◌∙◌, arith}
 use Rattle.std.proofs.lemmas.Bool.Decides.{nat_tests}
 use Rattle.step_changes.proofs.Neighbours.{change, change_is}
-use Rattle.step_changes.proofs.Appending.{append_none, append_more, unchanged}
+use Rattle.step_changes.proofs.AppendedChanges.{append_none, append_more, unchanged}
 use Rattle.step_changes.proofs.line.append_part.Goals as goal
 
 pub loop-from-init : goal.loop-from-init

@@ -1,5 +1,5 @@
 use Rattle.std.proofs.Common.{◌-◌, length}
-use Rattle.step_changes.proofs.Appending.{Appending}
+use Rattle.step_changes.proofs.AppendedChanges.{Appending}
 use Rattle.step_changes.proofs.line.append_part.Given as goal
 
 -- the changes up to a place stand in the line

@@ -4,7 +4,7 @@ use Rattle.reports.specs.Outputs.{Outputs}
 use Rattle.reports.specs.Answers.{Ends, error_answer}
 use Rattle.reports.specs.declared.command_error.CommandError.{CommandError}
 use Rattle.steps_command.specs.Ends.{EndsInstructions}
-use Rattle.steps_command.proofs.Ending.{by_refusal, by_memory, by_whole, by_failed}
+use Rattle.steps_command.proofs.Ends.{by_refusal, by_memory, by_whole, by_failed}
 use Rattle.steps_command.proofs.running.steps.Goals as goal
 
 pub returns-in-Err : goal.returns-in-Err

@@ -1,7 +1,7 @@
 use Rattle.std.proofs.lemmas.Result.{err_from_is_err_and}
 use Rattle.report_defs.specs.Exec.{exec_lines}
 use Rattle.machine_change_defs.specs.Lines.{expansion_lines}
-use Rattle.bench_io.proofs.Writing.{written_more, missed_early}
+use Rattle.bench_io.proofs.Writes.{written_more, missed_early}
 use Rattle.steps_command.proofs.shown.put_left.Goals as goal
 
 pub returns-in_err-put_execution : goal.returns-in_err-put_execution

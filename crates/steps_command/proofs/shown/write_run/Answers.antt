@@ -1,6 +1,6 @@
 use Rattle.std.proofs.Common.{inl, inr}
 use Rattle.std.proofs.lemmas.Result.{err_from_is_err_and}
-use Rattle.bench_io.proofs.Writing.{wrote_more, missed_more}
+use Rattle.bench_io.proofs.Writes.{wrote_more, missed_more}
 use Rattle.steps_command.proofs.shown.write_run.Goals as goal
 
 pub returns-in_err-ending : goal.returns-in_err-ending

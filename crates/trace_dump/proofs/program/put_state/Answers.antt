@@ -2,7 +2,7 @@ use Rattle.std.proofs.Common.{[], ◌∷◌, sym, subst}
 use Rattle.std.proofs.lemmas.Result.{err_from_is_err_and}
 use Rattle.console_defs.specs.Machine.{MachineState}
 use Rattle.bench_io.specs.Written.{Written}
-use Rattle.bench_io.proofs.Writing.{missed_early, written_more}
+use Rattle.bench_io.proofs.Writes.{missed_early, written_more}
 use Rattle.gpl_run.specs.Sessions.{seen}
 use Rattle.report_defs.specs.Dump.{dump_lines}
 use Rattle.report_defs.specs.Program.{state_line, showing}

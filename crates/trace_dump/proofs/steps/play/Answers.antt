@@ -1,6 +1,6 @@
 use Rattle.std.proofs.Common.{◌≡◌, ◌+◌, refl, arith}
 use Rattle.std.proofs.lemmas.Result.{err_from_is_err_and}
-use Rattle.trace_dump.proofs.Playing
+use Rattle.trace_dump.proofs.ShownPrograms
 use Rattle.trace_dump.proofs.steps.play.Goals as goal
 
 pub loop-made-init : goal.loop-made-init

@@ -1,4 +1,4 @@
-use Rattle.trace_dump.proofs.Playing.{Playing}
+use Rattle.trace_dump.proofs.ShownPrograms.{Playing}
 use Rattle.trace_dump.proofs.steps.play.Given as goal
 
 -- so many steps were made and shown

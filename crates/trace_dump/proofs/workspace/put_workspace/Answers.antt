@@ -1,7 +1,7 @@
 use Rattle.std.proofs.Common.{[], ◌∷◌, sym, ◌∙◌}
 use Rattle.std.specs.Prelude.{codes}
 use Rattle.std.proofs.lemmas.Result.{err_from_is_err_and}
-use Rattle.bench_io.proofs.Writing.{missed_early, written_more}
+use Rattle.bench_io.proofs.Writes.{missed_early, written_more}
 use Rattle.report_defs.specs.Dump.{registers_line}
 use Rattle.trace_dump.proofs.Dumps.{shown}
 use Rattle.trace_dump.proofs.workspace.put_workspace.Goals as goal

@@ -1,7 +1,7 @@
 use Rattle.reports.specs.Answers.{answer}
 use Rattle.workbench.specs.Asked.{defined_over}
 use Rattle.workbench.proofs.Ends.{ends_said, ends_over, ends_plain}
-use Rattle.workbench.proofs.Taking.{takes_of_shelf}
+use Rattle.workbench.proofs.ShelfUse.{takes_of_shelf}
 use Rattle.workbench.proofs.running.bench_with.Goals as goal
 
 pub returns-in-Some-OverFiles-clause-ends : goal.returns-in-Some-OverFiles-clause-ends

@@ -5,7 +5,7 @@ use Rattle.bench_commands.specs.declared.commands.program.LoadedProgram.{LoadedP
 use Rattle.reports.specs.declared.report.Report.TheVariants as made
 use Rattle.reports.specs.Made.{defined_report}
 use Rattle.bench_commands.specs.Loaded.{LoadsProgram}
-use Rattle.bench_commands.proofs.Loading.{of_program}
+use Rattle.bench_commands.proofs.LoadedSources.{of_program}
 use Rattle.bench_commands.proofs.Programs.{reports_demo}
 use Rattle.bench_commands.proofs.commands.demo.run_source.Goals as goal
 

@@ -1,5 +1,5 @@
 use Rattle.gpl_source_defs.specs.Programs.{program_of_source}
-use Rattle.bench_commands.proofs.Loading.{source_loaded}
+use Rattle.bench_commands.proofs.LoadedSources.{source_loaded}
 use Rattle.bench_commands.proofs.commands.program.load_program.Goals as goal
 
 pub returns : goal.returns

@@ -1,7 +1,7 @@
 use Rattle.std.proofs.Common.{refl, sym, ◌∙◌, subst}
 use Rattle.console_defs.specs.Memory.{IsMemory}
 use Rattle.console_defs.specs.Machine.{MachineState}
-use Rattle.bench_commands.proofs.Tracing.{traces_whole, breaks_off}
+use Rattle.bench_commands.proofs.Traces.{traces_whole, breaks_off}
 use Rattle.bench_commands.proofs.trace.Trace.finish.Goals as goal
 
 pub returns : goal.returns

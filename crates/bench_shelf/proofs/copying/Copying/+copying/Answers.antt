@@ -10,7 +10,7 @@ use Rattle.bench_shelf.specs.CopyAnswers.{defined_place}
 use Rattle.bench_shelf.proofs.CountLaws.{file_room}
 use Rattle.bench_shelf.proofs.FileLaws.{refuses_none, deep_copies, many_copies, copies_unread, copies_read}
 use Rattle.bench_shelf.proofs.SinceLaws.{causes_unread, causes_since, each_since}
-use Rattle.bench_shelf.proofs.Keeping.{within_then}
+use Rattle.bench_shelf.proofs.UnchangedParts.{within_then}
 use Rattle.bench_shelf.proofs.LoopLaws.{first_text, own_copies, own_refuses, asked_copies, all_taken, follows_first, follows_more, follows_end}
 use Rattle.bench_shelf.proofs.LoopLaws.{follows_refused, later_first, later_then, counts_first, counts_more, counts_grow}
 use Rattle.bench_shelf.proofs.copying.Copying.+copying.Goals as goal

@@ -1,6 +1,6 @@
 use Rattle.std.proofs.Common.{map}
 use Rattle.std.specs.List.{flat_map}
-use Rattle.bench_io.proofs.Writing.{written_more}
+use Rattle.bench_io.proofs.Writes.{written_more}
 use Rattle.gpl_list_defs.specs.Text.{row_lines, name_line}
 use Rattle.gpl_list.specs.Reading.{defined_row, defined_name}
 use Rattle.gpl_list.proofs.listing.GplListing.write.Goals as goal

@@ -1,7 +1,7 @@
 use Rattle.std.proofs.Common.{[], ◌∷◌, ◌++◌}
 use Rattle.std.specs.Prelude.{codes}
 use Rattle.std.proofs.lemmas.Result.{err_from_is_err_and}
-use Rattle.bench_io.proofs.Writing.{missed_early, missed_more, written_more}
+use Rattle.bench_io.proofs.Writes.{missed_early, missed_more, written_more}
 use Rattle.source_defs.specs.Digits.{hex_word}
 use Rattle.word_listings.specs.Listing.{listing_line, lines_from, words_in, odd_byte_lines, memory_listing}
 use Rattle.reports.proofs.listing.Listing.write.Goals as goal

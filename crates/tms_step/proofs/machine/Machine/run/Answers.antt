@@ -4,7 +4,7 @@ use Rattle.console_defs.specs.Runs.{is_reached}
 use Rattle.tms_defs.specs.declared.step_end.StepEnd.{StepEnd}
 use Rattle.tms_defs.specs.declared.step_end.StepEnd.TheVariants.{Done, Refused, Port}
 use Rattle.tms_step.specs.Turns.{executed_by, end_of_turn, end_at_limit}
-use Rattle.tms_step.proofs.Going.{going_start, going_more, run_reached, run_ended, run_at_limit}
+use Rattle.tms_step.proofs.RunEnds.{going_start, going_more, run_reached, run_ended, run_at_limit}
 use Rattle.tms_step.proofs.machine.Machine.run.Goals as goal
 
 -- a step that does not end the run executed one instruction

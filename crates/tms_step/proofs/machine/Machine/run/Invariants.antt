@@ -1,5 +1,5 @@
 use Rattle.std.proofs.Common.{◌≡◌, ◌+◌}
-use Rattle.tms_step.proofs.Going.{Going}
+use Rattle.tms_step.proofs.RunEnds.{Going}
 use Rattle.tms_step.proofs.machine.Machine.run.Given as goal
 
 abbrev pub invariant-loop-made : goal.invariant-loop-made

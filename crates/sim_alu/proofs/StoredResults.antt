@@ -7,9 +7,9 @@ use Rattle.sim_rows.proofs.Common.{StoresValue, Storing, unchanged, View, view, 
 use Rattle.sim_alu.specs.Family.{is_alu, result_piece}
 use Rattle.sim_alu.specs.Tails.{StoresWithStatus}
 use Rattle.sim_alu.proofs.Frames.{frame}
-use Rattle.sim_alu.proofs.Making.{Flagged, Plain}
+use Rattle.sim_alu.proofs.MadeResults.{Flagged, Plain}
 use Rattle.sim_alu.specs.Pieces as piece
-use Rattle.sim_alu.proofs.Making
+use Rattle.sim_alu.proofs.MadeResults
 
 -- ---- the status behind the result
 

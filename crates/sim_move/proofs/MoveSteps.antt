@@ -10,7 +10,7 @@ use Rattle.sim_rows.specs.gpl_defs.declared.instruction.MoveLength.TheVariants a
 use Rattle.sim_rows.specs.gpl_defs.declared.instruction.MoveTarget.TheVariants as target
 use Rattle.sim_rows.specs.gpl_defs.declared.instruction.MoveSource.TheVariants as source
 use Rattle.sim_move.specs.Moves.{begun, copy_in, length_read, source_read, target_in, target_read}
-use Rattle.sim_move.proofs.Arriving.{both, same_then}
+use Rattle.sim_move.proofs.Arrivals.{both, same_then}
 use Rattle.sim_move.proofs.Numbers.{within_is}
 
 -- ---- another pc makes no difference

@@ -8,7 +8,7 @@ use Rattle.sim_jumps.specs.Jumps.{ResumesRow}
 use Rattle.sim_copy.specs.Copying.{CopiesBytes, Copying}
 use Rattle.sim_copy.proofs.Places.{at_end, at_pc, runs_on}
 use Rattle.sim_copy.proofs.Routines.{fetched_seen}
-use Rattle.sim_copy.proofs.Starting.{Starts, starts}
+use Rattle.sim_copy.proofs.CopyStart.{Starts, starts}
 use Rattle.sim_copy.specs.Bytes.{AtCopy, charged, CopiesAt, CopiesRest, CopyingAt, EndsCopy, FromPlace, OutOfGrom, StartsCopy}
 use Rattle.sim_copy.specs.Pieces as pieces
 use Rattle.sim_rows.specs.native_interp.declared.addresses.TheConstants.{COPYE, SETR, SETW}

@@ -14,7 +14,7 @@ use Rattle.sim_stack.specs.Pieces.{offset_of, shows_at}
 use Rattle.sim_stack.specs.Family.{is_call}
 use Rattle.sim_stack.specs.Stacks.{gone_to}
 use Rattle.sim_stack.proofs.Room.{behind_is, no_room, stop_turned, two_more, with_room}
-use Rattle.sim_stack.proofs.Locating.{next_fits}
+use Rattle.sim_stack.proofs.NextAddress.{next_fits}
 use Rattle.sim_stack.specs.Pieces as pieces
 
 -- ---- the step

@@ -10,13 +10,13 @@ use Rattle.gpl_step_defs.specs.Step.{step}
 use Rattle.gpl_step_defs.specs.Run.{run}
 use Rattle.bench_io.specs.Stream.{SinkState}
 use Rattle.bench_io.specs.Written.{Wrote, Missed}
-use Rattle.bench_io.proofs.Writing.{wrote_none, wrote_more, missed_more, missed_early}
+use Rattle.bench_io.proofs.Writes.{wrote_none, wrote_more, missed_more, missed_early}
 use Rattle.interp_defs.specs.declared.turn.Turn.{Turn}
 use Rattle.interp_defs.specs.declared.turn.Turn.TheVariants.{Stepped, Stopped}
 use Rattle.interp_defs.specs.Match.{IsMatching, shown_by}
 use Rattle.interp_defs.specs.Turned.{TurnedBy, Turned}
 use Rattle.sim_steps.specs.Running.{RunsTurns}
-use Rattle.sim_steps.proofs.Running.{Stepping, none_yet, stepped, stopped, whole, last_is, done_at_least}
+use Rattle.sim_steps.proofs.TurnRuns.{Stepping, none_yet, stepped, stopped, whole, last_is, done_at_least}
 use Rattle.gpl_run.specs.Sessions.{SessionState, IsSession, seen, address_in, ended_by}
 use Rattle.report_defs.specs.Trace.{SeenState, ShowsChanges, seen_state, step_front, step_line, step_lines}
 use Rattle.trace_dump.specs.Plays.{PlaysWhole, BreaksOff}

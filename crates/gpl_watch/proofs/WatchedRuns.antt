@@ -13,14 +13,14 @@ use Rattle.interp_defs.specs.Match.{IsMatching, shown_by}
 use Rattle.interp_defs.specs.Turned.{TurnedBy, Turned}
 use Rattle.interp_defs.specs.Programs.{AreTurns}
 use Rattle.sim_steps.specs.Running.{RunsTurns}
-use Rattle.sim_steps.proofs.Running.{Stepping, none_yet, stepped, stopped, whole, last_is, done_at_least}
+use Rattle.sim_steps.proofs.TurnRuns.{Stepping, none_yet, stepped, stopped, whole, last_is, done_at_least}
 use Rattle.gpl_run.specs.Sessions.{SessionState, IsSession, seen, address_in, ended_by}
 use Rattle.watch_defs.specs.declared.item.Item.{Item}
 use Rattle.watch_defs.specs.declared.found.Found.{Found}
 use Rattle.watch_defs.specs.declared.found.Found.TheVariants as result
 use Rattle.watch_defs.specs.Items.{change_since}
 use Rattle.watch_defs.specs.Hits.{behind, change_at, hit_at, hits, found}
-use Rattle.watch_defs.proofs.Hitting.{hit_is, none_more, first_found, none_found}
+use Rattle.watch_defs.proofs.Hits.{hit_is, none_more, first_found, none_found}
 use Rattle.gpl_watch.specs.Watches.{WatchedItem, watching, items_of, Keeps, at_address, first_kept}
 use Rattle.gpl_watch.specs.Watches.{bounds, RunsWithin, Watches}
 use Rattle.gpl_watch.proofs.Kept.{keeps, first_is, change_kept, still_kept, same_watching}

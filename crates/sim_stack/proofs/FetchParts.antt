@@ -6,7 +6,7 @@ use Rattle.sim_rows.proofs.Common.{LOAD, Loaded, LoadsValue, MachineState, most_
 use Rattle.sim_rows.proofs.Common.{Stands, state_of, STORE, store_then, stored_idle, StoresValue, Storing, unchanged, value_at, value_keeps, Vdp, View, view}
 use Rattle.sim_rows.proofs.Common.{WHERE, width_in, with_byte, with_byte_in, with_pc, with_value, with_word, Word, word_in}
 use Rattle.sim_jumps.specs.Jumps.{ResumesRow}
-use Rattle.sim_jumps.proofs.Going.{set_from}
+use Rattle.sim_jumps.proofs.Jumps.{set_from}
 use Rattle.sim_rows.specs.sim_operands.Pieces as operands
 use Rattle.sim_stack.specs.Stacks.{EndsFetch, FetchesStacked, LoadsStacked}
 use Rattle.sim_stack.proofs.Room.{byte_back, stacked_is}

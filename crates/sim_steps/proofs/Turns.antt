@@ -5,7 +5,7 @@ use Rattle.sim_rows.proofs.Common.{operation_at, operation_entry, operation_in_v
 use Rattle.sim_rows.proofs.Common.{turned_from, UNKN, view}
 use Rattle.sim_steps.specs.declared.family.Family.TheVariants.{Refused}
 use Rattle.sim_steps.specs.Families.{belongs}
-use Rattle.sim_steps.proofs.Refusing.{refuses}
+use Rattle.sim_steps.proofs.RefusedCodes.{refuses}
 use Rattle.sim_steps.specs.Pieces as pieces
 use Rattle.sim_steps.proofs.Families as families
 

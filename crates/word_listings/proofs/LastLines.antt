@@ -25,9 +25,9 @@ use Rattle.asm_defs.specs.SecondChecks.{Bytes}
 use Rattle.asm_defs.specs.Memory.{Settled, covers, is_placed, bytes_in, any_from, content_at, pieces, pieces_at, pieces_from, part_words, word_count, references_of}
 use Rattle.asm_defs.specs.Modules.{settle, with_room, module_by, entry, entry_by, unused, definition_in}
 use Rattle.line_laws.specs.KnownLines.{pieces_of}
-use Rattle.line_laws.proofs.Placing.{HoldWords, content_of, few_words}
-use Rattle.line_laws.proofs.Settling.{room_by}
-use Rattle.line_laws.proofs.Linking.{pieces_held, pieces_there, pieces_split, none_from, at_word, content_none, content_not_yet, nothing_before}
+use Rattle.line_laws.proofs.PlacedWords.{HoldWords, content_of, few_words}
+use Rattle.line_laws.proofs.SecondChecks.{room_by}
+use Rattle.line_laws.proofs.LinkedPieces.{pieces_held, pieces_there, pieces_split, none_from, at_word, content_none, content_not_yet, nothing_before}
 use Rattle.line_laws.proofs.Whole.{not_covered, no_uses}
 use Rattle.line_laws.proofs.Small.{chosen}
 use Rattle.word_listings.proofs.LineBacks.{absolute_at, end_text, end_outcome, end_line, IsEntry, byte_line}

@@ -21,7 +21,7 @@ use Rattle.link_defs.specs.Placing.{sections, first_base, word_at, words_of, val
 use Rattle.link_defs.specs.First.{first, first_behind}
 use Rattle.link_defs.specs.LinkedMemory.{LinkedMemory, linked, linked_parts, filled, is_outside, is_taken, is_loadable}
 use Rattle.line_laws.specs.KnownLines.{pieces_of}
-use Rattle.line_laws.proofs.Placing.{HoldWords, content_of, cells, cells_length}
+use Rattle.line_laws.proofs.PlacedWords.{HoldWords, content_of, cells, cells_length}
 use Rattle.line_laws.proofs.Small.{both, chosen, get_past}
 
 abbrev piece_at : Part → ℕ → Spot → Piece

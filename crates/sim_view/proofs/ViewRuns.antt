@@ -9,7 +9,7 @@ use Rattle.console_defs.specs.Machine.{MachineState, machine_step, steps}
 use Rattle.tms_defs.specs.declared.step_end.StepEnd.TheVariants.{Done}
 use Rattle.sim_view.specs.Running.{Ran, one_more, ends_piece, ran}
 use Rattle.sim_view.proofs.Answers.{given, given_by}
-use Rattle.sim_view.proofs.Turning.{turn, ran_turn}
+use Rattle.sim_view.proofs.FirstStep.{turn, ran_turn}
 use Rattle.sim_view.proofs.Seen.{seen_run, shown}
 use Rattle.sim_view.proofs.Places.{pick}
 use Rattle.sim_view.proofs.Simulates.{Shows, carry, do_execution}

@@ -14,7 +14,7 @@ use Rattle.asm_defs.specs.SecondChecks.{outcome}
 use Rattle.line_laws.specs.KnownLines.{KnownLine, known_line, known_lines, names_in, all_names, names_behind}
 use Rattle.line_laws.specs.KnownLines.{are_new, are_plain, is_plain, end_of, look_in, is_plain_statement}
 use Rattle.line_laws.specs.Laws.{looks, AreKnown, StandsIn, KnownLinesStand}
-use Rattle.line_laws.proofs.Laying.{laid_list, are_laid, check_behind, parts_of, first_of, new_by, plain_free}
+use Rattle.line_laws.proofs.LaidLines.{laid_list, are_laid, check_behind, parts_of, first_of, new_by, plain_free}
 use Rattle.line_laws.proofs.Whole.{front, final, first, final_known, final_checked, all_laid, looked, registers_stand}
 use Rattle.line_laws.proofs.Small.{both}
 

@@ -12,7 +12,7 @@ use Rattle.sim_view.specs.gpl_defs.declared.instruction.GplOperation.TheVariants
 use Rattle.sim_rows.proofs.Places.{Lies, place_lies}
 use Rattle.sim_rows.proofs.Steps.{bound_made, bound_stop, row_after, step_row}
 use Rattle.sim_rows.proofs.Ends.{matches, reaches, stops, turned_by}
-use Rattle.sim_rows.proofs.Loading.{first_visible}
+use Rattle.sim_rows.proofs.Destinations.{first_visible}
 use Rattle.sim_rows.proofs.Operands.{value_same}
 use Rattle.sim_view.specs.Bounds.{most_to_row, most_to_row_stop}
 use Rattle.sim_view.specs.interp_defs.Interpreter.{most_to_dispatch}

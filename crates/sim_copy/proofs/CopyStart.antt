@@ -7,7 +7,7 @@ use Rattle.sim_rows.proofs.Common.{Changes, CHARACTER, copied, COPY, Cpu, differ
 use Rattle.sim_rows.proofs.Common.{IsFetched, IsView, join, low, marked_by, next_at, next_in_vdp, no_other, NoOperation, pair_kind, PairKind, pick, place_in}
 use Rattle.sim_rows.proofs.Common.{ReadSetup, RegisterWrite, with_video_address, sum_of, To, ToMemory, ToRegisters, Vdp, VdpState, View, Word, WriteSetup}
 use Rattle.sim_copy.specs.Copying.{Copying, StandsFrom, StandsTo}
-use Rattle.sim_copy.proofs.Counting.{all_made, source_is, target_is}
+use Rattle.sim_copy.proofs.CopiedBytes.{all_made, source_is, target_is}
 use Rattle.sim_copy.proofs.Marks.{cells_mark, video_mark}
 use Rattle.sim_copy.proofs.Places.{each, one_at_most}
 use Rattle.sim_copy.proofs.Routines.{source_in, target_in}

@@ -10,7 +10,7 @@ use Rattle.sim_rows.specs.gpl_step_defs.Place.{word_at}
 use Rattle.sim_stack.specs.Pieces.{offset_of}
 use Rattle.sim_stack.specs.Stacks.{EndsFetch, fetched_at, FetchesStacked, Fetching, LoadsStacked, Located, Locates, SetAside, SetsAside}
 use Rattle.sim_stack.proofs.Room.{no_room, offset_above, with_room}
-use Rattle.sim_stack.proofs.Locating.{later_fits, next_fits}
+use Rattle.sim_stack.proofs.NextAddress.{later_fits, next_fits}
 use Rattle.sim_stack.specs.Pieces as pieces
 
 low_fits : (n : ℕ) → low n < 256

@@ -12,7 +12,7 @@ use Rattle.tms_defs.specs.declared.step_end.StepEnd.{StepEnd}
 use Rattle.tms_defs.specs.declared.step_end.StepEnd.TheVariants.{Done, Refused, Port}
 use Rattle.bench_io.specs.Stream.{SinkState}
 use Rattle.bench_io.specs.Written.{Wrote, Missed}
-use Rattle.bench_io.proofs.Writing.{wrote_none, wrote_more, missed_more}
+use Rattle.bench_io.proofs.Writes.{wrote_none, wrote_more, missed_more}
 use Rattle.report_defs.proofs.Ranges.{mapped_split}
 use Rattle.machine_change_defs.specs.Seen.{SeenMemory, seen_memory}
 use Rattle.machine_change_defs.specs.Changes.{memory_changes}

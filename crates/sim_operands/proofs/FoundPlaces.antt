@@ -7,9 +7,9 @@ use Rattle.sim_view.proofs.Common.{space_at, Stands, View, view}
 use Rattle.sim_view.specs.gpl_step_defs.declared.reason.Reason.TheVariants.{Cell}
 use Rattle.sim_operands.specs.Subroutines.{Addressed, OperandStop, Finds, FindsOperand, next_at, Placed, state_of}
 use Rattle.sim_operands.proofs.Ready.{ready}
-use Rattle.sim_operands.proofs.Addressing.{address_read, AddressRead, Answers, index_read, pointer_read, range_read}
+use Rattle.sim_operands.proofs.AddressPieces.{address_read, AddressRead, Answers, index_read, pointer_read, range_read}
 use Rattle.sim_operands.proofs.Facts.{not_both}
-use Rattle.sim_operands.proofs.Addressing.{short_range_read, short_read, ShortRead}
+use Rattle.sim_operands.proofs.AddressPieces.{short_range_read, short_read, ShortRead}
 use Rattle.sim_operands.specs.Pieces as pieces
 use Rattle.sim_view.specs.native_interp.declared.addresses.TheConstants.{ASHORT}
 

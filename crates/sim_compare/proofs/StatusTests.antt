@@ -8,7 +8,7 @@ use Rattle.sim_rows.proofs.Common.{View, view, with_tested}
 use Rattle.sim_compare.specs.Pieces.{end_of}
 use Rattle.sim_compare.specs.Family.{ending, is_test, IsTold, test, tested}
 use Rattle.sim_compare.proofs.Numbers.{bit_out_1, bit_out_2, bit_out_4, bit_out_5}
-use Rattle.sim_compare.proofs.Telling.{is_told, tells, told_goes}
+use Rattle.sim_compare.proofs.Comparisons.{is_told, tells, told_goes}
 use Rattle.sim_compare.specs.Pieces as pieces
 
 -- ---- the operations

@@ -6,8 +6,8 @@ use Rattle.sim_rows.proofs.Common.{is_view, IsMachine, MachineState, operation_i
 use Rattle.sim_rows.proofs.Common.{SLA, Source, SRA, SRC, SRL, Stands, STO, StoresResult, Storing, Two, unchanged, value_at, View, view}
 use Rattle.sim_shift.specs.Pieces.{low_four}
 use Rattle.sim_shift.specs.Family.{name_of, shift_entry}
-use Rattle.sim_shift.proofs.Shifting.{counted_word, counts_few, entry_even, Keeps, kept_of, none, number_by, shifts, some, stores_none, stores_some, Told}
-use Rattle.sim_shift.proofs.Shifting.{told_at, told_is, two_is}
+use Rattle.sim_shift.proofs.Shifts.{counted_word, counts_few, entry_even, Keeps, kept_of, none, number_by, shifts, some, stores_none, stores_some, Told}
+use Rattle.sim_shift.proofs.Shifts.{told_at, told_is, two_is}
 use Rattle.sim_shift.specs.Pieces as pieces
 
 not_false : (b : Bool) → not b ≡ false → b ≡ true

@@ -8,9 +8,9 @@ use Rattle.gpl_source_defs.specs.Programs.{program_of_source}
 use Rattle.console_defs.specs.Memory.{IsMemory}
 use Rattle.bench_io.specs.Stream.{SourceState, SinkState}
 use Rattle.bench_io.specs.Written.{Wrote}
-use Rattle.bench_io.proofs.Writing.{wrote_more, missed_more}
+use Rattle.bench_io.proofs.Writes.{wrote_more, missed_more}
 use Rattle.trace_dump.specs.Plays.{Plays}
-use Rattle.trace_dump.proofs.Playing.{breaks_front}
+use Rattle.trace_dump.proofs.ShownPrograms.{breaks_front}
 use Rattle.reports.specs.declared.report.Report.TheVariants as made
 use Rattle.gpl_step_defs.specs.State.{GplState, start}
 use Rattle.gpl_step_defs.specs.Run.{run}
@@ -37,7 +37,7 @@ use Rattle.bench_commands.specs.Loaded.{LoadsEntered}
 use Rattle.bench_commands.specs.Traced.{Started, TracesSource, TracesWhole, EndsTrace, Prepares, Finishes}
 use Rattle.bench_commands.proofs.NoUsage.{no_usage}
 use Rattle.bench_commands.proofs.Ends.{HasNoUsage, run_of, by_front, by_answer, reading, within}
-use Rattle.bench_commands.proofs.Loading.{of_program}
+use Rattle.bench_commands.proofs.LoadedSources.{of_program}
 use Rattle.bench_commands.proofs.Programs.{ends_alike}
 
 -- the state before the first step is the start of the program

@@ -21,8 +21,8 @@ use Rattle.asm_defs.specs.Modules.{settle, settle_at, with_room, entry, entry_by
 use Rattle.line_laws.specs.KnownLines.{KnownLine, known_line, known_lines, are_plain, is_plain, is_plain_statement}
 use Rattle.line_laws.specs.KnownLines.{words_of, words_in, all_words, are_close, is_at}
 use Rattle.source_defs.specs.OperandLists.{is_empty}
-use Rattle.line_laws.proofs.Laying.{laid_list, location_more, parts_of, first_of, First}
-use Rattle.line_laws.proofs.Placing.{HoldWords, ComesNext, hold_more, few_words, any_none, stands, size, Stands}
+use Rattle.line_laws.proofs.LaidLines.{laid_list, location_more, parts_of, first_of, First}
+use Rattle.line_laws.proofs.PlacedWords.{HoldWords, ComesNext, hold_more, few_words, any_none, stands, size, Stands}
 use Rattle.line_laws.proofs.Small.{both}
 
 abbrev pub as_settled : KnownLine → Settled
