@@ -1,7 +1,6 @@
 //! A GPL program that the interpreter runs step by step.
 
 ghost use Rattle.std.specs.Prelude.{◌≡◌, ℕ, None, is_none};
-ghost use Rattle.grom_defs.specs.Addresses.{previous_in_grom};
 ghost use Rattle.gpl_step_defs.specs.State.{start};
 ghost use Rattle.interp_defs.specs.Match.{shown_by};
 ghost use Rattle.interp_defs.specs.Programs.{most_of_boot};
@@ -11,6 +10,7 @@ ghost use Rattle.sim_steps.specs.Starting.{Begins};
 ghost use Rattle.gpl_run.specs.Sessions.{IsSession, IsNew, image_of, entry_of, ended_by, address_in};
 
 use gpl_step_defs::Reason;
+use grom_addresses::previous_in_grom;
 use interp_defs::Turn;
 use sim_steps::{gpl_turn, machines_start, run_turns, start_program};
 use sim_view::register;
@@ -124,11 +124,4 @@ impl Session {
     {
         self.ended
     }
-}
-
-/// The address before an address, in the same GROM: the top three bits stay, the low thirteen count down and wrap.
-fn previous_in_grom(at: u16) -> u16
-    ensures { result ≡ previous_in_grom at }
-{
-    at / 8192 * 8192 + (at % 8192 + 8191) % 8192
 }

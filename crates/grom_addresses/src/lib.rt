@@ -1,6 +1,6 @@
 //! The addresses of GROM.
 #![tactic(auto)]
 
-mod next;
+mod neighbours;
 
-pub use next::next_in_grom;
+pub use neighbours::{next_in_grom, previous_in_grom};

@@ -31,7 +31,7 @@ fn compare_operands<L: Ledger>(machine: &mut Machine, steps: &mut Steps<L>, oper
         GplOperation::Two(TwoName::CEQ) => compare_equal(machine, steps),
         GplOperation::Two(TwoName::CLOG) => compare_ones(machine, steps),
         GplOperation::One(OneName::CZ) => compare_with_zero(machine, steps),
-        _ => {}
+        _ => unreachable!(),
     }
 }
 

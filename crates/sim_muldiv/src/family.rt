@@ -23,7 +23,7 @@ fn run_row_of_two<L: Ledger>(machine: &mut Machine, steps: &mut Steps<L>, name: 
     match name {
         TwoName::MUL => run_product(machine, steps),
         TwoName::DIV => run_quotient(machine, steps),
-        _ => {}
+        _ => unreachable!(),
     }
 }
 
@@ -35,7 +35,7 @@ fn run_row<L: Ledger>(machine: &mut Machine, steps: &mut Steps<L>, operation: Gp
 {
     match operation {
         GplOperation::Two(name) => run_row_of_two(machine, steps, name),
-        _ => {}
+        _ => unreachable!(),
     }
 }
 
