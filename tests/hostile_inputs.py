@@ -26,7 +26,7 @@ class Run:
     files: bool = False
     program: str = 'ti_bench'
 
-    def told(self):
+    def shown(self):
         words = ' '.join(shlex.quote(os.fsdecode(word)[:60]) for word in self.words[:6]) or 'no words'
         words = words if self.program == 'ti_bench' else f'{self.program} {words}'
         kinds = [f'{name} {kind}' for name in ('stdin', 'stdout', 'stderr') if (kind := getattr(self, name)) != 'file']
@@ -186,7 +186,7 @@ def random_line(rng, operations):
 
 
 def sources(rng, turn):
-    """A source of lines that are mostly in form, behind two lines that are accepted."""
+    """A source of lines that are mostly in form, after two lines that are accepted."""
     command, operations = rng.choice((('asm', ASM), ('gasm', GPL), ('run', GPL), ('trace', GPL), ('watch', GPL)))
     front = ['S ST @>8300,5', 'L1 DEC @>8300'] if operations is GPL else ['S LI R1,5', 'L1 DEC R1']
     lines = [random_line(rng, operations) for _ in range(rng.choice((1, 1, 1, 2, 3, 40)))]
@@ -194,7 +194,7 @@ def sources(rng, turn):
 
 
 def codes(rng, turn):
-    """A GPL program of random code bytes; some stand behind a store that leaves a stack without room."""
+    """A GPL program of random code bytes; some stand after a store that leaves a stack without room."""
     kept = [*range(0x30, 0x36), 0x38, 0x39, *range(0x40, 0x98), *range(0xA0, 0xEC), 0, 1, 2, 4, 5, 6, 7, 6, 6]
     values = [rng.choice(kept) if rng.random() < 0.4 else rng.randrange(256) for _ in range(rng.randint(1, 120))]
     values = rng.choice(([], [], [0xBE, 0x73, 0xC0], [0xBE, 0x72, 0xC1])) + values
