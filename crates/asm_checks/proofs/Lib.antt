@@ -1,6 +1,6 @@
 pub mod DirectiveKeys
 pub mod Failures
-pub mod Padding
+pub mod PaddedNames
 pub mod Listed
 pub mod Instructions
 pub mod Labels

@@ -2,6 +2,6 @@ pub mod NoUsage
 pub mod Ends
 pub mod Programs
 pub mod Laws
-pub mod Loading
-pub mod Tracing
+pub mod LoadedSources
+pub mod Traces
 pub mod Steadily

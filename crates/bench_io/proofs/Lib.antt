@@ -1,3 +1,3 @@
-pub mod Taking
-pub mod Writing
+pub mod TakeCalls
+pub mod Writes
 pub mod Progress

@@ -1,9 +1,9 @@
-pub mod Keeping
+pub mod UnchangedParts
 pub mod Names
 pub mod LaidLonger
 pub mod LeadingLaws
 pub mod StoppingLaws
-pub mod Reading
+pub mod FileReads
 pub mod TakingLaws
 pub mod AmountLaws
 pub mod AskingLaws

@@ -2,5 +2,5 @@ mod Listed
 mod ListLaws
 mod Ends
 mod Shelved
-mod Taking
+mod ShelfUse
 pub mod Laws

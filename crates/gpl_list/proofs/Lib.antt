@@ -1,5 +1,5 @@
 pub mod Further
-mod Placing
+mod PlacedLines
 mod RowLaws
 mod ReadLaws
 mod SettleLaws

@@ -1,5 +1,5 @@
 pub mod Bytes
 pub mod Pairs
 pub mod Shipped
-pub mod Placing
+pub mod PlacedWords
 pub mod Begins

@@ -1,9 +1,9 @@
 pub mod Small
 pub mod EarlierLines
-pub mod Laying
-pub mod Placing
-pub mod Settling
-pub mod Linking
+pub mod LaidLines
+pub mod PlacedWords
+pub mod SecondChecks
+pub mod LinkedPieces
 pub mod Whole
-pub mod Standing
+pub mod Locations
 pub mod FedTexts

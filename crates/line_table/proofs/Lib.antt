@@ -1,4 +1,4 @@
-pub mod Reading
+pub mod RowLines
 pub mod Counts
 pub mod Blocks
 pub mod FirstBlocks

@@ -1,4 +1,4 @@
-pub mod Appending
+pub mod AppendedChanges
 pub mod Eight
-pub mod Showing
-pub mod Staying
+pub mod ShownRuns
+pub mod UnchangedParts

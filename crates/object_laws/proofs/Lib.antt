@@ -1,3 +1,3 @@
-pub mod Running
-pub mod Adding
+pub mod ReaderRuns
+pub mod AddedGroups
 pub mod Written

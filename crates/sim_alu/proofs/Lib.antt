@@ -1,7 +1,7 @@
 pub mod Status
 pub mod Paths
 pub mod Numbers
-pub mod Making
+pub mod MadeResults
 pub mod Frames
-pub mod Finishing
+pub mod StoredResults
 pub mod Dispatch

@@ -1,5 +1,5 @@
 pub mod Numbers
 pub mod Paths
-pub mod Telling
+pub mod Comparisons
 pub mod Dispatch
-pub mod Testing
+pub mod StatusTests

@@ -2,8 +2,8 @@ pub mod Paths
 pub mod Places
 pub mod CopyPaths
 pub mod Routines
-pub mod Counting
+pub mod CopiedBytes
 pub mod Turns
 pub mod Marks
-pub mod Starting
-pub mod Ending
+pub mod CopyStart
+pub mod CopyEnds

@@ -1,6 +1,6 @@
 pub mod Numbers
 pub mod Paths
-pub mod Jumping
-pub mod Branching
-pub mod Selecting
+pub mod Jumps
+pub mod Branches
+pub mod Cases
 pub mod Dispatch

@@ -1,7 +1,7 @@
 pub mod Numbers
 pub mod Paths
-pub mod Exchanging
+pub mod Exchanges
 pub mod Dispatch
-pub mod Drawing
-pub mod Bordering
-pub mod Filling
+pub mod RandomNumbers
+pub mod Borders
+pub mod Fills

@@ -5,8 +5,8 @@ pub mod Lengths
 pub mod Codes
 pub mod Targets
 pub mod Sources
-pub mod Arriving
+pub mod Arrivals
 pub mod Copies
 pub mod Lies
-pub mod Moving
+pub mod MoveSteps
 pub mod Dispatch

@@ -1,6 +1,6 @@
 pub mod Numbers
 pub mod Paths
 pub mod Dispatch
-pub mod Turning
+pub mod RowFacts
 pub mod Products
 pub mod Quotients

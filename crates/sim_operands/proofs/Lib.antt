@@ -1,7 +1,7 @@
 pub mod Facts
 pub mod Paths
-pub mod Addressing
+pub mod AddressPieces
 pub mod Ready
-pub mod Finding
+pub mod FoundPlaces
 pub mod Transfers
-pub mod Carrying
+pub mod TransferPieces

@@ -3,7 +3,7 @@ pub use Rattle.sim_operands.proofs as sim_operands
 pub mod Facts
 pub mod Paths
 pub mod Again
-pub mod Beginning
+pub mod StepStart
 pub mod Codes
 pub mod Steps
 pub mod Ends
@@ -13,9 +13,9 @@ pub mod FirstOperand
 pub mod Operands
 pub mod Sources
 pub mod Matched
-pub mod Loading
-pub mod Storing
-pub mod Rowing
-pub mod Telling
+pub mod Destinations
+pub mod StoredResults
+pub mod WholeRows
+pub mod RowStart
 pub mod Family
 pub mod Common

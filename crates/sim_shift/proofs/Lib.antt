@@ -1,5 +1,5 @@
 pub mod Paths
 pub mod Numbers
-pub mod Shifting
-pub mod Rowing
+pub mod Shifts
+pub mod ShiftRows
 pub mod Dispatch

@@ -1,10 +1,10 @@
 pub mod Paths
 pub mod Room
-pub mod Returning
-pub mod Locating
-pub mod Calling
-pub mod Pushing
-pub mod Fetching
-pub mod Reading
+pub mod Returns
+pub mod NextAddress
+pub mod Calls
+pub mod Pushes
+pub mod FetchParts
+pub mod FetchRows
 pub mod Dispatch
-pub mod Turning
+pub mod StackRows

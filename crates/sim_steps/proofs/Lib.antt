@@ -1,7 +1,7 @@
 pub mod Paths
 pub mod Families
-pub mod Refusing
-pub mod Turning
-pub mod Booting
-pub mod Starting
-pub mod Running
+pub mod RefusedCodes
+pub mod Turns
+pub mod Boots
+pub mod Start
+pub mod TurnRuns

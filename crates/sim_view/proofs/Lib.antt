@@ -1,10 +1,10 @@
-pub mod Turning
+pub mod FirstStep
 pub mod Answers
 pub mod Lists
 pub mod Seen
 pub mod Places
 pub mod Simulates
-pub mod Following
+pub mod ViewRuns
 pub mod Bridge
 pub mod Parts
 pub mod Compose

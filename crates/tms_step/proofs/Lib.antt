@@ -1,5 +1,5 @@
 pub mod PutBack
 pub mod Results
 pub mod PortLast
-pub mod Going
+pub mod RunEnds
 pub mod Jumps

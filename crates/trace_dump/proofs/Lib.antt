@@ -1,5 +1,5 @@
 pub mod Dumps
-pub mod Playing
+pub mod ShownPrograms
 pub mod Decimals
 pub mod Numbers
 pub mod Shown

@@ -1,4 +1,4 @@
 pub mod Places
-pub mod Hitting
+pub mod Hits
 pub mod FirstHits
 pub mod Changes

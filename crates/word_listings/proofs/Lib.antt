@@ -2,7 +2,7 @@ pub mod Slots
 pub mod Instructions
 pub mod LineBacks
 pub mod Behind
-pub mod Closing
+pub mod LastLines
 pub mod ListingLaw
 pub mod ShortLaw
 pub mod LinkLaw

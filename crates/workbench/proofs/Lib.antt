@@ -1,4 +1,4 @@
 pub mod NameLaws
 pub mod Ends
-pub mod Taking
+pub mod ShelfUse
 pub mod Laws
