@@ -20,7 +20,9 @@ use Rattle.debug_report_defs.specs.declared.command.DebugCommand.{DebugCommand}
 use Rattle.debug_report_defs.specs.declared.command.DebugCommand.TheVariants as command
 use Rattle.debug_report_defs.specs.Listings.{rows_report, list_report}
 use Rattle.debug_report_defs.specs.Reports.{AcceptedReport, ReportOn}
-use Rattle.debug_report_defs.proofs.ReportLaws.{one_debug_report, debug_fronts_begin_reports, lines_give_states}
+use Rattle.debug_report_defs.proofs.GplLines.{lines_give_states}
+use Rattle.debug_report_defs.proofs.MachineLines.{machine_lines_give_states}
+use Rattle.debug_report_defs.proofs.ReportLaws.{one_debug_report, debug_fronts_begin_reports}
 use Rattle.debug_report_defs.proofs.RefusalLaws.{list_refuses_as_asm}
 use Rattle.debug_commands.specs.Listed.{ListReported}
 use Rattle.debug_commands.specs.Debug.{debug_input, Reading, Shown, ListOn, Reports, ReadFails, Fails, Shows, debug_program}
@@ -74,6 +76,7 @@ laws =
       refusals = list_refuses_as_asm;
       states = lines_give_states;
       memory = changes_give_memory;
+      instructions = machine_lines_give_states;
       interpreter = source_gives_words;
       machines = machines_match_steps;
     }

@@ -6,13 +6,14 @@ use Rattle.gpl_list_defs.specs.Laws.{ListingsGivePrograms}
 use Rattle.asm_list_defs.specs.Laws.{ListingsShowModules}
 use Rattle.machine_change_defs.specs.Laws.{ChangesGiveMemory}
 use Rattle.debug_report_defs.specs.Laws.{DebugFrontsBeginReports, ListRefusesAsAsm, LinesGiveStates}
+use Rattle.debug_report_defs.specs.MachineLaws.{MachineLinesGiveStates}
 use Rattle.debug_commands.specs.Debug.{debug_program}
 
 -- There is at most one report, it was written whole if nothing fails, and two runs alike end alike. What is written
 -- before the end of a report is known begins the report. The bytes of the rows of a listing of a GPL source at their
 -- addresses are the image of the source, and its names are the names of the source. The listing of an assembler source
--- that is accepted shows its module, and one that `asm` refuses is refused by the same fault line. The changes that are
--- read from the lines give the states, and the changes of the lines of instructions give the memory.
+-- that is accepted shows its module, and one that `asm` refuses is refused by the same fault line. From the lines of
+-- steps, and from the lines of instructions, their fronts and their changes are read, and the changes give the states.
 -- The words that the machine holds are the linked memory of the interpreter's source, and the machine after the first i
 -- turns of a program that is run matches its state after i steps, for each i up to the last.
 pub record LawsOfDebugRuns : Type 0 where
@@ -23,5 +24,6 @@ pub record LawsOfDebugRuns : Type 0 where
   pub refusals : ListRefusesAsAsm
   pub states : LinesGiveStates
   pub memory : ChangesGiveMemory
+  pub instructions : MachineLinesGiveStates
   pub interpreter : SourceGivesWords
   pub machines : MachinesMatchSteps

@@ -29,11 +29,13 @@ use steps_command::steps;
 /// is one report on it, which was written whole, and the status is its own, or out of memory; how many bytes are taken
 /// of the shelf at most; that the words which the machine holds are the linked memory of the interpreter's source, and
 /// that for each i up to the last step of a program that is run the machine after the first i turns matches its state
-/// after i steps; that the changes which are read from the lines of the first i steps, made in the first state, give
-/// the state after i steps; that the bytes of the rows of a listing of a GPL source, at their addresses, are the image
-/// of its source, and its names are the names of the source; that the listing of an assembler source which is accepted
-/// shows its module, and that one which is refused has the fault line of `asm`; and that the changes of the lines of
-/// the first i instructions, made in the first memory, give the memory after i instructions.
+/// after i steps; that the changes which are read from the lines of the first i steps alone, made in the first state,
+/// give the state after i steps, and the front of each line its number, its address and its instruction's text; that
+/// the bytes of the rows of a listing of a GPL source, at their addresses, are the image of its source, and its names
+/// are the names of the source; that the listing of an assembler source which is accepted shows its module, and that
+/// one which is refused has the fault line of `asm`; and that the changes which are read from the lines of the first i
+/// instructions alone, made in the first memory, give the memory after i instructions, and the front of each line its
+/// number, the processor before it and its text.
 #[tactic(auto, using(crate::proofs::Laws::laws))]
 pub fn debug<S: Source, F: Shelf, O: Sink, E: Sink>(
     alloc: Global,

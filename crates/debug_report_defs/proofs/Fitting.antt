@@ -13,12 +13,12 @@ use Rattle.change_defs.specs.Text.{size_of}
 use Rattle.debug_report_defs.proofs.TextRead.{AllFit, FitSteps}
 
 -- a change is inside of a size, and has a byte
-record Inside (size : ℕ) (c : Change) : Type 0 where
-  byte : c.byte < 256
-  some : 0 < c.count
-  end : c.at + c.count ≤ size
+pub record Inside (size : ℕ) (c : Change) : Type 0 where
+  pub byte : c.byte < 256
+  pub some : 0 < c.count
+  pub end : c.at + c.count ≤ size
 
-abbrev AllInside : ℕ → List Change → Type 0
+abbrev pub AllInside : ℕ → List Change → Type 0
 AllInside size [] = Unit {0}
 AllInside size (c ∷ cs) = Inside size c × AllInside size cs
 
@@ -34,7 +34,7 @@ joined_inside size at byte (c ∷ cs) is_byte le all = by (nat_eq c.at (at + 1))
     by true false e = (record { byte = is_byte; some = omega arith; end = le }, all)
     by false same e = (record { byte = is_byte; some = omega arith; end = le }, all)
 
-changes_inside : (size at : ℕ) (before after : List ℕ) → ((k : ℕ) → slice_index after k < 256) → at + length after ≤ size
+pub changes_inside : (size at : ℕ) (before after : List ℕ) → ((k : ℕ) → slice_index after k < 256) → at + length after ≤ size
     → AllInside size (changes_from at before after)
 changes_inside size at [] after fits le = tt
 changes_inside size at (x ∷ before) [] fits le = tt

@@ -1,28 +1,19 @@
 -- What holds of all reports of `ti_debug`.
-use Rattle.std.proofs.Common.{◌≡◌, List, ℕ, zero, suc, ◌+◌, refl, sym, ap, ◌∙◌}
+use Rattle.std.proofs.Common.{◌≡◌, List, ℕ, sym, ◌∙◌}
 use Rattle.std.specs.Prelude.{nat_lt, length}
 use Rattle.gpl_source_defs.specs.Programs.{program_of_source}
-use Rattle.gpl_step_defs.specs.State.{GplState, IsState, start}
-use Rattle.gpl_step_defs.specs.Run.{run}
-use Rattle.gpl_step_defs.proofs.KeptSteps.{steps_keep_states}
 use Rattle.report_defs.specs.declared.fault.Fault.TheVariants.{TooLarge}
 use Rattle.shelf_defs.specs.Files.{Files}
-use Rattle.report_defs.specs.Trace.{step_lines}
 use Rattle.report_defs.specs.Report.{Report, Faulty, largest_input, ReportsProgram, shown_lines}
 use Rattle.report_defs.proofs.OneReport.{one_by, one_assembled, one_program}
 use Rattle.report_defs.proofs.Fronts.{begins_program, accepted}
-use Rattle.change_defs.proofs.RunLead.{runs_keep, run_changes_lead}
-use Rattle.change_defs.specs.Steps.{StepChanges, state_applied, changes_after, state_by_changes}
 use Rattle.change_defs.specs.Text.{all_changes_text}
 use Rattle.debug_report_defs.specs.declared.command.DebugCommand.{DebugCommand}
 use Rattle.debug_report_defs.specs.declared.command.DebugCommand.TheVariants.{Glist, Gsteps, Steps}
 use Rattle.debug_report_defs.specs.declared.command.DebugCommand.TheVariants as command
 use Rattle.debug_report_defs.specs.Reports.{AcceptedReport}
 use Rattle.machine_change_defs.proofs.ReportLaws.{one_steps_report, steps_fronts_begin_reports}
-use Rattle.debug_report_defs.specs.Reader.{changes_of_text}
-use Rattle.debug_report_defs.specs.Laws.{OneDebugReport, DebugFrontsBeginReports, LinesGiveStates, text_after, state_by_texts}
-use Rattle.debug_report_defs.proofs.TextRead.{step_read}
-use Rattle.debug_report_defs.proofs.Fitting.{steps_fit}
+use Rattle.debug_report_defs.specs.Laws.{OneDebugReport, DebugFrontsBeginReports}
 
 one_accepted : (command : DebugCommand) (files : Files) (input : List ℕ) (first second : Report) → AcceptedReport command files input first
     → AcceptedReport command files input second → first ≡ second
@@ -46,21 +37,3 @@ debug_fronts_begin_reports (Gsteps limit) files input front report p q =
     (accepted (AcceptedReport (Gsteps limit) files) input report p.0 q)
 debug_fronts_begin_reports (Steps limit) files input front report p q =
     steps_fronts_begin_reports limit input front report p.1 (accepted (AcceptedReport (Steps limit) files) input report p.0 q)
-
--- the states by the texts are those by the changes
-by_texts : (s : GplState) → IsState s → (made : ℕ) → state_by_texts s made ≡ state_by_changes s made
-by_texts s is zero = refl
-by_texts s is (suc earlier) =
-    let fit = steps_fit (run earlier s).last (run (earlier + 1) s).last (runs_keep (earlier + 1) s is) in
-    ap (state_applied (changes_of_text (text_after s earlier))) (by_texts s is earlier)
-    ∙ ap (λ (c : StepChanges). state_applied c (state_by_changes s earlier)) (step_read (changes_after s earlier) fit)
-
-pub lines_give_states : LinesGiveStates
-unfolding step_lines
-lines_give_states =
-    record {
-      lines = λ s count. refl;
-      states = λ image entry bytes below made.
-          let is = steps_keep_states.begins image entry bytes below in
-          by_texts (start image entry) is made ∙ run_changes_lead (start image entry) is made;
-    }

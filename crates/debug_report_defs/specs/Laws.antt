@@ -1,9 +1,11 @@
 -- What holds of all reports of `ti_debug`.
-use Rattle.std.specs.Prelude.{◌≡◌, ℕ, zero, suc, ◌+◌, ◌<◌, List, ◌++◌, codes, map, Option, Some, None}
+use Rattle.std.specs.Prelude.{◌≡◌, ℕ, ◌+◌, ◌^◌, ◌<◌, List, [], ◌∷◌, ◌++◌, codes, map, Option, Some, None}
 use Rattle.std.specs.List.{range_with_len}
 use Rattle.tms_defs.specs.Bytes.{HoldsBytes}
-use Rattle.gpl_step_defs.specs.State.{GplState, start}
+use Rattle.gpl_defs.specs.Reading.{reading}
+use Rattle.gpl_step_defs.specs.State.{GplState, IsState, start}
 use Rattle.gpl_step_defs.specs.Run.{run}
+use Rattle.gpl_listing_defs.specs.Texts.{read_text}
 use Rattle.shelf_defs.specs.Files.{Files}
 use Rattle.report_defs.specs.Trace.{SeenState, seen_state, step_front, step_lines}
 use Rattle.report_defs.specs.FaultLine.{fault_line}
@@ -15,7 +17,9 @@ use Rattle.change_defs.specs.Steps.{state_applied, changes_after}
 use Rattle.change_defs.specs.Text.{step_text, all_changes_text}
 use Rattle.debug_report_defs.specs.declared.command.DebugCommand.{DebugCommand}
 use Rattle.debug_report_defs.specs.declared.command.DebugCommand.TheVariants as command
-use Rattle.debug_report_defs.specs.Reader.{changes_of_text}
+use Rattle.debug_report_defs.specs.LineParts.{front_part, changes_part}
+use Rattle.debug_report_defs.specs.LineFronts.{GplFront, gpl_front}
+use Rattle.debug_report_defs.specs.Reader.{changes_of_line}
 use Rattle.debug_report_defs.specs.Reports.{ReportOn, PrefixOn}
 
 -- the law, which is proved: there is at most one report on each command, input and files
@@ -49,16 +53,36 @@ ListRefusesAsAsm =
 abbrev pub text_after : GplState → ℕ → List ℕ
 text_after s made = step_text (changes_after s made) ++ codes "\n"
 
--- the first state of a run, with the changes made that are read from the lines of this number of its steps
-abbrev pub state_by_texts : GplState → ℕ → SeenState
-state_by_texts s zero = seen_state s
-state_by_texts s (suc earlier) = state_applied (changes_of_text (text_after s earlier)) (state_by_texts s earlier)
+-- the line of the next step after this number of steps
+abbrev pub line_after : GplState → ℕ → List ℕ
+line_after s made = step_front (made + 1) (run made s).last ++ text_after s made
 
--- The law, which is proved: the line of each step is its front and a text of changes; and the changes that are read
--- from the texts of the first steps of a program, made in its first state one step after the other, give the state
--- after these steps, but for the address of the next instruction, which the front of the next line has.
+-- the front of that line
+abbrev pub front_after : GplState → ℕ → GplFront
+front_after s made =
+    let now = (run made s).last in
+    record { number = made + 1; pc = now.pc; instruction = read_text (reading now.image now.pc) now.pc }
+
+-- a state with the changes of lines made, one line after the other
+abbrev pub state_of_lines : List (List ℕ) → SeenState → SeenState
+state_of_lines [] s = s
+state_of_lines (line ∷ lines) s = state_of_lines lines (state_applied (changes_of_line line) s)
+
+-- The law, which is proved: the line of each step is its front and a text of changes. The end of the front is found,
+-- and from the line alone are read: the number of the step, the address of its instruction, the instruction's text, and
+-- the changes. The changes of the lines of the first steps of a program, made in its first state one line after the
+-- other, give the state after these steps, but for the address of the next instruction, which the front of the next
+-- line has.
 pub record LinesGiveStates : Type 0 where
-  pub lines : (s : GplState) (count : ℕ) → step_lines all_changes_text s count
-      ≡ map (λ made. step_front (made + 1) (run made s).last ++ text_after s made) (range_with_len 0 count)
+  pub lines : (s : GplState) (count : ℕ)
+      → step_lines all_changes_text s count ≡ map (line_after s) (range_with_len 0 count)
+  pub parts : (s : GplState) → IsState s → (made : ℕ)
+      → (front_part (line_after s made) ≡ step_front (made + 1) (run made s).last)
+      × (changes_part (line_after s made) ≡ text_after s made)
+  pub fronts : (s : GplState) → IsState s → (made : ℕ) → made + 1 < 2 ^ 64
+      → gpl_front (line_after s made) ≡ front_after s made
+  pub changes : (s : GplState) → IsState s → (made : ℕ)
+      → changes_of_line (line_after s made) ≡ changes_after s made
   pub states : (image : List ℕ) (entry : ℕ) → HoldsBytes 65536 image → entry < 65536 → (made : ℕ)
-      → state_by_texts (start image entry) made ≡ seen_state (run made (start image entry)).last
+      → state_of_lines (step_lines all_changes_text (start image entry) made) (seen_state (start image entry))
+      ≡ seen_state (run made (start image entry)).last

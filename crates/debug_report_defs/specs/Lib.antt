@@ -1,5 +1,9 @@
 pub mod Words
 pub mod Listings
 pub mod Reports
+pub mod LineParts
+pub mod LineFronts
 pub mod Reader
 pub mod Laws
+pub mod MachineReader
+pub mod MachineLaws

@@ -1,10 +1,11 @@
--- How the changes that a line shows are read from its text, byte by byte.
+-- How the changes that a line of `gsteps` shows are read from its text, byte by byte.
 use Rattle.std.specs.Prelude.{ℕ, ◌+◌, ◌-◌, ◌*◌, ◌==◌, if◌then◌else◌, List, [], ◌∷◌, ◌++◌}
 use Rattle.source_defs.specs.Numbers.{is_hexadecimal_digit, digit_value}
 use Rattle.change_defs.specs.declared.part.Part.{Part}
 use Rattle.change_defs.specs.declared.part.Part.TheVariants.{Cells, Video, Registers}
 use Rattle.change_defs.specs.Changes.{Change}
 use Rattle.change_defs.specs.Steps.{StepChanges}
+use Rattle.debug_report_defs.specs.LineParts.{changes_part}
 
 -- what a byte of the text is
 pub data Sign : Type 0 where
@@ -94,3 +95,7 @@ read_from r (byte ∷ bytes) = read_from (after_sign (sign_of byte) r) bytes
 abbrev pub changes_of_text : List ℕ → StepChanges
 changes_of_text text =
     (ended (read_from (between (record { cells = []; vdp = []; registers = [] }) Cells 0) text)).made
+
+-- the changes of a line
+abbrev pub changes_of_line : List ℕ → StepChanges
+changes_of_line line = changes_of_text (changes_part line)

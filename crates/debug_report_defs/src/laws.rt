@@ -2,6 +2,7 @@
 
 ghost use Rattle.debug_report_defs.specs.Laws.{DebugFrontsBeginReports, LinesGiveStates, ListRefusesAsAsm};
 ghost use Rattle.debug_report_defs.specs.Laws.{OneDebugReport};
+ghost use Rattle.debug_report_defs.specs.MachineLaws.{MachineLinesGiveStates};
 
 /// There is at most one report on each command, input and files.
 #[tactic(auto, using(crate::proofs::ReportLaws::one_debug_report))]
@@ -22,9 +23,16 @@ pub fn list_refuses_as_asm()
     ensures { ListRefusesAsAsm }
 {}
 
-/// The changes that are read from the lines of `gsteps` lead from the first state of a program to the state after each
-/// step.
-#[tactic(auto, using(crate::proofs::ReportLaws::lines_give_states))]
+/// From the lines of `gsteps` alone their fronts and changes are read, and the changes lead from the first state of a
+/// program to the state after each step.
+#[tactic(auto, using(crate::proofs::GplLines::lines_give_states))]
 pub fn lines_give_states()
     ensures { LinesGiveStates }
+{}
+
+/// From the lines of `steps` alone their fronts and changes are read, and the changes lead from the first memory of a
+/// machine to the memory after each instruction.
+#[tactic(auto, using(crate::proofs::MachineLines::machine_lines_give_states))]
+pub fn machine_lines_give_states()
+    ensures { MachineLinesGiveStates }
 {}

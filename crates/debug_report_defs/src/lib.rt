@@ -6,5 +6,6 @@ mod laws;
 
 pub use command::DebugCommand;
 pub use laws::{
-    debug_fronts_begin_reports, lines_give_states, list_refuses_as_asm, one_debug_report,
+    debug_fronts_begin_reports, lines_give_states, list_refuses_as_asm, machine_lines_give_states,
+    one_debug_report,
 };
