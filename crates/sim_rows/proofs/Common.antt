@@ -1,6 +1,6 @@
 -- The names that the proofs of a family cite, passed on from one place. Declares nothing.
 pub use Rattle.sim_view.proofs.Common.{comes, comes_as, comes_on, comes_then, given, Goes, goes_in, high-join, is_view, IsView, join-bytes, Leads, leads, off}
-pub use Rattle.sim_view.proofs.Common.{on, Part, part_then, pick, piece, previous-next, reg_word, Rest}
+pub use Rattle.sim_view.proofs.Common.{no_turns, on, one_more_turn, Part, part_then, pick, piece, previous-next, reg_word, Rest, runs_steps, TurnsMade}
 pub use Rattle.sim_view.specs.Bounds.{most_of_address, most_of_alu_row, most_of_byte, most_of_case_row, most_of_exchange_row, most_of_load, most_of_product_row}
 pub use Rattle.sim_view.specs.Bounds.{most_of_quotient_row, most_of_shift_row, most_of_stack_row, most_of_store, most_to_copy}
 pub use Rattle.sim_operands.proofs.AddressPieces.{Answers, index_read, IndexRead, range_read, RangeRead}
@@ -21,7 +21,7 @@ pub use Rattle.sim_rows.proofs.Sources.{code_fits}
 pub use Rattle.sim_rows.proofs.Steps.{bound_made, bound_stop, place_same, step_branch, step_byte, step_jump, step_move, step_none, step_plain}
 pub use Rattle.sim_rows.proofs.StoredResults.{changed_again, ChangedFrom, store_then, stored_idle, storing_again, value_keeps, width_again}
 pub use Rattle.sim_rows.proofs.RowStart.{stands_at}
-pub use Rattle.sim_rows.specs.Prelude.{◌>>=◌, absolute_flags, absolute_of, ABSV, ADDR, Addressed, ADDV, ALL, ANDV, Answer, AreTurns, Asking, ASPACE, AtDispatch}
+pub use Rattle.sim_rows.specs.Prelude.{◌>>=◌, absolute_flags, absolute_of, ABSV, ADDR, Addressed, ADDV, ALL, ANDV, Answer, Asking, ASPACE, AtDispatch}
 pub use Rattle.sim_rows.specs.Prelude.{AtRow, B, BACK, OperandStop, behind, behind_code, behind_first, bit_of, bound, bound_at, bound_by, BRANCH, Branch, branched}
 pub use Rattle.sim_rows.specs.Prelude.{BTARG, Byte, byte_at, byte_from, byte_in, bytes_by, bytes_or_none, CALL, CALLN, CALLS, CARRY, CASE, CASEN, CASET, CASEV}
 pub use Rattle.sim_rows.specs.Prelude.{Cell, cells_at, CEQ, CEQV, CFALSE, CGE, CGEV, CGT, CGTV, CH, ShowsChanges, Changes, CHARACTER, CHE, CHEV, CHV, CLOG, CLOGV}

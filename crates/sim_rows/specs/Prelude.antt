@@ -1,6 +1,6 @@
 -- The names that the clauses and definitions of a family cite, passed on from one place. Declares nothing.
 pub use Rattle.sim_view.specs.Prelude.{◌>>=◌, ABS, absolute_flags, absolute_of, ABSV, ADD, ADDR, address_at}
-pub use Rattle.sim_view.specs.Prelude.{address_register, ADDV, ALL, AND, ANDV, Answer, APTR, AreTurns, ASPACE, B}
+pub use Rattle.sim_view.specs.Prelude.{address_register, ADDV, ALL, AND, ANDV, Answer, APTR, ASPACE, B}
 pub use Rattle.sim_view.specs.Prelude.{BACK, behind, bit_of, Boots, bound, bound_at, bound_by, Branch, BRANCH}
 pub use Rattle.sim_view.specs.Prelude.{branched, BTARG, Byte, byte_at, byte_from, byte_in, ByteOp, bytes_or_none}
 pub use Rattle.sim_view.specs.Prelude.{CALL, CALLN, CALLS, CARRY, CARRY_BIT, CASE, CASEN, CASET, CASEV, Cell}

@@ -101,7 +101,7 @@ pub use Rattle.native_interp.specs.declared.words.TheConstants.{INTERP}
 pub use Rattle.interp_defs.specs.Boot.{HoldsEntry, IsBoot}
 pub use Rattle.interp_defs.specs.Interpreter.{address_register, code_register, HoldsRegister, most_to_dispatch}
 pub use Rattle.interp_defs.specs.Match.{IsFetched, IsHalted, IsMatching, Matches, PortsAreIdle, shown_by, StandsBy}
-pub use Rattle.interp_defs.specs.Programs.{AreTurns, EndsAs, RunsSteps}
+pub use Rattle.interp_defs.specs.Programs.{EndsAs, RunsSteps}
 pub use Rattle.interp_defs.specs.Runs.{is_end, Runs}
 pub use Rattle.interp_defs.specs.Turned.{Reaches, Turned, TurnedBy}
 pub use Rattle.interp_defs.specs.Turns.{Boots, IsTurn}
