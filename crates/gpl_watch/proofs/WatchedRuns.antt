@@ -10,7 +10,7 @@ use Rattle.gpl_step_defs.specs.Run.{run, turns}
 use Rattle.interp_defs.specs.declared.turn.Turn.{Turn}
 use Rattle.interp_defs.specs.declared.turn.Turn.TheVariants.{Stepped, Stopped}
 use Rattle.interp_defs.specs.Match.{IsMatching, shown_by}
-use Rattle.interp_defs.specs.Turned.{TurnedBy, Turned}
+use Rattle.interp_defs.specs.Turned.{Turned, TurnedBy, whole_turn}
 use Rattle.interp_defs.specs.Programs.{RunsSteps}
 use Rattle.sim_steps.specs.Running.{RunsTurns}
 use Rattle.sim_steps.proofs.TurnRuns.{Stepping, none_yet, stepped, stopped, whole, last_is, done_at_least}
@@ -81,7 +81,7 @@ begun x t watched e h is = record {
 
 -- a stop shows the cells and the video memory that were shown before
 halted_by : (items : List Item) (z w : MachineState) (u v : ℕ) (reason : Reason) (r : Result GplState Reason)
-    → TurnedBy r (shown_by z.cpu.memory) 0 z w u v (Stopped reason)
+    → TurnedBy r (shown_by z.cpu.memory) z w (whole_turn u v) (Stopped reason)
     → watching items (shown_by z.cpu.memory) ≡ watching items (shown_by w.cpu.memory)
 halted_by items z w u v reason (Ok next) t = absurd (let a = t.0 in cc)
 halted_by items z w u v reason (Err other) t =
@@ -103,7 +103,7 @@ module _ {items : List Item} {x y : SessionState} {t u made : ℕ} {watched : Li
 
   -- a turn from there
   abbrev pub Made : Turn → Type 0
-  Made turn = Turned (shown_by y.machine.cpu.memory) 0 y.machine z.machine u v turn
+  Made turn = Turned (shown_by y.machine.cpu.memory) y.machine z.machine (whole_turn u v) turn
 
   -- a step that stops
   module _ {turn : Turn} {reason : Reason} (is : turn ≡ Stopped reason) (turned : Made turn)

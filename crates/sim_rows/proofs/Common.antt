@@ -49,9 +49,9 @@ pub use Rattle.sim_rows.specs.Prelude.{signed, size_of, SLA, SLLB, SLLV, Source,
 pub use Rattle.sim_rows.specs.Prelude.{SRLB, SRLV, ST, Stack, Stands, STATB, state_at_dispatch, state_of, STATUS, Status, status_byte, status_of, status_word}
 pub use Rattle.sim_rows.specs.Prelude.{step, Stepped, steps, STO, Stopped, StoppedBy, STORE, Stored, StoresRegister, StoresResult, StoresTo, StoresValue}
 pub use Rattle.sim_rows.specs.Prelude.{Storing, STREAM, streamed, STV, SUBV, sum_flags, sum_of, swapped, TAKE, target_of, To, ToMemory, ToRegisters, Turn}
-pub use Rattle.sim_rows.specs.Prelude.{Turned, TurnedBy, TurnsBy, TurnsRow, Two, two, TwoName, unchanged, unit, UNKN, value_at, Vdp, vdp_address_written}
+pub use Rattle.sim_rows.specs.Prelude.{from_dispatch, Turned, TurnedBy, TurnsBy, TurnsRow, Two, two, TwoName, unchanged, unit, UNKN, value_at, Vdp, vdp_address_written}
 pub use Rattle.sim_rows.specs.Prelude.{vdp_data_written, VdpState, View, view, WHERE, Width, width_in, with_byte, with_byte_from, with_byte_in, with_byte_to}
 pub use Rattle.sim_rows.specs.Prelude.{with_cell, with_condition, with_double, with_immediate, with_overflow, with_pc, with_quotient, with_register}
 pub use Rattle.sim_rows.specs.Prelude.{with_status, with_stop, with_tested, with_value, with_word, with_word_in, within_limit, Word, word_at, word_in, word_of}
-pub use Rattle.sim_rows.specs.Prelude.{word_or_byte, WORKSPACE, WriteSetup, XORV}
+pub use Rattle.sim_rows.specs.Prelude.{whole_turn, word_or_byte, WORKSPACE, WriteSetup, XORV}
 unfoldable pub use Rattle.sim_rows.specs.Prelude.{after, operand_at, reading, view_of, zeros}

@@ -1,7 +1,7 @@
 -- Runs of turns.
 use Rattle.std.proofs.Common.{ℕ, ◌+◌, ◌<◌, ◌∙◌, ◌≡◌, ◌≤◌, ap, arith, Err, None, Ok, Option, refl, Result, Some, subst, suc, sym, zero}
 use Rattle.sim_rows.proofs.Common.{◌>>=◌, bound, Cell, EndsAs, GplRun, GplState, IsMatching, IsTurn, MachineState, Matches, no_turns, one_more, one_more_turn, Reason, run, runs_steps}
-use Rattle.sim_rows.proofs.Common.{shown_by, step, Stepped, Stopped, Turn, Turned, TurnedBy, TurnsMade, with_stop}
+use Rattle.sim_rows.proofs.Common.{shown_by, step, Stepped, Stopped, Turn, Turned, TurnedBy, TurnsMade, whole_turn, with_stop}
 use Rattle.sim_rows.specs.gpl_step_defs.Run.{steps}
 use Rattle.sim_steps.specs.Running.{RunsTurns}
 
@@ -108,10 +108,10 @@ module _ (made : ℕ) {s : GplState} {x z : MachineState} {t u : ℕ} (h : Stepp
       let le : turn ≤ bound (run made s).last = subst (λ (q : GplState). turn ≤ bound q) (sym last_is) within in
       one_more_turn s made h.count turn x z w h.turns_are matches is le
 
-  of_now : (turn : Turn) → Turned (shown_by z.cpu.memory) 0 z w u v turn → Turned h.now 0 z w u v turn
-  of_now turn e = subst (λ (q : GplState). Turned q 0 z w u v turn) h.matches.shows e
+  of_now : (turn : Turn) → Turned (shown_by z.cpu.memory) z w (whole_turn u v) turn → Turned h.now z w (whole_turn u v) turn
+  of_now turn e = subst (λ (q : GplState). Turned q z w (whole_turn u v) turn) h.matches.shows e
 
-  stepped_by : (r : Result GplState Reason) → step h.now ≡ r → TurnedBy r h.now 0 z w u v Stepped → Stepping (suc made) s x w t v
+  stepped_by : (r : Result GplState Reason) → step h.now ≡ r → TurnedBy r h.now z w (whole_turn u v) Stepped → Stepping (suc made) s x w t v
   stepped_by (Ok next) e r =
       let a = h.counted in
       let b = r.1.counted in
@@ -125,10 +125,10 @@ module _ (made : ℕ) {s : GplState} {x z : MachineState} {t u : ℕ} (h : Stepp
       }
   stepped_by (Err reason) e r = absurd (let a = r.0 in cc)
 
-  pub stepped : Turned (shown_by z.cpu.memory) 0 z w u v Stepped → Stepping (made + 1) s x w t v
+  pub stepped : Turned (shown_by z.cpu.memory) z w (whole_turn u v) Stepped → Stepping (made + 1) s x w t v
   stepped e = subst (λ (m : ℕ). Stepping m s x w t v) (sym (next_is made)) (stepped_by (step h.now) refl (of_now Stepped e))
 
-  stopped_as : (limit : ℕ) (reason : Reason) → made < limit → (r : Result GplState Reason) → step h.now ≡ r → TurnedBy r h.now 0 z w u v (Stopped reason) →
+  stopped_as : (limit : ℕ) (reason : Reason) → made < limit → (r : Result GplState Reason) → step h.now ≡ r → TurnedBy r h.now z w (whole_turn u v) (Stopped reason) →
       RunsTurns s limit x w t v made (Some reason)
   stopped_as limit reason less (Ok next) e r = absurd (let a = r.0 in cc)
   stopped_as limit reason less (Err other) e r =
@@ -147,7 +147,7 @@ module _ (made : ℕ) {s : GplState} {x z : MachineState} {t u : ℕ} (h : Stepp
             (subst (λ (q : GplRun). EndsAs q.stop q.last w) (sym is) r.2);
       }
 
-  pub stopped : (limit : ℕ) (reason : Reason) → made < limit → Turned (shown_by z.cpu.memory) 0 z w u v (Stopped reason) →
+  pub stopped : (limit : ℕ) (reason : Reason) → made < limit → Turned (shown_by z.cpu.memory) z w (whole_turn u v) (Stopped reason) →
       RunsTurns s limit x w t v made (Some reason)
   stopped limit reason less e = stopped_as limit reason less (step h.now) refl (of_now (Stopped reason) e)
 

@@ -103,7 +103,7 @@ pub use Rattle.interp_defs.specs.Interpreter.{address_register, code_register, H
 pub use Rattle.interp_defs.specs.Match.{IsFetched, IsHalted, IsMatching, Matches, PortsAreIdle, shown_by, StandsBy}
 pub use Rattle.interp_defs.specs.Programs.{EndsAs, RunsSteps}
 pub use Rattle.interp_defs.specs.Runs.{is_end, Runs}
-pub use Rattle.interp_defs.specs.Turned.{Reaches, Turned, TurnedBy}
+pub use Rattle.interp_defs.specs.Turned.{from_dispatch, Reaches, Turned, TurnedBy, whole_turn}
 pub use Rattle.interp_defs.specs.Turns.{Boots, IsTurn}
 pub use Rattle.interp_defs.specs.declared.turn.Turn.{Turn}
 pub use Rattle.interp_defs.specs.declared.turn.Turn.TheVariants.{Stepped, Stopped}
