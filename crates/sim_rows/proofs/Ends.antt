@@ -55,6 +55,7 @@ matches s y stands h = record {
     words = stands.words;
     idle = idle_of y.cpu.memory s s.pc h;
     fetched = fetched_of y.cpu.memory s s.pc h;
+    constants = tt;
   };
   shows = shown_is y.cpu.memory ∙ state_is (view y) s h;
 }
