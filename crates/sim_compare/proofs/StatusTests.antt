@@ -5,11 +5,20 @@ use Rattle.sim_rows.proofs.Common.{finished, Goes, GplOperation, GplRead, GplSta
 use Rattle.sim_rows.proofs.Common.{matches, most_to_dispatch, operation_at, operation_entry, operation_in, operation_in_view, OVF, Plain, PlainOp, reaches}
 use Rattle.sim_rows.proofs.Common.{from_dispatch, read_by, reading, Reason, shifted, ShowsState, SLA, state_at_dispatch, status_of, step, Stepped, Turned, turned_by, unchanged}
 use Rattle.sim_rows.proofs.Common.{View, view, with_tested}
+use Rattle.sim_rows.specs.Prelude.{CARRY_BIT, GREATER_BIT, HIGHER_BIT, OVERFLOW_BIT}
 use Rattle.sim_compare.specs.Pieces.{end_of}
-use Rattle.sim_compare.specs.Family.{ending, is_test, IsTold, test, tested}
+use Rattle.sim_compare.specs.Family.{ending, is_test, IsTold, test}
 use Rattle.sim_compare.proofs.Numbers.{bit_out_1, bit_out_2, bit_out_4, bit_out_5}
 use Rattle.sim_compare.proofs.Comparisons.{is_told, tells, told_goes}
 use Rattle.sim_compare.specs.Pieces as pieces
+
+-- The bit of the status that a test reads.
+abbrev pub tested : Option GplOperation → ℕ
+tested (Some (Plain H)) = HIGHER_BIT
+tested (Some (Plain GT)) = GREATER_BIT
+tested (Some (Plain CARRY)) = CARRY_BIT
+tested (Some (Plain OVF)) = OVERFLOW_BIT
+tested operation = 0
 
 -- ---- the operations
 

@@ -8,16 +8,20 @@ use Rattle.sim_rows.proofs.Common.{grom_at, GromState, grown_by, GSTOP, high, id
 use Rattle.sim_rows.proofs.Common.{marked_by, matches, most_to_dispatch, next_in_grom, on_stack, operation_in, past, plus, PortsAreIdle, reaches, Reason}
 use Rattle.sim_rows.proofs.Common.{from_dispatch, second_way, set_is, shifted, SHOW, SLA, Stack, Stands, step, step_jump, Stepped, Stopped, StoppedBy, sum_of, Turned}
 use Rattle.sim_rows.proofs.Common.{turned_by, View, view, Word, word_at as word_in_grom}
+use Rattle.sim_rows.specs.Prelude.{RETURN_STACK, unchanged, with_cell, with_pc, with_word}
 use Rattle.sim_rows.specs.Pieces.{at_first}
 use Rattle.sim_rows.specs.sim_operands.Pieces.{one_if}
 use Rattle.sim_stack.specs.Pieces.{offset_of, shows_at}
 use Rattle.sim_stack.specs.Family.{is_call}
-use Rattle.sim_stack.specs.Stacks.{gone_to}
 use Rattle.sim_stack.proofs.Room.{behind_is, no_room, stop_turned, two_more, with_room}
 use Rattle.sim_stack.proofs.NextAddress.{next_fits}
 use Rattle.sim_stack.specs.Pieces as pieces
 
 -- ---- the step
+
+-- what CALL changes
+abbrev pub gone_to : GplState → ℕ → ℕ → Changes
+gone_to s top target = with_pc target (with_word top s.pc (with_cell RETURN_STACK top (unchanged s)))
 
 abbrev read_in : GplState → ℕ × ℕ
 read_in s = word_in_grom s.image (behind_code s)

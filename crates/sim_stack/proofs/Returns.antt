@@ -2,15 +2,16 @@
 use Rattle.std.proofs.Common.{ℕ, ◌<◌, ◌==◌, ◌∙◌, ◌≡◌, ap, arith, Bool, eqb, Err, false, if◌then◌else◌, List, nat_lt, Ok, Option, refl, Result}
 use Rattle.std.proofs.Common.{slice_index, slice_set, Some, subst, sym, true}
 use Rattle.std.proofs.lemmas.Bool.{agree_below_at, eqb-true}
-use Rattle.sim_rows.proofs.Common.{◌>>=◌, behind_code, bound, bound_made, Changes, code_byte, code_fits, ReachesWithin, comes, comes_as, comes_on, difference_of}
+use Rattle.sim_rows.proofs.Common.{◌>>=◌, behind_code, bound, bound_made, code_byte, code_fits, ReachesWithin, comes, comes_as, comes_on, difference_of}
 use Rattle.sim_rows.proofs.Common.{Dispatched, Exit, exit, Exits, finished, first_way, GORTN, GOTO, GplOperation, GplState, GSTEP, GSTOP, if_true, is_end}
 use Rattle.sim_rows.proofs.Common.{is_view, join, low, MachineState, matches, most_to_dispatch, on_stack, operation_at, operation_in, Plain, reaches, Reason}
 use Rattle.sim_rows.proofs.Common.{from_dispatch, RTN, RTNC, second_way, SeesFinished, ShowsState, Stack, Stands, step, step_plain, Stepped, Stopped, StoppedBy, TAKE, Turned}
-use Rattle.sim_rows.proofs.Common.{turned_by, View, view, with_condition, Word, word_in}
+use Rattle.sim_rows.proofs.Common.{turned_by, View, view, Word, word_in}
+use Rattle.sim_rows.specs.Prelude.{Changes, grown_by, RETURN_STACK, unchanged, with_cell, with_condition, with_pc}
+use Rattle.sim_rows.specs.gpl_step_defs.Place.{word_at}
 use Rattle.sim_jumps.specs.Jumps.{GoesOn, TakesBranch}
 use Rattle.sim_stack.specs.Pieces.{offset_of}
 use Rattle.sim_stack.specs.Family.{is_return}
-use Rattle.sim_stack.specs.Stacks.{gone_back, returned_by}
 use Rattle.sim_stack.proofs.Room.{no_room, offset_above, stop_turned, two_less, with_room}
 use Rattle.sim_stack.specs.Pieces as pieces
 
@@ -37,6 +38,13 @@ one_is : (code : ℕ) → code < 256 → operation_at code ≡ Some (Plain RTNC)
 one_is code h e = eqb-true code 1 (if_true (rtnc_of (operation_at code)) (eqb code 1) (ap rtnc_of e) (agree_below_at rtnc_is_one (λ _. true) 256 code refl h))
 
 -- ---- the step
+
+-- What they change, where the word at the top may be read: RTN, whose code byte is 0, clears the condition too.
+abbrev pub gone_back : GplState → ℕ → Changes
+gone_back s top = with_pc (word_at s top) (with_cell RETURN_STACK (grown_by 254 top) (unchanged s))
+
+abbrev pub returned_by : ℕ → GplState → ℕ → Changes
+returned_by code s top = if code == 0 then with_condition false (gone_back s top) else gone_back s top
 
 -- the state whose next instruction is the one behind
 abbrev before : GplState → GplState

@@ -1,22 +1,12 @@
--- Parts of CALL, RTN, PUSH and FETCH, for all states that may be there.
-use Rattle.std.specs.Prelude.{ℕ, ◌<◌, ◌==◌, ◌≡◌, false, if◌then◌else◌, List, slice_index}
+-- Parts of FETCH, for all states that may be there.
+use Rattle.std.specs.Prelude.{ℕ, ◌<◌, ◌≡◌, List, slice_index}
 use Rattle.sim_rows.specs.Prelude.{ShowsChanges, Changes, ReachesWithin, FETCHA, FETCHB, FETCHP, FETCHS, GplState, grom_at}
-use Rattle.sim_rows.specs.Prelude.{grown_by, GSTEP, join, Loaded, MachineState, next_in_grom, number_of_space, Place}
-use Rattle.sim_rows.specs.Prelude.{RETURN_STACK, SeesFinished, unchanged, View, view, WHERE, with_byte, with_cell}
-use Rattle.sim_rows.specs.Prelude.{with_condition, with_pc, with_word, word_in}
-use Rattle.sim_rows.specs.gpl_step_defs.Place.{word_at}
+use Rattle.sim_rows.specs.Prelude.{GSTEP, join, Loaded, MachineState, next_in_grom, number_of_space, Place}
+use Rattle.sim_rows.specs.Prelude.{SeesFinished, unchanged, View, view, WHERE, with_byte}
+use Rattle.sim_rows.specs.Prelude.{with_pc, with_word, word_in}
 use Rattle.sim_stack.specs.Pieces.{ask_stacked}
 use Rattle.sim_rows.specs.sim_view.Bounds.{most_to_end_fetch, most_to_fetch_byte, most_to_load_stacked}
 use Rattle.sim_rows.specs.sim_view.Bounds.{most_to_locate}
-
--- RTN and RTNC
-
--- What they change, where the word at the top may be read: RTN, whose code byte is 0, clears the condition too.
-abbrev pub gone_back : GplState → ℕ → Changes
-gone_back s top = with_pc (word_at s top) (with_cell RETURN_STACK (grown_by 254 top) (unchanged s))
-
-abbrev pub returned_by : ℕ → GplState → ℕ → Changes
-returned_by code s top = if code == 0 then with_condition false (gone_back s top) else gone_back s top
 
 -- The next address
 
@@ -47,11 +37,6 @@ abbrev pub SetsAside : MachineState → MachineState → ℕ → ℕ → Type 0
 SetsAside x y before after =
     (image : List ℕ) → (at : ℕ) → at < 65536 → (view x).grom ≡ grom_at image at
     → ReachesWithin most_to_locate x y before after FETCHP (SetAside (view x) image at)
-
--- CALL
-
-abbrev pub gone_to : GplState → ℕ → ℕ → Changes
-gone_to s top target = with_pc target (with_word top s.pc (with_cell RETURN_STACK top (unchanged s)))
 
 -- FETCH
 
