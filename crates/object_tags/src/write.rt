@@ -42,7 +42,7 @@ pub fn write_module(alloc: Global, module: &Module) -> Result<Vec<u8>, AllocErro
 /// The module's words stand at even places, and it has at most 32,768 words, 256 DEFs and 256 REFs.
 ///
 /// # Errors
-/// `AllocError` is want of memory.
+/// `AllocError` means that memory ran out.
 pub fn write_lines(alloc: Global, module: &Module) -> Result<Vec<ObjectLine>, AllocError>
     requires { HasText (defined_module «module».now) }
     ensures lines { IfOk result (λ lines. bytes_of lines.items ≡ written_lines (defined_module «module».now)) }
