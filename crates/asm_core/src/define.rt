@@ -45,7 +45,7 @@ pub(crate) fn define_line(
     }
 }
 
-/// Defines names of REF, of which none stands for anything yet. Where memory is wanting none is defined.
+/// Defines names of REF, of which none stands for anything yet. If memory runs out, none is defined.
 #[tactic(auto, using(crate::proofs::NameLaws::taken_back, crate::proofs::NameLaws::grown_on))]
 fn define_refs(symbols: &mut Symbols, refs: &[Name]) -> Result<(), AllocError>
     ensures defined { OnOk result (symbols.new ≡ with_names symbols.old (external_entries refs.now)) }

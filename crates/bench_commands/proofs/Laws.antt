@@ -7,7 +7,6 @@ use Rattle.std.proofs.lemmas.Bool.Decides.{nat_tests}
 use Rattle.bench_io.specs.Stream.{SourceState, IsAtEnd}
 use Rattle.report_defs.specs.declared.fault.Fault.TheVariants.{TooLarge}
 use Rattle.report_defs.specs.Report.{Report, Faulty, largest_input, OnInput}
-use Rattle.interp_defs.proofs.MachinesOfRuns.{machines_match_steps}
 use Rattle.line_table.proofs.Joined.{source_gives_words}
 use Rattle.report_defs.proofs.OneReport.{one_report}
 use Rattle.report_defs.proofs.Fronts.{fronts_begin_reports}
@@ -77,7 +76,6 @@ laws =
       runs = laws_of bench_program is_program;
       fronts = fronts_begin_reports;
       interpreter = source_gives_words;
-      machines = machines_match_steps;
       listed_bytes = listed_bytes_come_back;
       listed_words = listed_words_come_back;
       entered_words = entered_words_come_back;

@@ -15,6 +15,7 @@ use Rattle.reports.specs.declared.report.Report.TheVariants as made
 use Rattle.gpl_step_defs.specs.State.{GplState, start}
 use Rattle.gpl_step_defs.specs.Run.{run}
 use Rattle.interp_defs.specs.Programs.{RunsSteps}
+use Rattle.interp_defs.proofs.Machines.{runs_program}
 use Rattle.gpl_run.specs.Sessions.{SessionState, seen, image_of, entry_of}
 use Rattle.report_defs.specs.declared.status.Status.{Status}
 use Rattle.report_defs.specs.declared.status.Status.TheVariants as status
@@ -72,17 +73,7 @@ module _ (shows : ShowsChanges) (input : List ℕ) (trace : Trace) (t : TracesSo
         bytes = l.bytes;
         of_image = l.of_image;
         left = w.left.machine;
-        runs = record {
-          new = t.new.machine;
-          machine = t.started.machine;
-          is_boot = l.boots;
-          boot = t.started.boot;
-          first = trace.session.machine;
-          boots = t.started.boots;
-          within = t.started.within;
-          count = w.count;
-          runs = runs;
-        };
+        runs = runs_program t.started.machine l.boots t.started.boots t.started.within runs;
         is = ap (λ (q : GplState). whole_from q w.left) first_is ∙ ends_alike (step_lines shows s (run trace.limit s).done) (run trace.limit s) w.left ended w.memory runs.ends;
       })
 

@@ -29,7 +29,7 @@ impl Words {
         }
     }
 
-    /// Appends a word. Where memory is wanting, the words are as before.
+    /// Appends a word. If memory runs out, the words are as before.
     pub fn push(&mut self, word: &[u8]) -> Result<(), AllocError>
         ensures pushed { OnOk result (self.new ≡ self.old ++ word.now ∷ []) }
         ensures failed { OnErr result (self.new ≡ self.old) }

@@ -1,7 +1,6 @@
 -- What holds of all runs of `ti_debug`.
 use Rattle.std.proofs.Common.{◌≡◌, ℕ, List, length, Bool, true, false, ap, ◌∙◌, subst, inl, inr}
 use Rattle.std.specs.Prelude.{Option, Some, IfSome, MatchBool, nat_lt}
-use Rattle.interp_defs.proofs.MachinesOfRuns.{machines_match_steps}
 use Rattle.line_table.proofs.Joined.{source_gives_words}
 use Rattle.shelf_defs.specs.Files.{Files, of_files}
 use Rattle.shelf_defs.specs.Copied.{most_bytes}
@@ -78,5 +77,4 @@ laws =
       memory = changes_give_memory;
       instructions = machine_lines_give_states;
       interpreter = source_gives_words;
-      machines = machines_match_steps;
     }

@@ -1,6 +1,5 @@
 -- What holds of all runs of `ti_debug`, and of all programs that it runs.
 use Rattle.interp_build_defs.specs.Interpreter.{SourceGivesWords}
-use Rattle.interp_defs.specs.Machines.{MachinesMatchSteps}
 use Rattle.reports.specs.RunLaws.{LawsOfProgram}
 use Rattle.gpl_list_defs.specs.Laws.{ListingsGivePrograms}
 use Rattle.asm_list_defs.specs.Laws.{ListingsShowModules}
@@ -14,8 +13,7 @@ use Rattle.debug_commands.specs.Debug.{debug_program}
 -- addresses are the image of the source, and its names are the names of the source. The listing of an assembler source
 -- that is accepted shows its module, and one that `asm` refuses is refused by the same fault line. From the lines of
 -- steps, and from the lines of instructions, their fronts and their changes are read, and the changes give the states.
--- The words that the machine holds are the linked memory of the interpreter's source, and the machine after the first i
--- turns of a program that is run matches its state after i steps, for each i up to the last.
+-- The words that the machine holds are the linked memory of the interpreter's source.
 pub record LawsOfDebugRuns : Type 0 where
   pub runs : LawsOfProgram debug_program
   pub fronts : DebugFrontsBeginReports
@@ -26,4 +24,3 @@ pub record LawsOfDebugRuns : Type 0 where
   pub memory : ChangesGiveMemory
   pub instructions : MachineLinesGiveStates
   pub interpreter : SourceGivesWords
-  pub machines : MachinesMatchSteps

@@ -13,7 +13,7 @@ const LAST_LINES: &[u8] = b"       EXIT\nSUB    XOR @>8340,>5A\n       RTN\n    
 /// subroutine. Each block has a number, which comes from the number of the block before it, the first from this number.
 ///
 /// # Errors
-/// `AllocError` comes where memory is wanting.
+/// `AllocError` comes if memory runs out.
 pub fn demo_text(alloc: Global, number: u32) -> Result<Vec<u8>, AllocError>
     ensures text { IfOk result (λ text. text.items ≡ spec.demo_text number) }
     ensures size { IfOk result (λ text. vec_len text ≤ 34 * number + 62) }

@@ -67,7 +67,7 @@ fn is_unresolved(cause: GplCause) -> bool
 }
 
 impl GplLines {
-    /// Keeps what is left of the next line, and defines its label. Where memory is wanting nothing of it is kept.
+    /// Keeps what is left of the next line, and defines its label. If memory runs out, nothing of it is kept.
     pub(crate) fn keep(
         &mut self,
         rest: Option<Rest>,

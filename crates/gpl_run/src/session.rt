@@ -4,7 +4,7 @@ ghost use Rattle.std.specs.Prelude.{◌≡◌, ℕ, None, is_none};
 ghost use Rattle.gpl_step_defs.specs.State.{start};
 ghost use Rattle.interp_defs.specs.Match.{shown_by};
 ghost use Rattle.interp_defs.specs.Programs.{most_of_boot};
-ghost use Rattle.interp_defs.specs.Turned.{Turned};
+ghost use Rattle.interp_defs.specs.Turned.{Turned, whole_turn};
 ghost use Rattle.sim_steps.specs.Running.{RunsTurns};
 ghost use Rattle.sim_steps.specs.Starting.{Begins};
 ghost use Rattle.gpl_run.specs.Sessions.{IsSession, IsNew, image_of, entry_of, ended_by, address_in};
@@ -61,8 +61,8 @@ impl Session {
     /// stop. It takes no memory.
     pub fn next<L: Ledger>(&mut self, steps: &mut Steps<L>) -> Turn
         requires running { self.old.ended ≡ None }
-        ensures turned { Turned (shown_by self.old.machine.cpu.memory) 0
-            self.old.machine self.new.machine steps.old steps.new result }
+        ensures turned { Turned (shown_by self.old.machine.cpu.memory)
+            self.old.machine self.new.machine (whole_turn steps.old steps.new) result }
         ensures ended { self.new.ended ≡ ended_by result }
     {
         let turn = gpl_turn(&mut self.machine, steps);

@@ -10,8 +10,8 @@ use Rattle.gpl_step_defs.specs.Run.{run, turns}
 use Rattle.interp_defs.specs.declared.turn.Turn.{Turn}
 use Rattle.interp_defs.specs.declared.turn.Turn.TheVariants.{Stepped, Stopped}
 use Rattle.interp_defs.specs.Match.{IsMatching, shown_by}
-use Rattle.interp_defs.specs.Turned.{TurnedBy, Turned}
-use Rattle.interp_defs.specs.Programs.{AreTurns}
+use Rattle.interp_defs.specs.Turned.{Turned, TurnedBy, whole_turn}
+use Rattle.interp_defs.specs.Programs.{RunsSteps}
 use Rattle.sim_steps.specs.Running.{RunsTurns}
 use Rattle.sim_steps.proofs.TurnRuns.{Stepping, none_yet, stepped, stopped, whole, last_is, done_at_least}
 use Rattle.gpl_run.specs.Sessions.{SessionState, IsSession, seen, address_in, ended_by}
@@ -33,19 +33,23 @@ matches_of : (t : SessionState) → t.ended ≡ None → IsSession t.machine t.e
 matches_of t e h = subst (IsSession t.machine) e h
 
 -- the instructions of turns are at most as many as their bounds allow
-turns_bounded : (s : GplState) (n count : ℕ) (x y : MachineState) → AreTurns s n count x y → count ≤ bounds n s
-turns_bounded s zero count x y a = let none = a.0 in omega arith
-turns_bounded s (suc n) count x y a =
-    let earlier = turns_bounded s n a.1 x a.0 a.3 in
-    let one = a.6 in
-    let sum = a.7 in
+turns_bounded : {s : GplState} {limit count : ℕ} {x y : MachineState} (r : RunsSteps s limit count x y) (i : ℕ)
+    → i ≤ turns limit s → r.instructions i ≤ bounds i s
+turns_bounded r zero within = let none = r.none in omega arith
+turns_bounded r (suc i) within =
+    let earlier = turns_bounded r i (omega (arith, within)) in
+    let turn = r.machines.next i (omega (arith, within)) in
+    let more : i + 1 ≡ suc i = omega arith in
+    let sum = ap r.instructions (sym more) ∙ turn.adds in
+    let one = turn.within in
     omega arith
 
 within_bounds : (limit : ℕ) (x y : SessionState) (before after done : ℕ)
     → RunsTurns (seen x) limit x.machine y.machine before after done y.ended
     → RunsWithin limit x y before after done
 within_bounds limit x y before after done r =
-    let few = turns_bounded (seen x) (turns limit (seen x)) r.count x.machine y.machine r.runs.turns_are in
+    let few = turns_bounded r.runs (turns limit (seen x)) (omega arith) in
+    let all = r.runs.all in
     let sum = r.counted in
     record { runs = r; within = omega arith }
 
@@ -77,7 +81,7 @@ begun x t watched e h is = record {
 
 -- a stop shows the cells and the video memory that were shown before
 halted_by : (items : List Item) (z w : MachineState) (u v : ℕ) (reason : Reason) (r : Result GplState Reason)
-    → TurnedBy r (shown_by z.cpu.memory) 0 z w u v (Stopped reason)
+    → TurnedBy r (shown_by z.cpu.memory) z w (whole_turn u v) (Stopped reason)
     → watching items (shown_by z.cpu.memory) ≡ watching items (shown_by w.cpu.memory)
 halted_by items z w u v reason (Ok next) t = absurd (let a = t.0 in cc)
 halted_by items z w u v reason (Err other) t =
@@ -99,7 +103,7 @@ module _ {items : List Item} {x y : SessionState} {t u made : ℕ} {watched : Li
 
   -- a turn from there
   abbrev pub Made : Turn → Type 0
-  Made turn = Turned (shown_by y.machine.cpu.memory) 0 y.machine z.machine u v turn
+  Made turn = Turned (shown_by y.machine.cpu.memory) y.machine z.machine (whole_turn u v) turn
 
   -- a step that stops
   module _ {turn : Turn} {reason : Reason} (is : turn ≡ Stopped reason) (turned : Made turn)

@@ -38,7 +38,7 @@ impl Watch {
     /// Watches one to eight items of a program, and keeps the bytes of their ranges that it shows.
     ///
     /// # Errors
-    /// `AllocError` comes where memory is wanting.
+    /// `AllocError` comes if memory runs out.
     pub fn new(alloc: Global, items: &Vec<Item>, session: &Session) -> Result<Watch, AllocError>
         requires { AreItems items.now.items }
         ensures items { IfOk result (λ watch. items_of watch ≡ items.now.items) }

@@ -1,4 +1,3 @@
 pub mod OneBoot
 pub mod OneMachine
-pub mod AfterTurns
-pub mod MachinesOfRuns
+pub mod Machines

@@ -1,15 +1,16 @@
 -- One machine is left of a program.
-use Rattle.std.proofs.Common.{◌≡◌, ℕ, zero, suc, ◌<◌, refl, sym, ap, ◌∙◌, subst, arith, Bool, true, false}
+use Rattle.std.proofs.Common.{◌≡◌, ℕ, zero, suc, ◌+◌, ◌<◌, ◌≤◌, List, refl, sym, ap, ◌∙◌, subst, arith}
+use Rattle.std.proofs.Common.{Bool, true, false}
 use Rattle.std.specs.Prelude.{nat_lt, eqb}
 use Rattle.std.proofs.lemmas.Bool.Decides.{nat_tests}
 use Rattle.tms_defs.specs.Accesses.{Answer, Gives, AtPort, NoInstruction}
 use Rattle.console_defs.specs.Machine.{MachineState, steps}
 use Rattle.native_interp.specs.declared.addresses.TheConstants.{GSTEP}
-use Rattle.gpl_step_defs.specs.State.{GplState, start}
+use Rattle.gpl_step_defs.specs.State.{start}
 use Rattle.gpl_step_defs.specs.Run.{turns}
 use Rattle.interp_defs.specs.Runs.{is_end}
 use Rattle.interp_defs.specs.Turns.{Boots, IsTurn}
-use Rattle.interp_defs.specs.Programs.{AreTurns, OneMachineIsLeft}
+use Rattle.interp_defs.specs.Programs.{RunsProgram, OneMachineIsLeft}
 use Rattle.interp_defs.proofs.OneBoot.{one_boot}
 
 -- Numbers of which neither is below the other are one.
@@ -59,26 +60,25 @@ one_turn m n x y z p q =
     (λ earlier. both (is_end z.cpu.pc) q.there (p.runs.clear n q.some earlier z q.runs.leads)) in
     one_given m n x y z same p.runs.leads q.runs.leads
 
--- As many turns lead to one machine.
-one_end : (s : GplState) (number m n : ℕ) (x y z : MachineState) → AreTurns s number m x y → AreTurns s number n x z → y ≡ z
-one_end s zero m n x y z p q = sym p.1 ∙ q.1
-one_end s (suc earlier) m n x y z p q =
-    let same : p.0 ≡ q.0 = one_end s earlier p.1 q.1 x p.0 q.0 p.3 q.3 in
-    one_turn p.2 q.2 q.0 y z (subst (λ w. IsTurn p.2 w y) same p.5) q.5
-
--- Starts and turns lead from one machine to one machine.
-one_way : (s : GplState) (number boot boot_too m n : ℕ) (new new_too first first_too left other : MachineState) →
-    new ≡ new_too → Boots boot new first → Boots boot_too new_too first_too → AreTurns s number m first left →
-    AreTurns s number n first_too other → left ≡ other
-one_way s number boot boot_too m n new new_too first first_too left other same p q turned turned_too =
-    let begun : first ≡ first_too =
-    one_start boot boot_too new_too first first_too (subst (λ x. Boots boot x first) same p) q in
-    one_end s number m n first_too left other (subst (λ x. AreTurns s number m x left) begun turned) turned_too
+-- Two runs of one program have the same machines.
+module _ {image : List ℕ} {entry limit : ℕ} {left other : MachineState} (p : RunsProgram image entry limit left)
+    (q : RunsProgram image entry limit other) where
+  one_after : (i : ℕ) → i ≤ turns limit (start image entry) → p.machine i ≡ q.machine i
+  one_after zero within =
+      let boot : p.boot ≡ q.boot = one_boot image entry p.boot q.boot p.is_machine q.is_machine p.is_boot q.is_boot in
+      one_start (p.instructions 0) (q.instructions 0) q.boot (p.machine 0) (q.machine 0)
+      (subst (λ x. Boots (p.instructions 0) x (p.machine 0)) boot p.first) q.first
+  one_after (suc i) within =
+      let below : i < turns limit (start image entry) = omega (arith, within) in
+      let more : i + 1 ≡ suc i = omega arith in
+      let t = p.machines.next i below in
+      let u = q.machines.next i below in
+      let turn : IsTurn t.turn (q.machine i) (p.machine (i + 1)) =
+      subst (λ x. IsTurn t.turn x (p.machine (i + 1))) (one_after i (omega (arith, within))) t.is_turn in
+      subst (λ k. p.machine k ≡ q.machine k) more
+      (one_turn t.turn u.turn (q.machine i) (p.machine (i + 1)) (q.machine (i + 1)) turn u.is_turn)
 
 -- One machine is left: it begins, starts and turns in one way.
 pub one_machine_is_left : OneMachineIsLeft
 one_machine_is_left image entry limit left other p q =
-    let s = start image entry in
-    one_way s (turns limit s) p.boot q.boot p.count q.count p.new q.new p.first q.first left other
-    (one_boot image entry p.new q.new p.machine q.machine p.is_boot q.is_boot)
-    p.boots q.boots p.runs.turns_are q.runs.turns_are
+    sym p.last ∙ one_after p q (turns limit (start image entry)) (omega arith) ∙ q.last

@@ -5,4 +5,3 @@ pub mod Boot
 pub mod Turns
 pub mod Turned
 pub mod Programs
-pub mod Machines

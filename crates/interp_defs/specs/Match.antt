@@ -11,7 +11,7 @@ use Rattle.gpl_step_defs.specs.declared.reason.Reason.{Reason}
 use Rattle.gpl_step_defs.specs.declared.reason.Reason.TheVariants.{Exit}
 use Rattle.gpl_step_defs.specs.Reasons.{number_of}
 use Rattle.gpl_step_defs.specs.State.{GplState}
-use Rattle.interp_defs.specs.Interpreter.{HoldsInterpreter, HoldsRegister, address_register}
+use Rattle.interp_defs.specs.Interpreter.{HoldsInterpreter, HoldsRegister, HoldsConstants, constants, address_register}
 
 -- The state of GPL that a memory shows. The counter of the GROMs stands one past the byte to come.
 abbrev pub shown_by : Memory → GplState
@@ -33,13 +33,15 @@ pub record PortsAreIdle (memory : Memory) : Type 0 where
 abbrev pub IsFetched : GromState → Type 0
 IsFetched grom = grom.fetched ≡ slice_index grom.image (previous_in_grom grom.counter)
 
--- A machine at the beginning of a step. Status register, video address, other cells and all other memory are free.
+-- A machine at the beginning of a step. Status register, video address, other registers and cells and all other memory
+-- are free.
 pub record IsMatching (x : MachineState) : Type 0 where
   pub pc : x.cpu.pc ≡ GSTEP
   pub wp : x.cpu.wp ≡ WORKSPACE
   pub words : HoldsInterpreter x.cpu.memory.low_expansion
   pub idle : PortsAreIdle x.cpu.memory
   pub fetched : IsFetched x.cpu.memory.grom
+  pub constants : HoldsConstants x.cpu.memory constants
 
 -- It matches the state that it shows.
 pub record Matches (s : GplState) (x : MachineState) : Type 0 where

@@ -7,23 +7,38 @@ use Rattle.gpl_step_defs.specs.Step.{step}
 use Rattle.gpl_step_defs.specs.Run.{bound}
 use Rattle.interp_defs.specs.declared.turn.Turn.{Turn}
 use Rattle.interp_defs.specs.declared.turn.Turn.TheVariants.{Stepped, Stopped}
+use Rattle.interp_defs.specs.Interpreter.{most_to_dispatch}
 use Rattle.interp_defs.specs.Match.{Matches, IsHalted}
 use Rattle.interp_defs.specs.Turns.{IsTurn}
 
--- A turn leads from x to y, and a counter shows its instructions. They are at most so many, with those that led to x.
-pub record Reaches (led most : ℕ) (x y : MachineState) (before after : ℕ) : Type 0 where
+-- What is counted of a turn from a machine on: how many instructions of its step led to that machine, and what a
+-- counter shows there and at the end of the turn.
+pub record TurnCount : Type 0 where
+  pub led : ℕ
+  pub before : ℕ
+  pub after : ℕ
+
+-- a turn from the beginning of its step, and one from its dispatch, to which at most `most_to_dispatch` instructions
+-- lead
+abbrev pub whole_turn : ℕ → ℕ → TurnCount
+whole_turn before after = record { led = 0; before = before; after = after }
+
+abbrev pub from_dispatch : ℕ → ℕ → TurnCount
+from_dispatch before after = record { led = most_to_dispatch; before = before; after = after }
+
+-- A turn leads from x to y, and a counter shows its instructions. With the instructions that led to x they are at most
+-- `most`.
+pub record Reaches (most : ℕ) (x y : MachineState) (counts : TurnCount) : Type 0 where
   pub count : ℕ
-  pub within : led + count ≤ most
-  pub counted : after ≡ before + count
+  pub within : counts.led + count ≤ most
+  pub counted : counts.after ≡ counts.before + count
   pub turn : IsTurn count x y
 
 -- What a turn makes of a step: the machine matches the next state, or is halted with the state and the reason.
-abbrev pub TurnedBy : Result GplState Reason → GplState → ℕ → MachineState → MachineState → ℕ → ℕ → Turn → Type 0
-TurnedBy (Ok next) s led x y before after turn =
-    (turn ≡ Stepped) × Reaches led (bound s) x y before after × Matches next y
-TurnedBy (Err reason) s led x y before after turn =
-    (turn ≡ Stopped reason) × Reaches led (bound s) x y before after × IsHalted s reason y
+abbrev pub TurnedBy : Result GplState Reason → GplState → MachineState → MachineState → TurnCount → Turn → Type 0
+TurnedBy (Ok next) s x y counts turn = (turn ≡ Stepped) × Reaches (bound s) x y counts × Matches next y
+TurnedBy (Err reason) s x y counts turn = (turn ≡ Stopped reason) × Reaches (bound s) x y counts × IsHalted s reason y
 
 -- The turn from x to y is the step from s: its answer, its end and its bound are the step's.
-abbrev pub Turned : GplState → ℕ → MachineState → MachineState → ℕ → ℕ → Turn → Type 0
-Turned s led x y before after turn = TurnedBy (step s) s led x y before after turn
+abbrev pub Turned : GplState → MachineState → MachineState → TurnCount → Turn → Type 0
+Turned s x y counts turn = TurnedBy (step s) s x y counts turn

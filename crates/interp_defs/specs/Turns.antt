@@ -1,5 +1,5 @@
 -- The turns of the interpreter: from the beginning of a step to the next of its ends.
-use Rattle.std.specs.Prelude.{◌≡◌, ◌<◌, ℕ, zero, suc, ◌+◌, ◌==◌, IsTrue, IsFalse}
+use Rattle.std.specs.Prelude.{◌≡◌, ◌<◌, ℕ, ◌==◌, IsTrue, IsFalse}
 use Rattle.tms_defs.specs.Accesses.{Gives}
 use Rattle.console_defs.specs.Machine.{MachineState, steps}
 use Rattle.native_interp.specs.declared.addresses.TheConstants.{GSTEP}
@@ -18,10 +18,3 @@ pub record IsTurn (count : ℕ) (x y : MachineState) : Type 0 where
   pub some : 0 < count
   pub runs : Runs count x y
   pub there : IsTrue (is_end y.cpu.pc)
-
--- The machine after so many turns, which so many instructions have led to from the start.
-abbrev pub IsAfter : ℕ → ℕ → MachineState → MachineState → Type 0
-IsAfter zero count x y = Boots count x y
-IsAfter (suc turns) count x y =
-    (z : MachineState) × (earlier : ℕ) × (turn : ℕ)
-    × IsAfter turns earlier x z × IsTurn turn z y × (count ≡ earlier + turn)

@@ -5,5 +5,5 @@
 mod laws;
 mod turn;
 
-pub use laws::{one_machine_is_left, programs_are_turns};
+pub use laws::one_machine_is_left;
 pub use turn::Turn;

@@ -7,7 +7,8 @@ use Rattle.line_laws.specs.KnownLines.{known_lines}
 use Rattle.line_laws.specs.Laws.{looks}
 use Rattle.native_interp.specs.Source.{lines}
 use Rattle.line_table.specs.declared.line_row.LineRow.{LineRow}
-use Rattle.line_table.specs.Table.{rows, defined, location_of}
+use Rattle.line_table.specs.Table.{defined}
+use Rattle.line_table.proofs.AllRows.{rows, location_of}
 use Rattle.line_table.proofs.RowLines.{summary, expected}
 use Rattle.line_table.proofs.Counts.{most}
 

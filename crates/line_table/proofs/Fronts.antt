@@ -5,7 +5,8 @@ use Rattle.source_defs.specs.Expression.{Value}
 use Rattle.asm_defs.specs.declared.location.Location.{Location}
 use Rattle.line_laws.specs.Laws.{looks}
 use Rattle.line_table.specs.declared.line_row.LineRow.{LineRow}
-use Rattle.line_table.specs.Table.{rows, defined}
+use Rattle.line_table.specs.Table.{defined}
+use Rattle.line_table.proofs.AllRows.{rows}
 use Rattle.line_table.proofs.RowLines.{Reads, reads_of, join, take_on}
 use Rattle.line_table.proofs.Blocks.{Block, texts, place}
 

@@ -20,7 +20,8 @@ use Rattle.native_interp.specs.Source.{lines}
 use Rattle.native_interp.specs.Words.{words}
 use Rattle.native_interp.specs.declared.addresses.TheConstants.{GBOOT}
 use Rattle.line_table.specs.declared.line_row.LineRow.{LineRow}
-use Rattle.line_table.specs.Table.{rows, defined}
+use Rattle.line_table.specs.Table.{defined}
+use Rattle.line_table.proofs.AllRows.{rows}
 use Rattle.line_table.proofs.RowLines.{Reads, row_shown, close_rows, close_shown, words_shown, shown_words}
 use Rattle.line_table.proofs.Counts.{most, name_count}
 use Rattle.line_table.proofs.Blocks.{texts, place}

@@ -1,3 +1,4 @@
+pub mod AllRows
 pub mod RowLines
 pub mod Counts
 pub mod Blocks

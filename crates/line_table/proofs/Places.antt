@@ -22,7 +22,8 @@ use Rattle.line_table.specs.declared.rows.routines.TheConstants.{ROUTINE_ROWS}
 use Rattle.line_table.specs.declared.rows.operations.TheConstants.{OPERATION_ROWS}
 use Rattle.line_table.specs.declared.rows.flow.TheConstants.{FLOW_ROWS}
 use Rattle.line_table.specs.declared.rows.copy.TheConstants.{COPY_ROWS}
-use Rattle.line_table.specs.Table.{Row, table, as_row, rows, defined, nothing, no_row, location_of, words_of}
+use Rattle.line_table.specs.Table.{Row, defined, nothing, words_of}
+use Rattle.line_table.proofs.AllRows.{table, as_row, rows, no_row, location_of}
 use Rattle.line_table.specs.Rows.{Places, IsRow}
 use Rattle.line_table.proofs.RowLines.{Shown, shown, row_shown}
 use Rattle.line_table.proofs.Counts.{line_count, most}

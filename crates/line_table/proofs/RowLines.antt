@@ -14,7 +14,8 @@ use Rattle.line_laws.specs.KnownLines.{end_of, is_plain, are_plain, are_close, i
 use Rattle.source_defs.specs.OperandLists.{is_empty}
 use Rattle.native_interp.specs.Source.{lines}
 use Rattle.line_table.specs.declared.line_row.LineRow.{LineRow}
-use Rattle.line_table.specs.Table.{rows, location_of, words_of}
+use Rattle.line_table.specs.Table.{words_of}
+use Rattle.line_table.proofs.AllRows.{rows, location_of}
 use Rattle.line_laws.proofs.Small.{append_map}
 
 -- what a row says of its line

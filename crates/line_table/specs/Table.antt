@@ -1,45 +1,20 @@
--- The rows of the table, in the order of the source's lines.
-use Rattle.std.specs.Prelude.{ℕ, nat_eq, if◌then◌else◌, List, [], ◌∷◌, ◌++◌, take, map}
+-- What the rows of the table are made of.
+use Rattle.std.specs.Prelude.{ℕ, List, [], ◌∷◌, take, map}
 use Rattle.source_defs.specs.Expression.{Value, Absolute}
-use Rattle.asm_defs.specs.declared.location.Location.{Location}
-use Rattle.asm_defs.specs.declared.location.Part.TheVariants as part
 use Rattle.line_table.specs.declared.line_row.LineRow.{LineRow}
 use Rattle.line_table.specs.declared.names.TheConstants.{NAMES}
-use Rattle.line_table.specs.declared.rows.routines.TheConstants.{ROUTINE_ROWS}
-use Rattle.line_table.specs.declared.rows.operations.TheConstants.{OPERATION_ROWS}
-use Rattle.line_table.specs.declared.rows.flow.TheConstants.{FLOW_ROWS}
-use Rattle.line_table.specs.declared.rows.copy.TheConstants.{COPY_ROWS}
 
 -- as the code keeps them: the place, the count and the words
 abbrev pub Row : Type 0
 Row = ℕ × ℕ × List ℕ
 
-abbrev pub table : List Row
-table = ROUTINE_ROWS ++ (OPERATION_ROWS ++ (FLOW_ROWS ++ COPY_ROWS))
-
-abbrev pub as_row : Row → LineRow
-as_row row = record { place = row.0; count = row.1; words = row.2 }
-
-abbrev pub rows : List LineRow
-rows = map as_row table
-
 -- no row
 abbrev pub nothing : Row
 nothing = (0, 0, 0 ∷ 0 ∷ 0 ∷ [])
 
-abbrev pub no_row : LineRow
-no_row = as_row nothing
-
 -- the names with what they stand for
 abbrev pub defined : List (List ℕ × Value)
 defined = map (λ name. (name.0.now, Absolute name.1)) NAMES
-
--- Where the line of a row stands: an address, or relocatable 0, where a source starts.
-abbrev pub location_of : LineRow → Location
-location_of row =
-    if nat_eq row.place 0
-    then record { part = part.Relocatable; number = 0 }
-    else record { part = part.Absolute; number = row.place }
 
 -- the words of a row
 abbrev pub words_of : LineRow → List ℕ

@@ -49,7 +49,7 @@ impl<T> Items<T> {
 }
 
 impl<T: Drop> Items<T> {
-    /// Appends an item. Where memory is wanting the list stays as it was.
+    /// Appends an item. If memory runs out, the list stays as it was.
     pub fn push(&mut self, item: T) -> Result<(), AllocError>
         ensures appended { OnOk result (self.new ≡ self.old ++ item ∷ []) }
         ensures same { OnErr result (self.new ≡ self.old) }

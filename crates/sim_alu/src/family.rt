@@ -1,8 +1,9 @@
 //! The family of these rows.
 
 ghost use Rattle.std.specs.Prelude.{◌<◌, ◌≡◌, Some};
-ghost use Rattle.sim_rows.specs.Prelude.{AtDispatch, AtEntry, Exits, IsVisible, most_to_dispatch, One, PortsAreIdle};
-ghost use Rattle.sim_rows.specs.Prelude.{row_entry, RunsRow, Stands, state_at_dispatch, Turned, Two, view};
+ghost use Rattle.sim_rows.specs.Prelude.{AtDispatch, AtEntry, Exits, IsVisible, One, PortsAreIdle};
+ghost use Rattle.sim_rows.specs.Prelude.{from_dispatch, row_entry, RunsRow, Stands, state_at_dispatch, Turned, Two};
+ghost use Rattle.sim_rows.specs.Prelude.{view};
 ghost use Rattle.sim_alu.specs.Family.{is_alu, result_piece};
 ghost use Rattle.sim_alu.specs.Tails.{StoresWithStatus};
 ghost use Rattle.sim_rows.specs.native_interp.declared.addresses.TheConstants as address;
@@ -103,8 +104,8 @@ fn run_row<L: Ledger>(machine: &mut Machine, steps: &mut Steps<L>, operation: Gp
 /// the end of the step. [`Turn::Stopped`] says that an operand is not visible: nothing is changed then.
 pub fn run_alu<L: Ledger>(machine: &mut Machine, steps: &mut Steps<L>) -> Turn
     requires { AtDispatch is_alu machine.old }
-    ensures { Turned (state_at_dispatch (view machine.old)) most_to_dispatch
-        machine.old machine.new steps.old steps.new result }
+    ensures { Turned (state_at_dispatch (view machine.old))
+        machine.old machine.new (from_dispatch steps.old steps.new) result }
 {
     let Some(operation) = start_row(machine, steps) else {
         return Turn::Stopped(Reason::Cell);

@@ -1,14 +1,25 @@
 -- What a comparison tells, and how it ends.
-use Rattle.std.proofs.Common.{ℕ, ◌+◌, ◌<◌, ◌==◌, ◌∙◌, ◌≡◌, ◌≤◌, ap, arith, bit_and, Bool, false, int_lt, List, nat_lt, not, Ok, Option, refl, slice_index}
+use Rattle.std.proofs.Common.{ℕ, ◌+◌, ◌<◌, ◌==◌, ◌∙◌, ◌≡◌, ◌≤◌, ap, arith, bit_and, Bool, false, int_le, int_lt, List, nat_le, nat_lt, not, Ok, Option, refl, slice_index}
 use Rattle.std.proofs.Common.{slice_set, Some, subst, sym, true}
 use Rattle.sim_rows.proofs.Common.{Byte, bytes_by, CEQ, CGE, CGT, CH, CHE, CLOG, ReachesWithin, comes, comes_then, CTRUE, CZ, Exits, Goes, goes_in, gone_on}
 use Rattle.sim_rows.proofs.Common.{GplOperation, GplState, GSTEP, in_register, is_end, IsView, loaded_of, MachineState, modulus, next_of, One, ones_cleared}
 use Rattle.sim_rows.proofs.Common.{ones_set, operation_in, Place, reads_destination, row_result, row_width, RunsRow, ShowsState, SeesFinished, SeesResult, signed}
 use Rattle.sim_rows.proofs.Common.{Source, ST, Stands, Two, unchanged, value_at, View, view, Width, width_in, with_condition, Word}
 use Rattle.sim_compare.specs.Pieces.{end_of, told}
-use Rattle.sim_compare.specs.Family.{compared, comparison, ending, is_comparison, IsTold}
+use Rattle.sim_compare.specs.Family.{comparison, ending, is_comparison, IsTold}
 use Rattle.sim_compare.proofs.Numbers.{at_most, at_most_signed, below_in_register, equal_in_register, number_fits, ones_in_register, order_in_register}
 use Rattle.sim_compare.proofs.Numbers.{zero_in_register}
+
+-- What a comparison gives of a destination and a source.
+abbrev pub compared : GplOperation → Width → ℕ → ℕ → Bool
+compared (One CZ) width x y = x == 0
+compared (Two CH) width x y = nat_lt y x
+compared (Two CHE) width x y = nat_le y x
+compared (Two CGT) width x y = int_lt (signed width y) (signed width x)
+compared (Two CGE) width x y = int_le (signed width y) (signed width x)
+compared (Two CEQ) width x y = x == y
+compared (Two CLOG) width x y = bit_and x y == 0
+compared operation width x y = false
 
 -- ---- the two ends
 

@@ -3,13 +3,22 @@ use Rattle.std.proofs.Common.{ℕ, ◌<◌, ◌==◌, ◌∙◌, ◌≡◌, ap, 
 use Rattle.sim_rows.proofs.Common.{after, AtDispatch, behind_code, bound, bound_at, bound_by, CARRY, Changes, code_byte, ReachesWithin, comes, CTRUE, executed, Exits}
 use Rattle.sim_rows.proofs.Common.{finished, Goes, GplOperation, GplRead, GplState, GT, H, is_end, is_set, is_view, IsView, join, last_out, low, MachineState}
 use Rattle.sim_rows.proofs.Common.{matches, most_to_dispatch, operation_at, operation_entry, operation_in, operation_in_view, OVF, Plain, PlainOp, reaches}
-use Rattle.sim_rows.proofs.Common.{read_by, reading, Reason, ShowsState, shifted, SLA, state_at_dispatch, status_of, step, Stepped, Turned, turned_by, unchanged}
+use Rattle.sim_rows.proofs.Common.{from_dispatch, read_by, reading, Reason, shifted, ShowsState, SLA, state_at_dispatch, status_of, step, Stepped, Turned, turned_by, unchanged}
 use Rattle.sim_rows.proofs.Common.{View, view, with_tested}
+use Rattle.sim_rows.specs.Prelude.{CARRY_BIT, GREATER_BIT, HIGHER_BIT, OVERFLOW_BIT}
 use Rattle.sim_compare.specs.Pieces.{end_of}
-use Rattle.sim_compare.specs.Family.{ending, is_test, IsTold, test, tested}
+use Rattle.sim_compare.specs.Family.{ending, is_test, IsTold, test}
 use Rattle.sim_compare.proofs.Numbers.{bit_out_1, bit_out_2, bit_out_4, bit_out_5}
 use Rattle.sim_compare.proofs.Comparisons.{is_told, tells, told_goes}
 use Rattle.sim_compare.specs.Pieces as pieces
+
+-- The bit of the status that a test reads.
+abbrev pub tested : Option GplOperation → ℕ
+tested (Some (Plain H)) = HIGHER_BIT
+tested (Some (Plain GT)) = GREATER_BIT
+tested (Some (Plain CARRY)) = CARRY_BIT
+tested (Some (Plain OVF)) = OVERFLOW_BIT
+tested operation = 0
 
 -- ---- the operations
 
@@ -105,7 +114,7 @@ module _ {x a : MachineState} {t u : ℕ} (name : PlainOp) (is : operation_in_vi
   pub test_told : IsTold a
   test_told = is_told a flag at_flag.stands
 
-  pub test_turns : {y : MachineState} {v : ℕ} → Exits a y u v (ending (a.cpu.pc == CTRUE) (view a)) → Turned s most_to_dispatch x y t v Stepped
+  pub test_turns : {y : MachineState} {v : ℕ} → Exits a y u v (ending (a.cpu.pc == CTRUE) (view a)) → Turned s x y (from_dispatch t v) Stepped
   test_turns {y = y} {v = v} second =
       let next = finished (changed s o) in
       let c = tells 4 s (behind_code s) flag at_flag second in

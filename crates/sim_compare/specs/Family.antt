@@ -1,8 +1,8 @@
 -- The comparisons and the tests of the status, and what each gives.
-use Rattle.std.specs.Prelude.{ℕ, ◌==◌, ◌||◌, bit_and, Bool, false, int_le, int_lt, nat_le, nat_lt, Option, Some, true}
-use Rattle.sim_rows.specs.Prelude.{CARRY, CARRY_BIT, CEQ, CGE, CGT, CH, CHE, CLOG, CTRUE, CZ, Exit, exit}
-use Rattle.sim_rows.specs.Prelude.{GplOperation, GREATER_BIT, GT, H, HIGHER_BIT, MachineState, One, OVERFLOW_BIT, OVF}
-use Rattle.sim_rows.specs.Prelude.{Plain, signed, Stands, Two, View, Width}
+use Rattle.std.specs.Prelude.{◌==◌, ◌||◌, Bool, false, Option, Some, true}
+use Rattle.sim_rows.specs.Prelude.{CARRY, CEQ, CGE, CGT, CH, CHE, CLOG, CTRUE, CZ, Exit, exit}
+use Rattle.sim_rows.specs.Prelude.{GplOperation, GT, H, MachineState, One, OVF}
+use Rattle.sim_rows.specs.Prelude.{Plain, Stands, Two, View}
 use Rattle.sim_compare.specs.Pieces as piece
 
 -- the comparisons of operands
@@ -27,25 +27,6 @@ is_test _ = false
 -- the operations that set the condition or clear it, and change nothing else
 abbrev pub is_compare : Option GplOperation → Bool
 is_compare operation = is_comparison operation || is_test operation
-
--- What a comparison gives of a destination and a source.
-abbrev pub compared : GplOperation → Width → ℕ → ℕ → Bool
-compared (One CZ) width x y = x == 0
-compared (Two CH) width x y = nat_lt y x
-compared (Two CHE) width x y = nat_le y x
-compared (Two CGT) width x y = int_lt (signed width y) (signed width x)
-compared (Two CGE) width x y = int_le (signed width y) (signed width x)
-compared (Two CEQ) width x y = x == y
-compared (Two CLOG) width x y = bit_and x y == 0
-compared operation width x y = false
-
--- The bit of the status that a test reads.
-abbrev pub tested : Option GplOperation → ℕ
-tested (Some (Plain H)) = HIGHER_BIT
-tested (Some (Plain GT)) = GREATER_BIT
-tested (Some (Plain CARRY)) = CARRY_BIT
-tested (Some (Plain OVF)) = OVERFLOW_BIT
-tested operation = 0
 
 -- the piece of a comparison
 abbrev pub comparison : GplOperation → View → Exit

@@ -1,9 +1,9 @@
 //! The comparisons and the tests, from their dispatch to the end of the step.
 
 ghost use Rattle.std.specs.Prelude.{◌≡◌, Some, true};
-ghost use Rattle.sim_rows.specs.Prelude.{AtDispatch, AtEntry, Exits, most_to_dispatch, operation_entry};
+ghost use Rattle.sim_rows.specs.Prelude.{AtDispatch, AtEntry, Exits, operation_entry};
 ghost use Rattle.sim_rows.specs.Prelude.{operation_in_view, Plain, row_entry, RunsRow, Stands, state_at_dispatch};
-ghost use Rattle.sim_rows.specs.Prelude.{Turned, view};
+ghost use Rattle.sim_rows.specs.Prelude.{from_dispatch, Turned, view};
 ghost use Rattle.sim_compare.specs.Family.{comparison, is_compare, is_comparison, is_test, test};
 
 use crate::condition::end_comparison;
@@ -63,8 +63,8 @@ fn test_status<L: Ledger>(machine: &mut Machine, steps: &mut Steps<L>, name: Pla
 fn run_test<L: Ledger>(machine: &mut Machine, steps: &mut Steps<L>, name: PlainOp) -> Turn
     requires at { AtDispatch is_test machine.old }
     requires told { operation_in_view (view machine.old) ≡ Some (Plain name) }
-    ensures { Turned (state_at_dispatch (view machine.old)) most_to_dispatch
-        machine.old machine.new steps.old steps.new result }
+    ensures { Turned (state_at_dispatch (view machine.old))
+        machine.old machine.new (from_dispatch steps.old steps.new) result }
 {
     test_status(machine, steps, name);
     end_comparison(machine, steps);
@@ -74,8 +74,8 @@ fn run_test<L: Ledger>(machine: &mut Machine, steps: &mut Steps<L>, name: PlainO
 /// Runs a comparison from its dispatch to the end of the step.
 fn run_compare_row<L: Ledger>(machine: &mut Machine, steps: &mut Steps<L>) -> Turn
     requires { AtDispatch is_comparison machine.old }
-    ensures { Turned (state_at_dispatch (view machine.old)) most_to_dispatch
-        machine.old machine.new steps.old steps.new result }
+    ensures { Turned (state_at_dispatch (view machine.old))
+        machine.old machine.new (from_dispatch steps.old steps.new) result }
 {
     let Some(operation) = start_row(machine, steps) else {
         return Turn::Stopped(Reason::Cell);
@@ -87,8 +87,8 @@ fn run_compare_row<L: Ledger>(machine: &mut Machine, steps: &mut Steps<L>) -> Tu
 /// Runs a comparison or a test from its dispatch to the end of the step.
 pub fn run_compare<L: Ledger>(machine: &mut Machine, steps: &mut Steps<L>) -> Turn
     requires { AtDispatch is_compare machine.old }
-    ensures { Turned (state_at_dispatch (view machine.old)) most_to_dispatch
-        machine.old machine.new steps.old steps.new result }
+    ensures { Turned (state_at_dispatch (view machine.old))
+        machine.old machine.new (from_dispatch steps.old steps.new) result }
 {
     match current_operation(machine) {
         Some(GplOperation::Plain(name)) => run_test(machine, steps, name),

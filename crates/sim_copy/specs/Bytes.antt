@@ -7,7 +7,7 @@ use Rattle.sim_rows.specs.Prelude.{VISIBLE_CELLS, with_byte_to, with_pc}
 use Rattle.sim_copy.specs.Copying.{Copying}
 use Rattle.sim_copy.specs.Pieces.{CellsToCells, CellsToVideo, first_cell, GromToCells, GromToVideo, head_of}
 use Rattle.sim_copy.specs.Pieces.{start_copy, VideoToCells, CopyPath}
-use Rattle.sim_rows.specs.sim_view.Bounds.{most_of_byte}
+use Rattle.sim_rows.specs.sim_view.Bounds.{most_of_byte, most_to_end_copy}
 use Rattle.sim_rows.specs.native_interp.declared.addresses.TheConstants.{COPYE}
 
 -- A pointer to cells, at which a number of bytes may be, one at least.
@@ -155,4 +155,4 @@ pub record CopiesRest (x y : MachineState) (before after : ℕ) : Type 0 where
 -- The step ends with what was copied.
 abbrev pub EndsCopy : MachineState → MachineState → ℕ → ℕ → Type 0
 EndsCopy x y before after =
-    (c : Changes) → Copied c (view x) → ReachesWithin 34 x y before after GSTEP (SeesFinished c)
+    (c : Changes) → Copied c (view x) → ReachesWithin most_to_end_copy x y before after GSTEP (SeesFinished c)

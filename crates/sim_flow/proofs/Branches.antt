@@ -3,7 +3,7 @@ use Rattle.std.proofs.Common.{ℕ, ◌%◌, ◌<◌, ◌∙◌, ◌≡◌, ◌�
 use Rattle.sim_rows.proofs.Common.{behind_code, bound, bound_made, BRANCH, Branch, branched, BTARG, Byte, CFALSE, Changes, code_byte, ReachesWithin, comes, comes_on}
 use Rattle.sim_rows.proofs.Common.{comes_then, condition, Dispatched, exclusive_or_of, Exits, finished, Goes, goes_in, GplState, GromState, GSTEP, high}
 use Rattle.sim_rows.proofs.Common.{in_grom_of, is_end, is_set, is_taken, is_view, IsView, join, last_out, MachineState, matches, most_to_dispatch, next_in_grom}
-use Rattle.sim_rows.proofs.Common.{ones_cleared, operation_in, past, reaches, ShowsState, SeesFinished, SRL, Stands, step_branch, Stepped, TAKE, Turned, turned_by}
+use Rattle.sim_rows.proofs.Common.{from_dispatch, ones_cleared, operation_in, past, reaches, SeesFinished, ShowsState, SRL, Stands, step_branch, Stepped, TAKE, Turned, turned_by}
 use Rattle.sim_rows.proofs.Common.{unchanged, View, view, with_condition}
 use Rattle.sim_jumps.specs.Jumps.{TakesBranch}
 use Rattle.sim_compare.specs.Pieces as compare
@@ -105,7 +105,7 @@ module _ {s : GplState} {x a : MachineState} {t t1 : ℕ} (on : Bool) (is : oper
       comes e1 (tells s (view x) taken d (told_by (high (view x).r.r4) (slice_index (view x).cells 0x7C) (view x).r.r0 on (condition s) bit holds))
 
   turns : {y : MachineState} {t2 most : ℕ} (c : Bool) → taken ≡ c → ReachesWithin most x y t t2 GSTEP (SeesFinished (changed_by s c)) → most ≤ 18 →
-      Turned s most_to_dispatch x y t t2 Stepped
+      Turned s x y (from_dispatch t t2) Stepped
   turns {y = y} {t2 = t2} c e run le =
       let same : branched on (target s) (unchanged (passed s)) ≡ changed_by s c = ap (changed_by s) e in
       let step_is = step_branch s on is ∙ ap (λ (c : Changes). Ok (finished c)) same in
@@ -124,7 +124,7 @@ module _ {s : GplState} {x a : MachineState} {t t1 : ℕ} (on : Bool) (is : oper
   passed_by elsewhere = told_at false (passed_at taken a.cpu.pc tested.stands.pc elsewhere)
 
   pub takes : {b y : MachineState} {t2 t3 : ℕ} → a.cpu.pc ≡ BTARG → Exits a b t1 t2 (pieces.read_branch_target (view a)) → TakesBranch b y t2 t3 →
-      Turned s most_to_dispatch x y t t3 Stepped
+      Turned s x y (from_dispatch t t3) Stepped
   takes {b = b} here e2 goes =
       let c1 = at_target here in
       let c2 = comes_then 5 8 c1 e2 (targets s (view a) c1.holds (is_view a c1.stands.machine)) refl in
@@ -135,7 +135,7 @@ module _ {s : GplState} {x a : MachineState} {t t1 : ℕ} (on : Bool) (is : oper
       turns true is_true (comes_on 13 5 c2 (goes (record s { pc = target s }) (behind s) seen c2.holds.to) refl) (omega arith)
 
   pub passes_on : {y : MachineState} {t2 : ℕ} → (a.cpu.pc ≡ BTARG → ⊥) → Exits a y t1 t2 (compare.clear_condition (view a))
-      → Turned s most_to_dispatch x y t t2 Stepped
+      → Turned s x y (from_dispatch t t2) Stepped
   passes_on elsewhere e2 =
       let c1 = passed_by elsewhere in
       turns false (passed_at taken a.cpu.pc tested.stands.pc elsewhere) (comes_then 5 3 c1 e2 (passes s (view a) c1.holds) refl) (omega arith)

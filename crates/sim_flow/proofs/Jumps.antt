@@ -2,7 +2,7 @@
 use Rattle.std.proofs.Common.{ℕ, ◌≡◌, ap, arith, Err, Ok, refl, Some}
 use Rattle.sim_rows.proofs.Common.{B, behind_code, bound, bound_made, bound_stop, comes, comes_on, Dispatched, ShowsEnd, EXIT, exit, Exit as Ending, Exits, from}
 use Rattle.sim_rows.proofs.Common.{GEXIT, GOB, Goes, goes_in, GOEXIT, GOTO, GplState, grom_at, GromState, is_end, Jump, known, leaves, MachineState, matches}
-use Rattle.sim_rows.proofs.Common.{most_to_dispatch, operation_in, Plain, reaches, ShowsState, Stands, step_jump, step_plain, Stepped, Stopped, Turned, turned_by}
+use Rattle.sim_rows.proofs.Common.{from_dispatch, most_to_dispatch, operation_in, Plain, reaches, ShowsState, Stands, step_jump, step_plain, Stepped, Stopped, Turned, turned_by}
 use Rattle.sim_rows.proofs.Common.{View, view, word_at}
 use Rattle.sim_rows.specs.gpl_step_defs.declared.reason.Reason.TheVariants.{Exit}
 use Rattle.sim_jumps.specs.Jumps.{GoesOn}
@@ -10,7 +10,7 @@ use Rattle.sim_flow.specs.Pieces as pieces
 
 -- EXIT
 pub exits : {s : GplState} {x y : MachineState} {t u : ℕ} → Dispatched s (view x) → operation_in s ≡ Some (Plain EXIT) → Stands x GOEXIT →
-    Exits x y t u (pieces.leave (view x)) → Turned s most_to_dispatch x y t u (Stopped Exit)
+    Exits x y t u (pieces.leave (view x)) → Turned s x y (from_dispatch t u) (Stopped Exit)
 exits {s = s} {x = x} {y = y} {t = t} {u = u} d e stands run =
     let is = step_plain s EXIT e in
     let h = d.sees in
@@ -48,7 +48,7 @@ module _ (s : GplState) (v : View) (d : Dispatched s v) where
     to : w.r.r6 ≡ target
 
   pub jumps : {x a y : MachineState} {t t1 t2 : ℕ} → view x ≡ v → operation_in s ≡ Some (Jump B) → Stands x GOB →
-      Exits x a t t1 (pieces.read_target (view x)) → GoesOn a y t1 t2 → Turned s most_to_dispatch x y t t2 Stepped
+      Exits x a t t1 (pieces.read_target (view x)) → GoesOn a y t1 t2 → Turned s x y (from_dispatch t t2) Stepped
   jumps {x = x} {y = y} {t = t} {t2 = t2} is e stands e1 goes =
       let at : Goes (exit 2 GOTO read) 2 GOTO AtTarget = record { within = omega arith; to_is = refl; holds = record { sees = seen; to = refl } } in
       let c1 = comes e1 (from pieces.read_target is (known read_is at)) in

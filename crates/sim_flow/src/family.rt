@@ -1,8 +1,9 @@
 //! EXIT, B, BR, BS and CASE, from their dispatch to the end of the step.
 
 ghost use Rattle.std.specs.Prelude.{◌≡◌, Some};
-ghost use Rattle.sim_rows.specs.Prelude.{AtDispatch, B, Branch, CASE, Dispatched, Jump, most_to_dispatch, One};
-ghost use Rattle.sim_rows.specs.Prelude.{operation_in_view, RunsRow, Stands, state_at_dispatch, Stepped, Turned, view};
+ghost use Rattle.sim_rows.specs.Prelude.{AtDispatch, B, Branch, CASE, Dispatched, Jump, One};
+ghost use Rattle.sim_rows.specs.Prelude.{from_dispatch, operation_in_view, RunsRow, Stands, state_at_dispatch};
+ghost use Rattle.sim_rows.specs.Prelude.{Stepped, Turned, view};
 ghost use Rattle.sim_flow.specs.Family.{is_case, is_flow};
 ghost use Rattle.sim_rows.specs.native_interp.declared.addresses.TheConstants as address;
 ghost use Rattle.sim_rows.specs.sim_view.Bounds.{most_of_case_row};
@@ -25,7 +26,7 @@ fn run_jump<L: Ledger>(machine: &mut Machine, steps: &mut Steps<L>)
     requires dispatched { let v = view machine.old in Dispatched (state_at_dispatch v) v }
     requires is { operation_in_view (view machine.old) ≡ Some (Jump B) }
     ensures { let s = state_at_dispatch (view machine.old) in
-        Turned s most_to_dispatch machine.old machine.new steps.old steps.new Stepped }
+        Turned s machine.old machine.new (from_dispatch steps.old steps.new) Stepped }
 {
     read_target(machine, steps);
     jump(machine, steps);
@@ -37,7 +38,7 @@ fn run_branch<L: Ledger>(machine: &mut Machine, steps: &mut Steps<L>, _on: bool)
     requires dispatched { let v = view machine.old in Dispatched (state_at_dispatch v) v }
     requires is { operation_in_view (view machine.old) ≡ Some (Branch _on) }
     ensures { let s = state_at_dispatch (view machine.old) in
-        Turned s most_to_dispatch machine.old machine.new steps.old steps.new Stepped }
+        Turned s machine.old machine.new (from_dispatch steps.old steps.new) Stepped }
 {
     test_branch(machine, steps);
     if machine.pc() == BTARG {
@@ -65,7 +66,7 @@ fn run_case<L: Ledger>(machine: &mut Machine, steps: &mut Steps<L>)
 fn run_case_row<L: Ledger>(machine: &mut Machine, steps: &mut Steps<L>) -> Turn
     requires { AtDispatch is_case machine.old }
     ensures { let s = state_at_dispatch (view machine.old) in
-        Turned s most_to_dispatch machine.old machine.new steps.old steps.new result }
+        Turned s machine.old machine.new (from_dispatch steps.old steps.new) result }
 {
     let Some(_) = start_row(machine, steps) else {
         return Turn::Stopped(Reason::Cell);
@@ -78,7 +79,7 @@ fn run_case_row<L: Ledger>(machine: &mut Machine, steps: &mut Steps<L>) -> Turn
 pub fn run_flow<L: Ledger>(machine: &mut Machine, steps: &mut Steps<L>) -> Turn
     requires { AtDispatch is_flow machine.old }
     ensures { let s = state_at_dispatch (view machine.old) in
-        Turned s most_to_dispatch machine.old machine.new steps.old steps.new result }
+        Turned s machine.old machine.new (from_dispatch steps.old steps.new) result }
 {
     match current_operation(machine) {
         Some(GplOperation::Plain(_)) => {

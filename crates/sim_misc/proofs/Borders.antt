@@ -1,7 +1,7 @@
 -- BACK from its dispatch to the end of the step.
 use Rattle.std.proofs.Common.{ℕ, ◌∙◌, ◌≡◌, ap, arith, None, Ok, refl, slice_index, slice_set, Some}
 use Rattle.sim_rows.proofs.Common.{BACK, behind_code, bound, bound_made, comes, Dispatched, Exits, finished, GOBACK, Goes, GplState, GromState, GSTEP, is_end}
-use Rattle.sim_rows.proofs.Common.{MachineState, matches, most_to_dispatch, next_in_grom, operation_in, past, reaches, ShowsState, Stands, step_byte, Stepped, Turned}
+use Rattle.sim_rows.proofs.Common.{from_dispatch, MachineState, matches, most_to_dispatch, next_in_grom, operation_in, past, reaches, ShowsState, Stands, step_byte, Stepped, Turned}
 use Rattle.sim_rows.proofs.Common.{turned_by, unchanged, vdp_address_written, VdpState, View, view, with_register}
 use Rattle.sim_rows.specs.gpl_defs.declared.instruction.GplOperation.TheVariants.{Byte}
 use Rattle.sim_misc.specs.Pieces as pieces
@@ -33,7 +33,7 @@ border_goes s v d =
     }
 
 pub borders : {s : GplState} {x y : MachineState} {t u : ℕ} → Dispatched s (view x) → operation_in s ≡ Some (Byte BACK) → Stands x GOBACK →
-    Exits x y t u (pieces.set_border (view x)) → Turned s most_to_dispatch x y t u Stepped
+    Exits x y t u (pieces.set_border (view x)) → Turned s x y (from_dispatch t u) Stepped
 borders {s = s} {x = x} {y = y} {t = t} {u = u} d is stands set =
     let c = comes set (border_goes s (view x) d) in
     let step_is = step_byte s BACK is in

@@ -4,7 +4,7 @@ use Rattle.std.proofs.Common.{replicate, slice_index, slice_set, Some, subst, su
 use Rattle.std.proofs.lemmas.Bool.{eqb-false, eqb-true, ne_eqb}
 use Rattle.sim_rows.proofs.Common.{ALL, behind_code, bound, bound_made, ReachesWithin, comes, comes_as, comes_then, difference_of, Dispatched, Exits, FILL, finished}
 use Rattle.sim_rows.proofs.Common.{GOALL, Goes, GplState, grom_at, GromState, GSTEP, high, high-join, is_end, is_view, MachineState, matches, most_to_dispatch}
-use Rattle.sim_rows.proofs.Common.{next_in_grom, operation_in, past, pick, reaches, ShowsState, with_video_address, Stands, step_byte, Stepped, Turned, turned_by}
+use Rattle.sim_rows.proofs.Common.{from_dispatch, next_in_grom, operation_in, past, pick, reaches, ShowsState, Stands, step_byte, Stepped, Turned, turned_by, with_video_address}
 use Rattle.sim_rows.proofs.Common.{unchanged, vdp_data_written, VdpState, View, view, with_immediate, Word}
 use Rattle.sim_rows.specs.gpl_defs.declared.instruction.GplOperation.TheVariants.{Byte}
 use Rattle.sim_misc.specs.Pieces as pieces
@@ -145,7 +145,7 @@ all_seen s made w all h = record {
 }
 
 pub fills : {s : GplState} {x z : MachineState} {t u : ℕ} → Stands x GOALL → Dispatched s (view x) → operation_in s ≡ Some (Byte ALL) →
-    (made : ℕ) → made ≡ 768 → Filling s made x z t u → Turned s most_to_dispatch x z t u Stepped
+    (made : ℕ) → made ≡ 768 → Filling s made x z t u → Turned s x z (from_dispatch t u) Stepped
 fills {s = s} {x = x} {z = z} {t = t} {u = u} stands d is made all h =
     let there : Stands z GSTEP = subst (λ (p : ℕ). Stands z p) (ap place all) h.stands in
     let c = h in

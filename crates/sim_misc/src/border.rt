@@ -1,8 +1,8 @@
 //! BACK, from its dispatch to the end of the step.
 
 ghost use Rattle.std.specs.Prelude.{◌≡◌, Some};
-ghost use Rattle.sim_rows.specs.Prelude.{BACK, Dispatched, most_to_dispatch, operation_entry, operation_in_view, Stands};
-ghost use Rattle.sim_rows.specs.Prelude.{state_at_dispatch, Turned, view};
+ghost use Rattle.sim_rows.specs.Prelude.{BACK, Dispatched, operation_entry, operation_in_view, Stands};
+ghost use Rattle.sim_rows.specs.Prelude.{from_dispatch, state_at_dispatch, Turned, view};
 ghost use Rattle.sim_rows.specs.gpl_defs.declared.instruction.GplOperation.TheVariants.{Byte};
 
 use crate::pieces::set_border;
@@ -16,7 +16,7 @@ pub(crate) fn run_border<L: Ledger>(machine: &mut Machine, steps: &mut Steps<L>)
     requires dispatched { let v = view machine.old in Dispatched (state_at_dispatch v) v }
     requires border { operation_in_view (view machine.old) ≡ Some (Byte BACK) }
     ensures { let s = state_at_dispatch (view machine.old) in
-        Turned s most_to_dispatch machine.old machine.new steps.old steps.new result }
+        Turned s machine.old machine.new (from_dispatch steps.old steps.new) result }
 {
     set_border(machine, steps);
     Turn::Stepped

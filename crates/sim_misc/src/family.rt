@@ -1,8 +1,8 @@
 //! EX from its dispatch to the end of the step, and all operations of the family.
 
 ghost use Rattle.std.specs.Prelude.{◌<◌};
-ghost use Rattle.sim_rows.specs.Prelude.{AtDispatch, AtEntry, EX, IsVisible, most_to_dispatch, RunsRow};
-ghost use Rattle.sim_rows.specs.Prelude.{state_at_dispatch, Turned, Two, view};
+ghost use Rattle.sim_rows.specs.Prelude.{AtDispatch, AtEntry, EX, IsVisible, RunsRow};
+ghost use Rattle.sim_rows.specs.Prelude.{from_dispatch, state_at_dispatch, Turned, Two, view};
 ghost use Rattle.sim_misc.specs.Family.{is_exchange, is_misc};
 ghost use Rattle.sim_rows.specs.sim_view.Bounds.{most_of_exchange_row};
 
@@ -33,7 +33,7 @@ fn run_exchange<L: Ledger>(machine: &mut Machine, steps: &mut Steps<L>)
 fn run_exchange_row<L: Ledger>(machine: &mut Machine, steps: &mut Steps<L>) -> Turn
     requires { AtDispatch is_exchange machine.old }
     ensures { let s = state_at_dispatch (view machine.old) in
-        Turned s most_to_dispatch machine.old machine.new steps.old steps.new result }
+        Turned s machine.old machine.new (from_dispatch steps.old steps.new) result }
 {
     let Some(_) = start_row(machine, steps) else {
         return Turn::Stopped(Reason::Cell);
@@ -46,7 +46,7 @@ fn run_exchange_row<L: Ledger>(machine: &mut Machine, steps: &mut Steps<L>) -> T
 pub fn run_misc<L: Ledger>(machine: &mut Machine, steps: &mut Steps<L>) -> Turn
     requires { AtDispatch is_misc machine.old }
     ensures { let s = state_at_dispatch (view machine.old) in
-        Turned s most_to_dispatch machine.old machine.new steps.old steps.new result }
+        Turned s machine.old machine.new (from_dispatch steps.old steps.new) result }
 {
     match current_operation(machine) {
         Some(GplOperation::Byte(ByteOp::RAND)) => run_random(machine, steps),

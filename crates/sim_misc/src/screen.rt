@@ -1,8 +1,8 @@
 //! ALL, from its dispatch to the end of the step.
 
 ghost use Rattle.std.specs.Prelude.{◌≡◌, Some};
-ghost use Rattle.sim_rows.specs.Prelude.{ALL, Dispatched, most_to_dispatch, operation_entry, operation_in_view, Stands};
-ghost use Rattle.sim_rows.specs.Prelude.{state_at_dispatch, Turned, view};
+ghost use Rattle.sim_rows.specs.Prelude.{ALL, Dispatched, operation_entry, operation_in_view, Stands};
+ghost use Rattle.sim_rows.specs.Prelude.{from_dispatch, state_at_dispatch, Turned, view};
 ghost use Rattle.sim_rows.specs.gpl_defs.declared.instruction.GplOperation.TheVariants.{Byte};
 
 use crate::pieces::{begin_fill, fill_byte};
@@ -19,7 +19,7 @@ pub(crate) fn run_fill<L: Ledger>(machine: &mut Machine, steps: &mut Steps<L>) -
     requires dispatched { let v = view machine.old in Dispatched (state_at_dispatch v) v }
     requires fill { operation_in_view (view machine.old) ≡ Some (Byte ALL) }
     ensures { let s = state_at_dispatch (view machine.old) in
-        Turned s most_to_dispatch machine.old machine.new steps.old steps.new result }
+        Turned s machine.old machine.new (from_dispatch steps.old steps.new) result }
 {
     begin_fill(machine, steps);
     for _ in 0..SCREEN {

@@ -2,7 +2,7 @@
 use Rattle.std.proofs.Common.{ℕ, ◌*◌, ◌+◌, ◌≡◌, ap, arith, Err, false, Ok, refl, Some, subst, sym, true}
 use Rattle.sim_rows.proofs.Common.{bound, bound_stop, Changes, comes_on, fetched_of, finished, From, FromGrom, FromMemory, GOMOVE, GplState, grom_at, GSTOP}
 use Rattle.sim_rows.proofs.Common.{idle_of, is_end, MachineState, matches, most_to_dispatch, Move, MOVEB, MoveKind, number_of, operation_in, reaches, Reason}
-use Rattle.sim_rows.proofs.Common.{ShowsState, Stands, Stepped, Stopped, stops, To, Turned, turned_by, View, view, WORKSPACE}
+use Rattle.sim_rows.proofs.Common.{from_dispatch, ShowsState, Stands, Stepped, Stopped, stops, To, Turned, turned_by, View, view, WORKSPACE}
 use Rattle.sim_copy.specs.Copying.{CopiesBytes, StandsFrom}
 use Rattle.sim_move.specs.Family.{is_move}
 use Rattle.sim_move.specs.Moves.{AtCopy, begun, copy_in, FindsCopy, MayCopy, source_read, target_read}
@@ -43,12 +43,12 @@ module _ (s : GplState) {x a : MachineState} {t t1 : ℕ} (stands : Stands x GOM
       pub workspace : a.cpu.wp ≡ WORKSPACE
       workspace = m.comes.stands.wp
 
-      pub stopped : (told : Reason) → ((reason : Reason) → (view a).r.r0 ≡ number_of reason → told ≡ reason) → Turned s most_to_dispatch x a t t1 (Stopped told)
+      pub stopped : (told : Reason) → ((reason : Reason) → (view a).r.r0 ≡ number_of reason → told ≡ reason) → Turned s x a (from_dispatch t t1) (Stopped told)
       stopped told is =
           let e = step_stops s kind known m.reason m.is in
           let b = bound_stop s m.reason e in
           let same : told ≡ m.reason = is m.reason m.comes.holds.reason_is in
-          let P : Reason → Type 0 = λ r. Turned s most_to_dispatch x a t t1 (Stopped r) in
+          let P : Reason → Type 0 = λ r. Turned s x a (from_dispatch t t1) (Stopped r) in
           subst P (sym same)
           (turned_by x a t t1 most_to_dispatch (Stopped m.reason) s (Err m.reason) e
           (refl, reaches most_to_dispatch (bound s) m.comes start refl (omega arith), stops s m.reason a (no_exit s kind m.reason m.is) m.comes.stands m.comes.holds))
@@ -78,7 +78,7 @@ module _ (s : GplState) {x a : MachineState} {t t1 : ℕ} (stands : Stands x GOM
             registers = registers_there g.found.0.0 g.found.0.1 (view a) h.stands_to h.left to_lies;
           }
 
-      pub turned : {y : MachineState} {t2 : ℕ} → CopiesBytes a y t1 t2 → Turned s most_to_dispatch x y t t2 Stepped
+      pub turned : {y : MachineState} {t2 : ℕ} → CopiesBytes a y t1 t2 → Turned s x y (from_dispatch t t2) Stepped
       turned {y = y} {t2 = t2} copies =
           let bytes = g.found.0.0 in
           let next = finished (made s kind g.found) in

@@ -8,7 +8,8 @@ use Rattle.sim_rows.specs.Prelude.{MoveSource, MoveTarget, MOVEX, operation_in, 
 use Rattle.sim_rows.specs.Prelude.{target_at, target_of, To, unchanged, value_at, View, view, within_limit, Word}
 use Rattle.sim_rows.specs.Prelude.{word_at}
 use Rattle.sim_copy.specs.Copying.{Copying, StandsTo}
-use Rattle.sim_rows.specs.sim_view.Bounds.{most_to_copy}
+use Rattle.sim_rows.specs.sim_view.Bounds.{most_to_copy, most_to_length, most_to_load_length, most_to_source_index}
+use Rattle.sim_rows.specs.sim_view.Bounds.{most_to_target, most_to_turn}
 
 -- What the bytes after the code byte say, each part with the address after it.
 abbrev pub length_read : GplState → MoveLength × ℕ
@@ -76,15 +77,16 @@ abbrev pub LoadsFollowing : MachineState → MachineState → ℕ → ℕ → Ty
 LoadsFollowing x y before after =
     (s : GplState) → Follows s (view x)
     → (let count = word_at s.image (behind_code s) in
-    ReachesWithin 16 x y before after MOVEL (LengthTold s count.1 count.0))
+    ReachesWithin most_to_load_length x y before after MOVEL (LengthTold s count.1 count.0))
 
 abbrev pub LoadsPlaced : MachineState → MachineState → ℕ → ℕ → Type 0
 LoadsPlaced x y before after =
     (s : GplState) → (place : Place) → (next : ℕ) → AtPlace s place next (view x)
-    → ReachesWithin 16 x y before after MOVEL (LengthTold s next (value_at s Word place))
+    → ReachesWithin most_to_load_length x y before after MOVEL (LengthTold s next (value_at s Word place))
 
 pub record FindsLength (s : GplState) (x y : MachineState) (before after : ℕ) : Type 0 where
-  pub by : Arrives 61 s x y before after MOVEL (LengthTold s (length_read s).1) (length_of s (length_read s).0)
+  pub by : Arrives most_to_length s x y before after MOVEL (LengthTold s (length_read s).1)
+      (length_of s (length_read s).0)
 
 -- Where the source begins: a source in memory at ADDR, one in GROM at MOVES.
 abbrev pub source_entry : MoveKind → ℕ
@@ -112,7 +114,7 @@ target_in s count target = do
 pub record FindsTarget (x y : MachineState) (before after : ℕ) : Type 0 where
   pub by : (s : GplState) → (kind : MoveKind) → (count : ℕ) → code_byte s < 256 → operation_in s ≡ Some (Move kind)
       → LengthTold s (length_read s).1 count (view x)
-      → Arrives 50 s x y before after (source_entry kind) (TargetTold s kind (target_read kind s).1)
+      → Arrives most_to_target s x y before after (source_entry kind) (TargetTold s kind (target_read kind s).1)
       (target_in s count (target_read kind s).0)
 
 -- At MOVEX a source's address in GROM, with its index, is in register 2.
@@ -129,7 +131,8 @@ IndexesSource x y before after =
     (s : GplState) → (bytes next : ℕ) → code_byte s < 256 → Holds s bytes next (view x)
     → (let address = word_at s.image next in
     let index = index_by (code_byte s / 2 % 2 == 1) s.image address.1 in
-    Arrives 32 s x y before after MOVEX (SourceTold (view x) s.image index.1) (indexed s index.0 address.0))
+    Arrives most_to_source_index s x y before after MOVEX (SourceTold (view x) s.image index.1)
+    (indexed s index.0 address.0))
 
 -- From MOVEX on the next address is kept in register 14, and GROM gives the byte at the source next.
 pub record TurnedTo (v : View) (image : List ℕ) (at : ℕ) (w : View) : Type 0 where
@@ -145,7 +148,7 @@ abbrev pub TurnsToSource : MachineState → MachineState → ℕ → ℕ → Typ
 TurnsToSource x y before after =
     let v = view x in
     (image : List ℕ) → (at : ℕ) → at < 65536 → v.grom ≡ grom_at image at
-    → ReachesWithin 17 x y before after MOVEB (TurnedTo v image at)
+    → ReachesWithin most_to_turn x y before after MOVEB (TurnedTo v image at)
 
 -- The length, the target and the source, each with its checks, in the order of their bytes.
 abbrev pub copy_in : MoveKind → GplState → Result ((ℕ × To) × From) Reason

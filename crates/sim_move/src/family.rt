@@ -1,8 +1,8 @@
 //! MOVE from its dispatch to the end of the step.
 
 ghost use Rattle.std.specs.Prelude.{◌≡◌, true};
-ghost use Rattle.sim_rows.specs.Prelude.{AtDispatch, Dispatched, most_to_dispatch, number_of, operation_in_view, Stands};
-ghost use Rattle.sim_rows.specs.Prelude.{state_at_dispatch, Turned, view, WORKSPACE};
+ghost use Rattle.sim_rows.specs.Prelude.{AtDispatch, Dispatched, number_of, operation_in_view, Stands};
+ghost use Rattle.sim_rows.specs.Prelude.{from_dispatch, state_at_dispatch, Turned, view, WORKSPACE};
 ghost use Rattle.sim_move.specs.Family.{is_move};
 ghost use Rattle.sim_copy.specs.Copying.{CopiesBytes};
 ghost use Rattle.sim_move.specs.Moves.{FindsCopy, MayCopy};
@@ -73,7 +73,7 @@ fn reason_told(machine: &Machine) -> Reason
 pub fn run_move<L: Ledger>(machine: &mut Machine, steps: &mut Steps<L>) -> Turn
     requires { AtDispatch is_move machine.old }
     ensures { let s = state_at_dispatch (view machine.old) in
-        Turned s most_to_dispatch machine.old machine.new steps.old steps.new result }
+        Turned s machine.old machine.new (from_dispatch steps.old steps.new) result }
 {
     decode_move(machine, steps);
     if machine.pc() == GSTOP {

@@ -6,6 +6,7 @@ use Rattle.sim_rows.specs.Prelude.{operands_of, operation_in, Place, place_in, P
 use Rattle.sim_rows.specs.Prelude.{SeesFinished, size_of, Source, state_of, Storing, sum_of, Two, unchanged, value_at}
 use Rattle.sim_rows.specs.Prelude.{View, view, VISIBLE_CELLS, Width, width_in, with_overflow, with_quotient}
 use Rattle.sim_rows.specs.Prelude.{with_value, Word}
+use Rattle.sim_rows.specs.sim_view.Bounds.{most_of_division, most_to_end_division, most_to_end_quotient}
 
 abbrev pub is_muldiv : Option GplOperation → Bool
 is_muldiv (Some (Two MUL)) = true
@@ -68,13 +69,14 @@ pub record Divided (v w : View) : Type 0 where
 abbrev pub EndsDivision : MachineState → MachineState → ℕ → ℕ → Type 0
 EndsDivision x y before after =
     (c : Changes) → (width : Width) → (place : Place) → (number : ℕ) → Storing c width place number (view x)
-    → ReachesWithin 47 x y before after GSTEP (SeesFinished (with_overflow false (with_value width place number c)))
+    → ReachesWithin most_to_end_division x y before after GSTEP
+    (SeesFinished (with_overflow false (with_value width place number c)))
 
 -- The same for a quotient, and the remainder in register 10 after it.
 abbrev pub EndsQuotient : MachineState → MachineState → ℕ → ℕ → Type 0
 EndsQuotient x y before after =
     (c : Changes) → (place : Place) → (quotient : ℕ) → Storing c Word place quotient (view x)
-    → ReachesWithin 64 x y before after GSTEP
+    → ReachesWithin most_to_end_quotient x y before after GSTEP
     (SeesFinished (with_overflow false (with_quotient Word place quotient (view x).r.r10 c)))
 
 -- A row of DIV whose quotient fits.
@@ -84,6 +86,6 @@ Divides x y before after =
     → AtRow s place source (view x) → operands_of s ≡ Ok (place, source)
     → (let dividend = double_at s (row_width s) place in
     IsTrue (has_quotient (row_width s) dividend source.number)
-    → ReachesWithin 87 x y before after GSTEP
+    → ReachesWithin most_of_division x y before after GSTEP
     (SeesFinished (with_overflow false
     (with_quotient (row_width s) place (dividend / source.number) (dividend % source.number) (unchanged (gone_on s))))))

@@ -1,8 +1,8 @@
 //! MUL and DIV, from their dispatch to the end of the step.
 
 ghost use Rattle.std.specs.Prelude.{◌≡◌, Some, true};
-ghost use Rattle.sim_rows.specs.Prelude.{AtDispatch, AtEntry, most_to_dispatch, row_entry, RunsRow, Stands};
-ghost use Rattle.sim_rows.specs.Prelude.{state_at_dispatch, Turned, Two, view};
+ghost use Rattle.sim_rows.specs.Prelude.{AtDispatch, AtEntry, row_entry, RunsRow, Stands};
+ghost use Rattle.sim_rows.specs.Prelude.{from_dispatch, state_at_dispatch, Turned, Two, view};
 ghost use Rattle.sim_muldiv.specs.Family.{is_muldiv, IsReady};
 ghost use Rattle.sim_rows.specs.sim_view.Bounds.{most_of_quotient_row};
 
@@ -42,8 +42,8 @@ fn run_row<L: Ledger>(machine: &mut Machine, steps: &mut Steps<L>, operation: Gp
 /// Runs MUL and DIV from their dispatch to the end of the step.
 pub fn run_muldiv<L: Ledger>(machine: &mut Machine, steps: &mut Steps<L>) -> Turn
     requires { AtDispatch is_muldiv machine.old }
-    ensures { Turned (state_at_dispatch (view machine.old)) most_to_dispatch
-        machine.old machine.new steps.old steps.new result }
+    ensures { Turned (state_at_dispatch (view machine.old))
+        machine.old machine.new (from_dispatch steps.old steps.new) result }
 {
     let Some(operation) = start_row(machine, steps) else {
         return Turn::Stopped(Reason::Cell);

@@ -1,6 +1,6 @@
 -- The names that the proofs of a family cite, passed on from one place. Declares nothing.
 pub use Rattle.sim_view.proofs.Common.{comes, comes_as, comes_on, comes_then, given, Goes, goes_in, high-join, is_view, IsView, join-bytes, Leads, leads, off}
-pub use Rattle.sim_view.proofs.Common.{on, Part, part_then, pick, piece, previous-next, reg_word, Rest}
+pub use Rattle.sim_view.proofs.Common.{no_turns, on, one_more_turn, Part, part_then, pick, piece, previous-next, reg_word, Rest, runs_steps, TurnsMade}
 pub use Rattle.sim_view.specs.Bounds.{most_of_address, most_of_alu_row, most_of_byte, most_of_case_row, most_of_exchange_row, most_of_load, most_of_product_row}
 pub use Rattle.sim_view.specs.Bounds.{most_of_quotient_row, most_of_shift_row, most_of_stack_row, most_of_store, most_to_copy}
 pub use Rattle.sim_operands.proofs.AddressPieces.{Answers, index_read, IndexRead, range_read, RangeRead}
@@ -21,7 +21,7 @@ pub use Rattle.sim_rows.proofs.Sources.{code_fits}
 pub use Rattle.sim_rows.proofs.Steps.{bound_made, bound_stop, place_same, step_branch, step_byte, step_jump, step_move, step_none, step_plain}
 pub use Rattle.sim_rows.proofs.StoredResults.{changed_again, ChangedFrom, store_then, stored_idle, storing_again, value_keeps, width_again}
 pub use Rattle.sim_rows.proofs.RowStart.{stands_at}
-pub use Rattle.sim_rows.specs.Prelude.{◌>>=◌, absolute_flags, absolute_of, ABSV, ADDR, Addressed, ADDV, ALL, ANDV, Answer, AreTurns, Asking, ASPACE, AtDispatch}
+pub use Rattle.sim_rows.specs.Prelude.{◌>>=◌, absolute_flags, absolute_of, ABSV, ADDR, Addressed, ADDV, ALL, ANDV, Answer, Asking, ASPACE, AtDispatch}
 pub use Rattle.sim_rows.specs.Prelude.{AtRow, B, BACK, OperandStop, behind, behind_code, behind_first, bit_of, bound, bound_at, bound_by, BRANCH, Branch, branched}
 pub use Rattle.sim_rows.specs.Prelude.{BTARG, Byte, byte_at, byte_from, byte_in, bytes_by, bytes_or_none, CALL, CALLN, CALLS, CARRY, CASE, CASEN, CASET, CASEV}
 pub use Rattle.sim_rows.specs.Prelude.{Cell, cells_at, CEQ, CEQV, CFALSE, CGE, CGEV, CGT, CGTV, CH, ShowsChanges, Changes, CHARACTER, CHE, CHEV, CHV, CLOG, CLOGV}
@@ -49,9 +49,9 @@ pub use Rattle.sim_rows.specs.Prelude.{signed, size_of, SLA, SLLB, SLLV, Source,
 pub use Rattle.sim_rows.specs.Prelude.{SRLB, SRLV, ST, Stack, Stands, STATB, state_at_dispatch, state_of, STATUS, Status, status_byte, status_of, status_word}
 pub use Rattle.sim_rows.specs.Prelude.{step, Stepped, steps, STO, Stopped, StoppedBy, STORE, Stored, StoresRegister, StoresResult, StoresTo, StoresValue}
 pub use Rattle.sim_rows.specs.Prelude.{Storing, STREAM, streamed, STV, SUBV, sum_flags, sum_of, swapped, TAKE, target_of, To, ToMemory, ToRegisters, Turn}
-pub use Rattle.sim_rows.specs.Prelude.{Turned, TurnedBy, TurnsBy, TurnsRow, Two, two, TwoName, unchanged, unit, UNKN, value_at, Vdp, vdp_address_written}
+pub use Rattle.sim_rows.specs.Prelude.{from_dispatch, Turned, TurnedBy, TurnsBy, TurnsRow, Two, two, TwoName, unchanged, unit, UNKN, value_at, Vdp, vdp_address_written}
 pub use Rattle.sim_rows.specs.Prelude.{vdp_data_written, VdpState, View, view, WHERE, Width, width_in, with_byte, with_byte_from, with_byte_in, with_byte_to}
 pub use Rattle.sim_rows.specs.Prelude.{with_cell, with_condition, with_double, with_immediate, with_overflow, with_pc, with_quotient, with_register}
 pub use Rattle.sim_rows.specs.Prelude.{with_status, with_stop, with_tested, with_value, with_word, with_word_in, within_limit, Word, word_at, word_in, word_of}
-pub use Rattle.sim_rows.specs.Prelude.{word_or_byte, WORKSPACE, WriteSetup, XORV}
+pub use Rattle.sim_rows.specs.Prelude.{whole_turn, word_or_byte, WORKSPACE, WriteSetup, XORV}
 unfoldable pub use Rattle.sim_rows.specs.Prelude.{after, operand_at, reading, view_of, zeros}

@@ -5,7 +5,7 @@ use Rattle.sim_view.proofs.Common.{given, holds_register, previous-next, runs_th
 use Rattle.sim_operands.proofs.Facts.{not_both}
 use Rattle.sim_rows.specs.Prelude.{bound, Cell, ReachesWithin, Dispatched, ShowsEnd, GEXIT, Gives, GplState, grom_at, GromState, GSTEP, GSTOP, HoldsRegister, is_end}
 use Rattle.sim_rows.specs.Prelude.{IsFetched, IsHalted, Length, MachineState, Matches, Memory, next_in_grom, number_of, Opcode, PortsAreIdle}
-use Rattle.sim_rows.specs.Prelude.{previous_in_grom, Reaches, Reason, Register, Runs, ShowsState, shown_by, Stack, Stands, StandsBy, state_at_dispatch, state_of}
+use Rattle.sim_rows.specs.Prelude.{from_dispatch, previous_in_grom, Reaches, Reason, Register, Runs, shown_by, ShowsState, Stack, Stands, StandsBy, state_at_dispatch, state_of, whole_turn}
 use Rattle.sim_rows.specs.Prelude.{step, StoppedBy, Turn, Turned, TurnedBy, VdpState, View, view, view_of}
 use Rattle.sim_view.specs.gpl_step_defs.declared.reason.Reason.TheVariants.{Exit}
 use Rattle.sim_view.specs.interp_defs.Interpreter.{most_to_dispatch}
@@ -55,6 +55,7 @@ matches s y stands h = record {
     words = stands.words;
     idle = idle_of y.cpu.memory s s.pc h;
     fetched = fetched_of y.cpu.memory s s.pc h;
+    constants = tt;
   };
   shows = shown_is y.cpu.memory ∙ state_is (view y) s h;
 }
@@ -106,7 +107,7 @@ operand_list (suc count) x y r a b = omega arith
 
 -- what is come to from a dispatch
 pub reaches : {x y : MachineState} {before after most to : ℕ} {Q : View → Type 0} (led bound : ℕ) → ReachesWithin most x y before after to Q →
-    is_end x.cpu.pc ≡ false → is_end to ≡ true → led + most ≤ bound → Reaches led bound x y before after
+    is_end x.cpu.pc ≡ false → is_end to ≡ true → led + most ≤ bound → Reaches bound x y (record { led = led; before = before; after = after })
 reaches {x = x} {y = y} led bound c start end fits =
     let w = c.within in
     let there = ap is_end c.stands.pc ∙ end in
@@ -124,7 +125,7 @@ reaches {x = x} {y = y} led bound c start end fits =
 
 -- the beginning of a step before a turn from its dispatch
 pub reaches_from : {x y z : MachineState} {before middle after to bound : ℕ} {Q : View → Type 0} → ReachesWithin most_to_dispatch x y before middle to Q →
-    Reaches most_to_dispatch bound y z middle after → is_end to ≡ false → Reaches 0 bound x z before after
+    Reaches bound y z (from_dispatch middle after) → is_end to ≡ false → Reaches bound x z (whole_turn before after)
 reaches_from {x = x} {y = y} {z = z} c r start =
     let w = c.within in
     let a = c.counted in
@@ -140,16 +141,16 @@ reaches_from {x = x} {y = y} {z = z} c r start =
 
 from_by : {x y : MachineState} {before middle to : ℕ} {Q : View → Type 0} (z : MachineState) (after : ℕ) (s : GplState) (r : Result GplState Reason)
     (turn : Turn) → ReachesWithin most_to_dispatch x y before middle to Q → is_end to ≡ false →
-    TurnedBy r s most_to_dispatch y z middle after turn → TurnedBy r s 0 x z before after turn
+    TurnedBy r s y z (from_dispatch middle after) turn → TurnedBy r s x z (whole_turn before after) turn
 from_by z after s (Ok next) turn c e t = (t.0, reaches_from c t.1 e, t.2)
 from_by z after s (Err reason) turn c e t = (t.0, reaches_from c t.1 e, t.2)
 
 pub turned_from : {x y : MachineState} {before middle to : ℕ} {Q : View → Type 0} (z : MachineState) (after : ℕ) (s : GplState) (turn : Turn) →
     ReachesWithin most_to_dispatch x y before middle to Q → is_end to ≡ false →
-    Turned s most_to_dispatch y z middle after turn → Turned s 0 x z before after turn
+    Turned s y z (from_dispatch middle after) turn → Turned s x z (whole_turn before after) turn
 turned_from z after s turn c e t = from_by z after s (step s) turn c e t
 
 -- a turn by what the step is
 pub turned_by : (x y : MachineState) (before after led : ℕ) (turn : Turn) (s : GplState) (r : Result GplState Reason) → step s ≡ r →
-    TurnedBy r s led x y before after turn → Turned s led x y before after turn
-turned_by x y before after led turn s r e t = subst (λ (q : Result GplState Reason). TurnedBy q s led x y before after turn) (sym e) t
+    TurnedBy r s x y (record { led = led; before = before; after = after }) turn → Turned s x y (record { led = led; before = before; after = after }) turn
+turned_by x y before after led turn s r e t = subst (λ (q : Result GplState Reason). TurnedBy q s x y (record { led = led; before = before; after = after }) turn) (sym e) t

@@ -3,7 +3,7 @@ use Rattle.std.proofs.Common.{ℕ, ◌<◌, ◌∙◌, ◌≡◌, ◌≤◌, ap,
 use Rattle.sim_view.proofs.Common.{is_view}
 use Rattle.sim_rows.specs.Prelude.{AtDispatch, AtEntry, bytes_by, Cell, code_byte, GplOperation, GplState, HasStarted, is_end, is_row, IsVisible}
 use Rattle.sim_rows.specs.Prelude.{MachineState, next_of, operation_entry, operation_in, row_entry, row_result, row_width, RunsRow, size_of}
-use Rattle.sim_rows.specs.Prelude.{state_at_dispatch, Stepped, Stopped, Turn, Turned, TurnsRow, view, Width, width_in}
+use Rattle.sim_rows.specs.Prelude.{from_dispatch, state_at_dispatch, Stepped, Stopped, Turn, Turned, TurnsRow, view, Width, width_in}
 use Rattle.sim_view.specs.gpl_step_defs.declared.reason.Reason.{Reason}
 use Rattle.sim_view.specs.gpl_step_defs.declared.reason.Reason.TheVariants.{Exit}
 use Rattle.sim_rows.proofs.Ends.{fetched_of, idle_of}
@@ -13,7 +13,6 @@ use Rattle.sim_rows.proofs.WholeRows.{destination_visible, Started, started, sto
 use Rattle.sim_view.specs.gpl_defs.declared.instruction.OneName.TheVariants as one
 use Rattle.sim_view.specs.gpl_defs.declared.instruction.TwoName.TheVariants as two
 use Rattle.sim_view.specs.gpl_defs.declared.instruction.GplOperation.TheVariants as operation
-use Rattle.sim_view.specs.interp_defs.Interpreter.{most_to_dispatch}
 
 -- ---- the operations of rows
 
@@ -86,7 +85,7 @@ module _ {belongs : Option GplOperation → Bool} (rows : (o : Option GplOperati
 
   -- an operand is not visible
   pub stopped : {y : MachineState} {t u : ℕ} {told : Option GplOperation} → told ≡ None →
-      HasStarted s x y t u told → Turned s most_to_dispatch x y t u (Stopped Cell)
+      HasStarted s x y t u told → Turned s x y (from_dispatch t u) (Stopped Cell)
   stopped {y = y} {t = t} {u = u} {told = told} none l = stopped_row s x t fits start row y u told none l.starts
 
   -- the operands are loaded, and the operation is told
@@ -122,11 +121,11 @@ module _ {belongs : Option GplOperation → Bool} (rows : (o : Option GplOperati
       visible = visible;
     }
 
-    pub turned : (most : ℕ) {z : MachineState} {v : ℕ} → most ≤ 260 → RunsRow op most y z u v → Turned s most_to_dispatch x z t v Stepped
+    pub turned : (most : ℕ) {z : MachineState} {v : ℕ} → most ≤ 260 → RunsRow op most y z u v → Turned s x z (from_dispatch t v) Stepped
     turned most {z = z} {v = v} le r = turned_row s x t fits start row op y z u v most begun of.goes r le
 
     -- the same of a row that may stop, but not as EXIT does
     pub turned_or : (most : ℕ) (z : MachineState) (v : ℕ) (turn : Turn) →
         ((reason : Reason) → row_result op s begun.place begun.source ≡ Err reason → reason ≡ Exit → ⊥) → most ≤ 220 →
-        TurnsRow op most y z u v turn → Turned s most_to_dispatch x z t v turn
+        TurnsRow op most y z u v turn → Turned s x z (from_dispatch t v) turn
     turned_or most z v turn other le r = turned_or_stopped s x t fits start row op y z u v most turn begun of.goes other r le

@@ -4,7 +4,7 @@ use Rattle.sim_view.proofs.Common.{comes_on}
 use Rattle.sim_rows.specs.Prelude.{◌>>=◌, AtRow, behind_code, bound, Cell, ShowsChanges, Changes, code_byte, ReachesWithin, destination_bytes, finished, first_of, gone_on}
 use Rattle.sim_rows.specs.Prelude.{GplOperation, GplSource, GplState, GSTEP, GSTOP, has_source, is_end, is_row, MachineState, number_of_space, operand_at}
 use Rattle.sim_rows.specs.Prelude.{operands_of, operation_in, Place, place_of, Reason, result_of, row_entry, row_result, row_width, RunsRow, second_by}
-use Rattle.sim_rows.specs.Prelude.{second_of, SeesResult, size_of, Source, source_of, source_read, StartsRow, step, Stepped, Stopped, StoppedBy, Turn, Turned}
+use Rattle.sim_rows.specs.Prelude.{from_dispatch, second_of, SeesResult, size_of, Source, source_of, source_read, StartsRow, step, Stepped, Stopped, StoppedBy, Turn, Turned}
 use Rattle.sim_rows.specs.Prelude.{TurnsBy, TurnsRow, unchanged, value_at, View, Width}
 use Rattle.sim_view.specs.gpl_step_defs.declared.reason.Reason.TheVariants.{Exit}
 use Rattle.sim_view.specs.gpl_defs.declared.instruction.GplSource.TheVariants as source
@@ -161,7 +161,7 @@ module _ (s : GplState) (x : MachineState) (t : ℕ) (fits : code_byte s < 256) 
 
   -- an operand that is not visible
   stopped_by : (y : MachineState) (u : ℕ) (told : Option GplOperation) → told ≡ None → (r : Result (Place × Source) Reason) → operands_of s ≡ r →
-      StartsRow s x y t u told r → Turned s most_to_dispatch x y t u (Stopped Cell)
+      StartsRow s x y t u told r → Turned s x y (from_dispatch t u) (Stopped Cell)
   stopped_by y u told none (Ok o) e l = let op = some_is (operation_in s) row in absurd (none_some op.0 (sym none ∙ l.0 ∙ op.1))
   stopped_by y u told none (Err reason) e l =
       let op = some_is (operation_in s) row in
@@ -175,7 +175,7 @@ module _ (s : GplState) (x : MachineState) (t : ℕ) (fits : code_byte s < 256) 
       (refl, reaches most_to_dispatch (bound s) run start refl (omega arith), stops s Cell y (λ e. cc) run.stands run.holds)
 
   pub stopped_row : (y : MachineState) (u : ℕ) (told : Option GplOperation) → told ≡ None → StartsRow s x y t u told (operands_of s) →
-      Turned s most_to_dispatch x y t u (Stopped Cell)
+      Turned s x y (from_dispatch t u) (Stopped Cell)
   stopped_row y u told none l = stopped_by y u told none (operands_of s) refl l
 
   -- what was made of the operands is the step
@@ -190,7 +190,7 @@ module _ (s : GplState) (x : MachineState) (t : ℕ) (fits : code_byte s < 256) 
 
   made : (y : MachineState) (u most : ℕ) (place : Place) (source : Source) (op : GplOperation) → operation_in s ≡ Some op → operands_of s ≡ Ok (place, source)
       → most ≤ 411 →
-      (r : Result Changes Reason) → row_result op s place source ≡ r → ReachesWithin most x y t u GSTEP (SeesResult r) → Turned s most_to_dispatch x y t u Stepped
+      (r : Result Changes Reason) → row_result op s place source ≡ r → ReachesWithin most x y t u GSTEP (SeesResult r) → Turned s x y (from_dispatch t u) Stepped
   made y u most place source op e is le (Ok c) f run =
       let step_is = step_of place source op e is (Ok c) f in
       let b = bound_row s (finished c) op e (subst (λ (o : Option GplOperation). is_row o ≡ true) e row) step_is in
@@ -202,9 +202,9 @@ module _ (s : GplState) (x : MachineState) (t : ℕ) (fits : code_byte s < 256) 
   turned_as : (y : MachineState) (u most : ℕ) (place : Place) (source : Source) (op : GplOperation) (turn : Turn) → operation_in s ≡ Some op →
       operands_of s ≡ Ok (place, source) → most ≤ 371 →
       (r : Result Changes Reason) → row_result op s place source ≡ r → ((reason : Reason) → r ≡ Err reason → reason ≡ Exit → ⊥) →
-      TurnsBy most s x y t u turn r → Turned s most_to_dispatch x y t u turn
+      TurnsBy most s x y t u turn r → Turned s x y (from_dispatch t u) turn
   turned_as y u most place source op turn e is le (Ok c) f other run =
-      subst (λ (a : Turn). Turned s most_to_dispatch x y t u a) (sym run.0) (made y u most place source op e is (omega arith) (Ok c) f run.1)
+      subst (λ (a : Turn). Turned s x y (from_dispatch t u) a) (sym run.0) (made y u most place source op e is (omega arith) (Ok c) f run.1)
   turned_as y u most place source op turn e is le (Err reason) f other run =
       let step_is = step_of place source op e is (Err reason) f in
       let b = bound_stop s reason step_is in
@@ -219,14 +219,14 @@ module _ (s : GplState) (x : MachineState) (t : ℕ) (fits : code_byte s < 256) 
 
   pub turned_or_stopped : (op : GplOperation) (y z : MachineState) (u v most : ℕ) (turn : Turn) (b : Started op y u) → is_end (row_entry (Some op)) ≡ false →
       ((reason : Reason) → row_result op s b.place b.source ≡ Err reason → reason ≡ Exit → ⊥) → TurnsRow op most y z u v turn → most ≤ 220 →
-      Turned s most_to_dispatch x z t v turn
+      Turned s x z (from_dispatch t v) turn
   turned_or_stopped op y z u v most turn b entry other r le =
       turned_as z v (127 + most) b.place b.source op turn b.is_operation b.is_both (omega arith) (row_result op s b.place b.source) refl other
       (ends_as op y z u v most b.place b.source turn b.comes entry (row_result op s b.place b.source)
       (r s b.place b.source b.is_operation b.comes.holds b.is_both))
 
   pub turned_row : (op : GplOperation) (y z : MachineState) (u v most : ℕ) (b : Started op y u) → is_end (row_entry (Some op)) ≡ false →
-      RunsRow op most y z u v → most ≤ 260 → Turned s most_to_dispatch x z t v Stepped
+      RunsRow op most y z u v → most ≤ 260 → Turned s x z (from_dispatch t v) Stepped
   turned_row op y z u v most b entry r le =
       made z v (127 + most) b.place b.source op b.is_operation b.is_both (omega arith) (row_result op s b.place b.source) refl
       (comes_on 127 most b.comes (r s b.place b.source b.is_operation b.comes.holds b.is_both) entry)

@@ -1,18 +1,20 @@
 -- The names that the clauses and definitions of a family cite, passed on from one place. Declares nothing.
 pub use Rattle.sim_view.specs.Prelude.{◌>>=◌, ABS, absolute_flags, absolute_of, ABSV, ADD, ADDR, address_at}
-pub use Rattle.sim_view.specs.Prelude.{address_register, ADDV, ALL, AND, ANDV, Answer, APTR, AreTurns, ASPACE, B}
+pub use Rattle.sim_view.specs.Prelude.{address_register, ADDV, ALL, AND, ANDV, Answer, APTR, ASPACE, B}
 pub use Rattle.sim_view.specs.Prelude.{BACK, behind, bit_of, Boots, bound, bound_at, bound_by, Branch, BRANCH}
 pub use Rattle.sim_view.specs.Prelude.{branched, BTARG, Byte, byte_at, byte_from, byte_in, ByteOp, bytes_or_none}
 pub use Rattle.sim_view.specs.Prelude.{CALL, CALLN, CALLS, CARRY, CARRY_BIT, CASE, CASEN, CASET, CASEV, Cell}
 pub use Rattle.sim_view.specs.Prelude.{cells_at, CEQ, CEQV, CFALSE, CGE, CGEV, CGT, CGTV, CH, Changes, CHARACTER, CHE}
-pub use Rattle.sim_view.specs.Prelude.{CHEV, CHV, CLOG, CLOGV, CLR, CLRV, code_register, COLUMN, ReachesWithin, complement_of}
+pub use Rattle.sim_view.specs.Prelude.{CHEV, CHV, CLOG, CLOGV, CLR, CLRV, code_register, COLUMN, ReachesWithin}
+pub use Rattle.sim_view.specs.Prelude.{complement_of}
 pub use Rattle.sim_view.specs.Prelude.{condition, CONDITION_BIT, conjunction_of, copied, COPY, COPYN, COPYS, COUNT}
 pub use Rattle.sim_view.specs.Prelude.{count_in, count_of, Cpu, CTRUE, CZ, CZV, DEC, DECT, DECTV, destination_size}
 pub use Rattle.sim_view.specs.Prelude.{difference_flags, difference_of, DIV, DIVBY, DIVE, divided, division_of, DIVL}
 pub use Rattle.sim_view.specs.Prelude.{DIVQ, DIVS, DIVV, DIVW, double_at, double_word, drawn, EndsAs, even, EX, EXB}
 pub use Rattle.sim_view.specs.Prelude.{exchanged, exclusive_or_of, executed, EXIT, Exit, Exits, EXV, FETCH, FETCHA}
 pub use Rattle.sim_view.specs.Prelude.{FETCHB, FETCHD, FETCHK, FETCHN, FETCHP, FETCHR, FETCHS, FETCHV, FILL, finished}
-pub use Rattle.sim_view.specs.Prelude.{Flags, From, from_at, FromGrom, FromMemory, GBOOT, GEXIT, Gives, GO, GOALL}
+pub use Rattle.sim_view.specs.Prelude.{Flags, From, from_at, from_dispatch, FromGrom, FromMemory, GBOOT, GEXIT, Gives}
+pub use Rattle.sim_view.specs.Prelude.{GO, GOALL}
 pub use Rattle.sim_view.specs.Prelude.{GOB, GOBACK, GOCALL, GOCARY, GOEXIT, GOGT, GOH, GOMOVE, GoOp, GOOVF, GORAND}
 pub use Rattle.sim_view.specs.Prelude.{GORTN, GOTO, GplInstr, GplOperand, GplOperation, GplRead, GplRun, GplSource}
 pub use Rattle.sim_view.specs.Prelude.{GplState, GREATER_BIT, grom_address_read, grom_address_written, grom_data_read}
@@ -41,6 +43,7 @@ pub use Rattle.sim_view.specs.Prelude.{SRCV, SREG, SRL, SRLB, SRLV, ST, Stack, S
 pub use Rattle.sim_view.specs.Prelude.{Status, status_byte, status_of, status_word, step, Stepped, steps, STO}
 pub use Rattle.sim_view.specs.Prelude.{Stopped, STORE, STREAM, STV, SUB, SUBV, sum_flags, sum_of, swapped, TABLE}
 pub use Rattle.sim_view.specs.Prelude.{TAKE, target_at, target_of, To, ToMemory, ToRegisters, Turn, Turned, TurnedBy}
+pub use Rattle.sim_view.specs.Prelude.{whole_turn}
 pub use Rattle.sim_view.specs.Prelude.{two, Two, TwoName, unchanged, UNKN, value_at, VALUE_STACK, Vdp}
 pub use Rattle.sim_view.specs.Prelude.{vdp_address_written, vdp_data_read, vdp_data_written, VdpState, view, View}
 pub use Rattle.sim_view.specs.Prelude.{VISIBLE_CELLS, WHERE, WIDE, Width, with_byte, with_byte_from, with_byte_in}
@@ -50,7 +53,8 @@ pub use Rattle.sim_view.specs.Prelude.{with_stop, with_tested, with_value, with_
 pub use Rattle.sim_view.specs.Prelude.{Word, word_at, word_in, word_or_byte, WORKSPACE, WriteSetup, XOR, XORV}
 unfoldable pub use Rattle.sim_view.specs.Prelude.{after, operand_at, reading, view_of, zeros}
 pub use Rattle.sim_operands.specs.Pieces.{exit, past, return_of, with_grom_address, with_video_address}
-pub use Rattle.sim_operands.specs.Subroutines.{Addressed, OperandStop, Finds, FindsOperand, grom_at, Loaded, LoadsStream}
+pub use Rattle.sim_operands.specs.Subroutines.{Addressed, OperandStop, Finds, FindsOperand, grom_at, Loaded}
+pub use Rattle.sim_operands.specs.Subroutines.{LoadsStream}
 pub use Rattle.sim_operands.specs.Subroutines.{LoadsValue, marked_by, next_at, place_in, Placed, state_of, Stored}
 pub use Rattle.sim_operands.specs.Subroutines.{StoresRegister, StoresValue, streamed}
 pub use Rattle.sim_operands.specs.Values.{in_register, IsVisible, number_of_space, of_register, width_in}

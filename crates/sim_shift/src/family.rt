@@ -1,8 +1,8 @@
 //! A shift, from its dispatch to the end of the step.
 
 ghost use Rattle.std.specs.Prelude.{◌<◌, ◌≡◌};
-ghost use Rattle.sim_rows.specs.Prelude.{AtDispatch, AtEntry, Exits, IsVisible, most_to_dispatch, PortsAreIdle};
-ghost use Rattle.sim_rows.specs.Prelude.{RunsRow, Stands, state_at_dispatch, Turned, Two, view};
+ghost use Rattle.sim_rows.specs.Prelude.{AtDispatch, AtEntry, Exits, IsVisible, PortsAreIdle};
+ghost use Rattle.sim_rows.specs.Prelude.{from_dispatch, RunsRow, Stands, state_at_dispatch, Turned, Two, view};
 ghost use Rattle.sim_shift.specs.Pieces.{asking, shifts};
 ghost use Rattle.sim_shift.specs.Family as family;
 ghost use Rattle.sim_rows.specs.sim_view.Bounds.{most_of_shift_row};
@@ -85,8 +85,8 @@ fn run_row<L: Ledger>(machine: &mut Machine, steps: &mut Steps<L>, operation: Gp
 /// Runs a shift from its dispatch to the end of the step.
 pub fn run_shift<L: Ledger>(machine: &mut Machine, steps: &mut Steps<L>) -> Turn
     requires { AtDispatch family.is_shift machine.old }
-    ensures { Turned (state_at_dispatch (view machine.old)) most_to_dispatch
-        machine.old machine.new steps.old steps.new result }
+    ensures { Turned (state_at_dispatch (view machine.old))
+        machine.old machine.new (from_dispatch steps.old steps.new) result }
 {
     let Some(operation) = start_row(machine, steps) else {
         return Turn::Stopped(Reason::Cell);

@@ -6,18 +6,22 @@ use Rattle.sim_rows.proofs.Common.{◌>>=◌, at_most, back_is, behind_code, bou
 use Rattle.sim_rows.proofs.Common.{comes_then, Dispatched, EndsRow, Exit, exit, Exits, finished, first_way, from, GOCALL, Goes, goes_in, GplOperation, GplState}
 use Rattle.sim_rows.proofs.Common.{grom_at, GromState, grown_by, GSTOP, high, idle_told, is_end, is_view, join, Jump, just, known, lost, low, MachineState}
 use Rattle.sim_rows.proofs.Common.{marked_by, matches, most_to_dispatch, next_in_grom, on_stack, operation_in, past, plus, PortsAreIdle, reaches, Reason}
-use Rattle.sim_rows.proofs.Common.{second_way, set_is, shifted, SHOW, SLA, Stack, Stands, step, step_jump, Stepped, Stopped, StoppedBy, sum_of, Turned}
+use Rattle.sim_rows.proofs.Common.{from_dispatch, second_way, set_is, shifted, SHOW, SLA, Stack, Stands, step, step_jump, Stepped, Stopped, StoppedBy, sum_of, Turned}
 use Rattle.sim_rows.proofs.Common.{turned_by, View, view, Word, word_at as word_in_grom}
+use Rattle.sim_rows.specs.Prelude.{RETURN_STACK, unchanged, with_cell, with_pc, with_word}
 use Rattle.sim_rows.specs.Pieces.{at_first}
 use Rattle.sim_rows.specs.sim_operands.Pieces.{one_if}
 use Rattle.sim_stack.specs.Pieces.{offset_of, shows_at}
 use Rattle.sim_stack.specs.Family.{is_call}
-use Rattle.sim_stack.specs.Stacks.{gone_to}
 use Rattle.sim_stack.proofs.Room.{behind_is, no_room, stop_turned, two_more, with_room}
 use Rattle.sim_stack.proofs.NextAddress.{next_fits}
 use Rattle.sim_stack.specs.Pieces as pieces
 
 -- ---- the step
+
+-- what CALL changes
+abbrev pub gone_to : GplState → ℕ → ℕ → Changes
+gone_to s top target = with_pc target (with_word top s.pc (with_cell RETURN_STACK top (unchanged s)))
 
 abbrev read_in : GplState → ℕ × ℕ
 read_in s = word_in_grom s.image (behind_code s)
@@ -97,7 +101,7 @@ module _ (s : GplState) {x a : MachineState} {t t1 : ℕ} (stands : Stands x GOC
   start : is_end x.cpu.pc ≡ false
   start = ap is_end stands.pc
 
-  pub stopped : a.cpu.pc ≡ GSTOP → Turned s most_to_dispatch x a t t1 (Stopped Stack)
+  pub stopped : a.cpu.pc ≡ GSTOP → Turned s x a (from_dispatch t t1) (Stopped Stack)
   stopped here =
       let k = first_way GSTOP x a t t1 (nat_lt 0xC0 offset) (pieces.full 10 told) (exit 7 CALLN told) went_by (λ q. absurd (omega arith)) here in
       let full : on_stack 2 (top_in s) ≡ Err Stack = no_room 0xC0 2 (top_in s) refl (ap (nat_lt 0xC0) (sym offset_top) ∙ k.0) in
@@ -176,7 +180,7 @@ module _ (s : GplState) {x a : MachineState} {t t1 : ℕ} (stands : Stands x GOC
         pub idle_ending : PortsAreIdle c.cpu.memory
         idle_ending = idle_told c.cpu.memory ending.holds.held (ap (λ (g : GromState). g.half_written) ending.holds.grom)
 
-        pub turned : (y : MachineState) (t4 : ℕ) → EndsRow c y t3 t4 → Turned s most_to_dispatch x y t t4 Stepped
+        pub turned : (y : MachineState) (t4 : ℕ) → EndsRow c y t3 t4 → Turned s x y (from_dispatch t t4) Stepped
         turned y t4 ends =
             let room : on_stack 2 (top_in s) ≡ Ok (top_in s) = with_room 0xC0 2 (top_in s) refl (ap (nat_lt 0xC0) (sym offset_top) ∙ went.0) in
             let is = step_by s (Ok (top_in s)) family room in

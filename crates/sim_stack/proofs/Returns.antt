@@ -2,15 +2,16 @@
 use Rattle.std.proofs.Common.{ℕ, ◌<◌, ◌==◌, ◌∙◌, ◌≡◌, ap, arith, Bool, eqb, Err, false, if◌then◌else◌, List, nat_lt, Ok, Option, refl, Result}
 use Rattle.std.proofs.Common.{slice_index, slice_set, Some, subst, sym, true}
 use Rattle.std.proofs.lemmas.Bool.{agree_below_at, eqb-true}
-use Rattle.sim_rows.proofs.Common.{◌>>=◌, behind_code, bound, bound_made, Changes, code_byte, code_fits, ReachesWithin, comes, comes_as, comes_on, difference_of}
+use Rattle.sim_rows.proofs.Common.{◌>>=◌, behind_code, bound, bound_made, code_byte, code_fits, ReachesWithin, comes, comes_as, comes_on, difference_of}
 use Rattle.sim_rows.proofs.Common.{Dispatched, Exit, exit, Exits, finished, first_way, GORTN, GOTO, GplOperation, GplState, GSTEP, GSTOP, if_true, is_end}
 use Rattle.sim_rows.proofs.Common.{is_view, join, low, MachineState, matches, most_to_dispatch, on_stack, operation_at, operation_in, Plain, reaches, Reason}
-use Rattle.sim_rows.proofs.Common.{RTN, RTNC, second_way, ShowsState, SeesFinished, Stack, Stands, step, step_plain, Stepped, Stopped, StoppedBy, TAKE, Turned}
-use Rattle.sim_rows.proofs.Common.{turned_by, View, view, with_condition, Word, word_in}
+use Rattle.sim_rows.proofs.Common.{from_dispatch, RTN, RTNC, second_way, SeesFinished, ShowsState, Stack, Stands, step, step_plain, Stepped, Stopped, StoppedBy, TAKE, Turned}
+use Rattle.sim_rows.proofs.Common.{turned_by, View, view, Word, word_in}
+use Rattle.sim_rows.specs.Prelude.{Changes, grown_by, RETURN_STACK, unchanged, with_cell, with_condition, with_pc}
+use Rattle.sim_rows.specs.gpl_step_defs.Place.{word_at}
 use Rattle.sim_jumps.specs.Jumps.{GoesOn, TakesBranch}
 use Rattle.sim_stack.specs.Pieces.{offset_of}
 use Rattle.sim_stack.specs.Family.{is_return}
-use Rattle.sim_stack.specs.Stacks.{gone_back, returned_by}
 use Rattle.sim_stack.proofs.Room.{no_room, offset_above, stop_turned, two_less, with_room}
 use Rattle.sim_stack.specs.Pieces as pieces
 
@@ -37,6 +38,13 @@ one_is : (code : ℕ) → code < 256 → operation_at code ≡ Some (Plain RTNC)
 one_is code h e = eqb-true code 1 (if_true (rtnc_of (operation_at code)) (eqb code 1) (ap rtnc_of e) (agree_below_at rtnc_is_one (λ _. true) 256 code refl h))
 
 -- ---- the step
+
+-- What they change, where the word at the top may be read: RTN, whose code byte is 0, clears the condition too.
+abbrev pub gone_back : GplState → ℕ → Changes
+gone_back s top = with_pc (word_at s top) (with_cell RETURN_STACK (grown_by 254 top) (unchanged s))
+
+abbrev pub returned_by : ℕ → GplState → ℕ → Changes
+returned_by code s top = if code == 0 then with_condition false (gone_back s top) else gone_back s top
 
 -- the state whose next instruction is the one behind
 abbrev before : GplState → GplState
@@ -116,7 +124,7 @@ module _ (s : GplState) {x a : MachineState} {t u : ℕ} (stands : Stands x GORT
       by true q = absurd (omega arith)
       by false q = absurd (omega arith)
 
-  pub stopped : a.cpu.pc ≡ GSTOP → Turned s most_to_dispatch x a t u (Stopped Stack)
+  pub stopped : a.cpu.pc ≡ GSTOP → Turned s x a (from_dispatch t u) (Stopped Stack)
   stopped here =
       let k = first_way GSTOP x a t u (nat_lt 0xC0 offset) operand_stop gone e goes_elsewhere here in
       let full : on_stack 2 (top_in s) ≡ Err Stack = no_room 0xC0 2 (top_in s) refl (ap (nat_lt 0xC0) (sym offset_top) ∙ k.0) in
@@ -148,7 +156,7 @@ module _ (s : GplState) {x a : MachineState} {t u : ℕ} (stands : Stands x GORT
     went = second_way GSTOP x a t u (nat_lt 0xC0 offset) operand_stop gone e refl elsewhere
 
     turned : (b : Bool) → (v.r.r0 == 0) ≡ b → ReachesWithin 15 x y t w GSTEP (SeesFinished (if b then with_condition false back else back)) →
-        Turned s most_to_dispatch x y t w Stepped
+        Turned s x y (from_dispatch t w) Stepped
     turned b zero run =
         let fits = code_fits s (behind_code s) v (is_view x stands.machine) d.sees in
         let room : on_stack 2 (top_in s) ≡ Ok (top_in s) = with_room 0xC0 2 (top_in s) refl (ap (nat_lt 0xC0) (sym offset_top) ∙ went.0) in
@@ -160,13 +168,13 @@ module _ (s : GplState) {x a : MachineState} {t u : ℕ} (stands : Stands x GORT
         let b = bound_back s next (operation_in s) family refl is in
         turned_by x y t w most_to_dispatch Stepped s (Ok next) is (refl, reaches most_to_dispatch (bound s) c start refl (omega arith), matches next y c.stands c.holds)
 
-    pub turned_rtn : a.cpu.pc ≡ TAKE → TakesBranch a y u w → Turned s most_to_dispatch x y t w Stepped
+    pub turned_rtn : a.cpu.pc ≡ TAKE → TakesBranch a y u w → Turned s x y (from_dispatch t w) Stepped
     turned_rtn here ends =
         let k = first_way TAKE x a t u (v.r.r0 == 0) (exit 10 TAKE taken) (exit 11 GOTO taken) went.1 (λ q. absurd (omega arith)) here in
         let c : ReachesWithin 10 x a t u TAKE (Taken back.state (behind_code s)) = comes k.1 (record { within = omega arith; to_is = refl; holds = takes }) in
         turned true k.0 (comes_on 10 5 c (ends back.state (behind_code s) c.holds.sees c.holds.to) refl)
 
-    pub turned_rtnc : (a.cpu.pc ≡ TAKE → ⊥) → GoesOn a y u w → Turned s most_to_dispatch x y t w Stepped
+    pub turned_rtnc : (a.cpu.pc ≡ TAKE → ⊥) → GoesOn a y u w → Turned s x y (from_dispatch t w) Stepped
     turned_rtnc away ends =
         let k = second_way TAKE x a t u (v.r.r0 == 0) (exit 10 TAKE taken) (exit 11 GOTO taken) went.1 refl away in
         let c : ReachesWithin 11 x a t u GOTO (Taken back.state (behind_code s)) = comes k.1 (record { within = omega arith; to_is = refl; holds = takes }) in

@@ -3,8 +3,8 @@ use Rattle.std.proofs.Common.{ℕ, ◌%◌, ◌<◌, ◌==◌, ◌∙◌, ◌≡
 use Rattle.std.proofs.lemmas.Bool.{agree_below_at}
 use Rattle.sim_rows.specs.Prelude.{HasStarted}
 use Rattle.sim_rows.proofs.Common.{◌>>=◌, AtDispatch, Byte, Changes, code_byte, GplOperation, GplState, if_true, MachineState, most_of_stack_row}
-use Rattle.sim_rows.proofs.Common.{most_to_dispatch, on_stack, One, operation_at, operation_in, Place, PUSH, Reason, row_result, row_width, size_of, Source}
-use Rattle.sim_rows.proofs.Common.{Stack, state_at_dispatch, Turn, Turned, TurnsRow, view, word_or_byte}
+use Rattle.sim_rows.proofs.Common.{on_stack, One, operation_at, operation_in, Place, PUSH, Reason, row_result, row_width, size_of, Source}
+use Rattle.sim_rows.proofs.Common.{from_dispatch, Stack, state_at_dispatch, Turn, Turned, TurnsRow, view, word_or_byte}
 use Rattle.sim_rows.specs.gpl_defs.declared.instruction.OneName.TheVariants.{FETCH}
 use Rattle.sim_rows.specs.gpl_step_defs.declared.reason.Reason.TheVariants.{Exit}
 use Rattle.sim_stack.specs.Family.{is_stack_row}
@@ -53,7 +53,7 @@ module _ {x y : MachineState} {t u : ℕ} {op : GplOperation} {told : Option Gpl
   byte_row = (family.begun rows at is l).comes.holds.holds.bytes_are ∙ ap size_of (narrow (state_at_dispatch (view x)) (family.fits rows at) at.family)
 
   pub turned : (z : MachineState) (v : ℕ) (turn : Turn) → TurnsRow op most_of_stack_row y z u v turn
-      → Turned (state_at_dispatch (view x)) most_to_dispatch x z t v turn
+      → Turned (state_at_dispatch (view x)) x z (from_dispatch t v) turn
   turned z v turn r =
       family.turned_or rows at is l 131 z v turn
       (λ reason e f. never_leaves (row_result op (state_at_dispatch (view x)) (family.begun rows at is l).place (family.begun rows at is l).source) reason

@@ -1,20 +1,12 @@
--- Parts of CALL, RTN, PUSH and FETCH, for all states that may be there.
-use Rattle.std.specs.Prelude.{ℕ, ◌<◌, ◌==◌, ◌≡◌, false, if◌then◌else◌, List, slice_index}
+-- Parts of FETCH, for all states that may be there.
+use Rattle.std.specs.Prelude.{ℕ, ◌<◌, ◌≡◌, List, slice_index}
 use Rattle.sim_rows.specs.Prelude.{ShowsChanges, Changes, ReachesWithin, FETCHA, FETCHB, FETCHP, FETCHS, GplState, grom_at}
-use Rattle.sim_rows.specs.Prelude.{grown_by, GSTEP, join, Loaded, MachineState, next_in_grom, number_of_space, Place}
-use Rattle.sim_rows.specs.Prelude.{RETURN_STACK, SeesFinished, unchanged, View, view, WHERE, with_byte, with_cell}
-use Rattle.sim_rows.specs.Prelude.{with_condition, with_pc, with_word, word_in}
-use Rattle.sim_rows.specs.gpl_step_defs.Place.{word_at}
+use Rattle.sim_rows.specs.Prelude.{GSTEP, join, Loaded, MachineState, next_in_grom, number_of_space, Place}
+use Rattle.sim_rows.specs.Prelude.{SeesFinished, unchanged, View, view, WHERE, with_byte}
+use Rattle.sim_rows.specs.Prelude.{with_pc, with_word, word_in}
 use Rattle.sim_stack.specs.Pieces.{ask_stacked}
-
--- RTN and RTNC
-
--- What they change, where the word at the top may be read: RTN, whose code byte is 0, clears the condition too.
-abbrev pub gone_back : GplState → ℕ → Changes
-gone_back s top = with_pc (word_at s top) (with_cell RETURN_STACK (grown_by 254 top) (unchanged s))
-
-abbrev pub returned_by : ℕ → GplState → ℕ → Changes
-returned_by code s top = if code == 0 then with_condition false (gone_back s top) else gone_back s top
+use Rattle.sim_rows.specs.sim_view.Bounds.{most_to_end_fetch, most_to_fetch_byte, most_to_load_stacked}
+use Rattle.sim_rows.specs.sim_view.Bounds.{most_to_locate}
 
 -- The next address
 
@@ -39,17 +31,12 @@ pub record SetAside (v : View) (image : List ℕ) (at : ℕ) (w : View) : Type 0
 abbrev pub Locates : MachineState → MachineState → ℕ → ℕ → Type 0
 Locates x y before after =
     (image : List ℕ) → (at : ℕ) → at < 65536 → (view x).grom ≡ grom_at image at
-    → ReachesWithin 13 x y before after FETCHS (Located (view x) image at)
+    → ReachesWithin most_to_locate x y before after FETCHS (Located (view x) image at)
 
 abbrev pub SetsAside : MachineState → MachineState → ℕ → ℕ → Type 0
 SetsAside x y before after =
     (image : List ℕ) → (at : ℕ) → at < 65536 → (view x).grom ≡ grom_at image at
-    → ReachesWithin 13 x y before after FETCHP (SetAside (view x) image at)
-
--- CALL
-
-abbrev pub gone_to : GplState → ℕ → ℕ → Changes
-gone_to s top target = with_pc target (with_word top s.pc (with_cell RETURN_STACK top (unchanged s)))
+    → ReachesWithin most_to_locate x y before after FETCHP (SetAside (view x) image at)
 
 -- FETCH
 
@@ -57,7 +44,7 @@ gone_to s top target = with_pc target (with_word top s.pc (with_cell RETURN_STAC
 abbrev pub LoadsStacked : MachineState → MachineState → ℕ → ℕ → Type 0
 LoadsStacked x y before after =
     let v = view x in
-    ReachesWithin 19 x y before after FETCHA (Loaded (ask_stacked v).left (word_in v.cells v.r.r2))
+    ReachesWithin most_to_load_stacked x y before after FETCHA (Loaded (ask_stacked v).left (word_in v.cells v.r.r2))
 
 -- From FETCHA the byte of GROM at the address in register 6 comes into register 12.
 abbrev pub fetched_at : View → List ℕ → ℕ → View
@@ -69,7 +56,7 @@ abbrev pub FetchesStacked : MachineState → MachineState → ℕ → ℕ → Ty
 FetchesStacked x y before after =
     let v = view x in
     (image : List ℕ) → (next : ℕ) → v.grom ≡ grom_at image next
-    → ReachesWithin 10 x y before after WHERE (λ w. w ≡ fetched_at v image v.r.r6)
+    → ReachesWithin most_to_fetch_byte x y before after WHERE (λ w. w ≡ fetched_at v image v.r.r6)
 
 -- At FETCHS: the top of the stack in register 7, the address to store there in register 9, the byte in register 12, its
 -- place in registers 10 and 15, and where GROM goes on in register 14.
@@ -86,4 +73,5 @@ pub record Fetching (s : GplState) (place : Place) (top number byte next : ℕ) 
 abbrev pub EndsFetch : MachineState → MachineState → ℕ → ℕ → Type 0
 EndsFetch x y before after =
     (s : GplState) → (place : Place) → (top number byte next : ℕ) → Fetching s place top number byte next (view x)
-    → ReachesWithin 69 x y before after GSTEP (SeesFinished (with_byte place byte (with_word top number (unchanged s))))
+    → ReachesWithin most_to_end_fetch x y before after GSTEP
+    (SeesFinished (with_byte place byte (with_word top number (unchanged s))))

@@ -1,8 +1,8 @@
 //! CALL: the address after the call goes on the stack of return addresses.
 
 ghost use Rattle.std.specs.Prelude.{◌≡◌, true};
-ghost use Rattle.sim_rows.specs.Prelude.{Dispatched, most_to_dispatch, operation_in_view, Stands, state_at_dispatch};
-ghost use Rattle.sim_rows.specs.Prelude.{Turned, view};
+ghost use Rattle.sim_rows.specs.Prelude.{Dispatched, operation_in_view, Stands, state_at_dispatch};
+ghost use Rattle.sim_rows.specs.Prelude.{from_dispatch, Turned, view};
 ghost use Rattle.sim_stack.specs.Family.{is_call};
 ghost use Rattle.sim_rows.specs.native_interp.declared.addresses.TheConstants as address;
 
@@ -18,7 +18,7 @@ pub fn run_call<L: Ledger>(machine: &mut Machine, steps: &mut Steps<L>) -> Turn
     requires dispatched { let v = view machine.old in Dispatched (state_at_dispatch v) v }
     requires family { is_call (operation_in_view (view machine.old)) ≡ true }
     ensures { let s = state_at_dispatch (view machine.old) in
-        Turned s most_to_dispatch machine.old machine.new steps.old steps.new result }
+        Turned s machine.old machine.new (from_dispatch steps.old steps.new) result }
 {
     read_call_target(machine, steps);
     if machine.pc() == GSTOP {

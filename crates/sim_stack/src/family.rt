@@ -1,7 +1,7 @@
 //! The instructions that use the stacks, from their dispatch to the end of the step.
 
 ghost use Rattle.std.specs.Prelude.{◌≡◌};
-ghost use Rattle.sim_rows.specs.Prelude.{AtDispatch, AtEntry, most_to_dispatch, state_at_dispatch, Turned, TurnsRow};
+ghost use Rattle.sim_rows.specs.Prelude.{AtDispatch, AtEntry, from_dispatch, state_at_dispatch, Turned, TurnsRow};
 ghost use Rattle.sim_rows.specs.Prelude.{view};
 ghost use Rattle.sim_stack.specs.Family.{is_stack, is_stack_row};
 ghost use Rattle.sim_rows.specs.sim_view.Bounds.{most_of_stack_row};
@@ -31,7 +31,7 @@ fn run_row<L: Ledger>(machine: &mut Machine, steps: &mut Steps<L>, operation: Gp
 fn run_stack_row<L: Ledger>(machine: &mut Machine, steps: &mut Steps<L>) -> Turn
     requires { AtDispatch is_stack_row machine.old }
     ensures { let s = state_at_dispatch (view machine.old) in
-        Turned s most_to_dispatch machine.old machine.new steps.old steps.new result }
+        Turned s machine.old machine.new (from_dispatch steps.old steps.new) result }
 {
     let Some(operation) = start_row(machine, steps) else {
         return Turn::Stopped(Reason::Cell);
@@ -43,7 +43,7 @@ fn run_stack_row<L: Ledger>(machine: &mut Machine, steps: &mut Steps<L>) -> Turn
 pub fn run_stack<L: Ledger>(machine: &mut Machine, steps: &mut Steps<L>) -> Turn
     requires { AtDispatch is_stack machine.old }
     ensures { let s = state_at_dispatch (view machine.old) in
-        Turned s most_to_dispatch machine.old machine.new steps.old steps.new result }
+        Turned s machine.old machine.new (from_dispatch steps.old steps.new) result }
 {
     match current_operation(machine) {
         Some(GplOperation::Plain(_)) => run_return(machine, steps),

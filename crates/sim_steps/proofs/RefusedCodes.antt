@@ -1,12 +1,12 @@
 -- The code bytes that stop.
 use Rattle.std.proofs.Common.{ℕ, ◌≡◌, ap, arith, Err, refl}
 use Rattle.sim_rows.proofs.Common.{bound, bound_stop, comes, Dispatched, Exits, Goes, goes_in, GplState, GSTOP, is_end, MachineState, most_to_dispatch, Opcode}
-use Rattle.sim_rows.proofs.Common.{reaches, Stands, step, Stopped, StoppedBy, stops, Turned, turned_by, UNKN, view}
+use Rattle.sim_rows.proofs.Common.{from_dispatch, reaches, Stands, step, Stopped, StoppedBy, stops, Turned, turned_by, UNKN, view}
 use Rattle.sim_steps.specs.Pieces as pieces
 
 module _ (s : GplState) (x y : MachineState) (t u : ℕ) (d : Dispatched s (view x)) where
   -- a code byte that is no instruction's
-  pub refuses : step s ≡ Err Opcode → Stands x UNKN → Exits x y t u (pieces.stop_code (view x)) → Turned s most_to_dispatch x y t u (Stopped Opcode)
+  pub refuses : step s ≡ Err Opcode → Stands x UNKN → Exits x y t u (pieces.stop_code (view x)) → Turned s x y (from_dispatch t u) (Stopped Opcode)
   refuses is stands run =
       let h = d.sees in
       let ended : Goes (pieces.stop_code (view x)) 2 GSTOP (StoppedBy s Opcode) =

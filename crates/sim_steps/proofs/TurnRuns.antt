@@ -1,7 +1,7 @@
 -- Runs of turns.
 use Rattle.std.proofs.Common.{ℕ, ◌+◌, ◌<◌, ◌∙◌, ◌≡◌, ◌≤◌, ap, arith, Err, None, Ok, Option, refl, Result, Some, subst, suc, sym, zero}
-use Rattle.sim_rows.proofs.Common.{◌>>=◌, AreTurns, bound, Cell, EndsAs, GplRun, GplState, IsMatching, IsTurn, MachineState, Matches, one_more, Reason, run}
-use Rattle.sim_rows.proofs.Common.{shown_by, step, Stepped, Stopped, Turn, Turned, TurnedBy, with_stop}
+use Rattle.sim_rows.proofs.Common.{◌>>=◌, bound, Cell, EndsAs, GplRun, GplState, IsMatching, IsTurn, MachineState, Matches, no_turns, one_more, one_more_turn, Reason, run, runs_steps}
+use Rattle.sim_rows.proofs.Common.{shown_by, step, Stepped, Stopped, Turn, Turned, TurnedBy, TurnsMade, whole_turn, with_stop}
 use Rattle.sim_rows.specs.gpl_step_defs.Run.{steps}
 use Rattle.sim_steps.specs.Running.{RunsTurns}
 
@@ -84,7 +84,7 @@ pub record Stepping (made : ℕ) (s : GplState) (x z : MachineState) (t u : ℕ)
   pub matches : Matches now z
   pub count : ℕ
   pub counted : u ≡ t + count
-  pub turns_are : AreTurns s made count x z
+  pub turns_are : TurnsMade s made count x z
 
 pub none_yet : {x : MachineState} {t : ℕ} → IsMatching x → Stepping 0 (shown_by x.cpu.memory) x x t t
 none_yet {x = x} m =
@@ -94,7 +94,7 @@ none_yet {x = x} m =
       matches = record { matching = m; shows = refl };
       count = 0;
       counted = omega arith;
-      turns_are = (refl, refl);
+      turns_are = no_turns (shown_by x.cpu.memory) x;
     }
 
 module _ (made : ℕ) {s : GplState} {x z : MachineState} {t u : ℕ} (h : Stepping made s x z t u) (w : MachineState) (v : ℕ) where
@@ -102,16 +102,16 @@ module _ (made : ℕ) {s : GplState} {x z : MachineState} {t u : ℕ} (h : Stepp
   pub last_is : (run made s).last ≡ h.now
   last_is = ap (λ (q : GplRun). q.last) (run_whole made s h.now h.steps_are)
 
-  one_more_turn : (turn : ℕ) → IsTurn turn z w → turn ≤ bound h.now → AreTurns s (suc made) (h.count + turn) x w
-  one_more_turn turn is within =
+  turned_once : (turn : ℕ) → IsTurn turn z w → turn ≤ bound h.now → TurnsMade s (suc made) (h.count + turn) x w
+  turned_once turn is within =
       let matches : Matches (run made s).last z = subst (λ (q : GplState). Matches q z) (sym last_is) h.matches in
       let le : turn ≤ bound (run made s).last = subst (λ (q : GplState). turn ≤ bound q) (sym last_is) within in
-      (z, h.count, turn, h.turns_are, matches, is, le, refl)
+      one_more_turn s made h.count turn x z w h.turns_are matches is le
 
-  of_now : (turn : Turn) → Turned (shown_by z.cpu.memory) 0 z w u v turn → Turned h.now 0 z w u v turn
-  of_now turn e = subst (λ (q : GplState). Turned q 0 z w u v turn) h.matches.shows e
+  of_now : (turn : Turn) → Turned (shown_by z.cpu.memory) z w (whole_turn u v) turn → Turned h.now z w (whole_turn u v) turn
+  of_now turn e = subst (λ (q : GplState). Turned q z w (whole_turn u v) turn) h.matches.shows e
 
-  stepped_by : (r : Result GplState Reason) → step h.now ≡ r → TurnedBy r h.now 0 z w u v Stepped → Stepping (suc made) s x w t v
+  stepped_by : (r : Result GplState Reason) → step h.now ≡ r → TurnedBy r h.now z w (whole_turn u v) Stepped → Stepping (suc made) s x w t v
   stepped_by (Ok next) e r =
       let a = h.counted in
       let b = r.1.counted in
@@ -121,14 +121,14 @@ module _ (made : ℕ) {s : GplState} {x z : MachineState} {t u : ℕ} (h : Stepp
         matches = r.2;
         count = h.count + r.1.count;
         counted = omega arith;
-        turns_are = one_more_turn r.1.count r.1.turn (let le = r.1.within in omega arith);
+        turns_are = turned_once r.1.count r.1.turn (let le = r.1.within in omega arith);
       }
   stepped_by (Err reason) e r = absurd (let a = r.0 in cc)
 
-  pub stepped : Turned (shown_by z.cpu.memory) 0 z w u v Stepped → Stepping (made + 1) s x w t v
+  pub stepped : Turned (shown_by z.cpu.memory) z w (whole_turn u v) Stepped → Stepping (made + 1) s x w t v
   stepped e = subst (λ (m : ℕ). Stepping m s x w t v) (sym (next_is made)) (stepped_by (step h.now) refl (of_now Stepped e))
 
-  stopped_as : (limit : ℕ) (reason : Reason) → made < limit → (r : Result GplState Reason) → step h.now ≡ r → TurnedBy r h.now 0 z w u v (Stopped reason) →
+  stopped_as : (limit : ℕ) (reason : Reason) → made < limit → (r : Result GplState Reason) → step h.now ≡ r → TurnedBy r h.now z w (whole_turn u v) (Stopped reason) →
       RunsTurns s limit x w t v made (Some reason)
   stopped_as limit reason less (Ok next) e r = absurd (let a = r.0 in cc)
   stopped_as limit reason less (Err other) e r =
@@ -140,15 +140,14 @@ module _ (made : ℕ) {s : GplState} {x z : MachineState} {t u : ℕ} (h : Stepp
         stop_is = ap Some (reason_is reason other r.0) ∙ sym (ap (λ (q : GplRun). q.stop) is);
         count = h.count + r.1.count;
         counted = omega arith;
-        runs = record {
-          turns_are = subst (λ (q : GplRun). AreTurns s (with_stop q.stop q.done) (h.count + r.1.count) x w) (sym is)
-              (subst (λ (d : ℕ). AreTurns s d (h.count + r.1.count) x w) (sym (next_is made))
-              (one_more_turn r.1.count r.1.turn (let le = r.1.within in omega arith)));
-          ends = subst (λ (q : GplRun). EndsAs q.stop q.last w) (sym is) r.2;
-        };
+        runs = runs_steps s limit (h.count + r.1.count) x w
+            (subst (λ (q : GplRun). TurnsMade s (with_stop q.stop q.done) (h.count + r.1.count) x w) (sym is)
+            (subst (λ (d : ℕ). TurnsMade s d (h.count + r.1.count) x w) (sym (next_is made))
+            (turned_once r.1.count r.1.turn (let le = r.1.within in omega arith))))
+            (subst (λ (q : GplRun). EndsAs q.stop q.last w) (sym is) r.2);
       }
 
-  pub stopped : (limit : ℕ) (reason : Reason) → made < limit → Turned (shown_by z.cpu.memory) 0 z w u v (Stopped reason) →
+  pub stopped : (limit : ℕ) (reason : Reason) → made < limit → Turned (shown_by z.cpu.memory) z w (whole_turn u v) (Stopped reason) →
       RunsTurns s limit x w t v made (Some reason)
   stopped limit reason less e = stopped_as limit reason less (step h.now) refl (of_now (Stopped reason) e)
 
@@ -160,8 +159,7 @@ whole limit {s = s} {x = x} {z = z} h =
       stop_is = sym (ap (λ (q : GplRun). q.stop) is);
       count = h.count;
       counted = h.counted;
-      runs = record {
-        turns_are = subst (λ (q : GplRun). AreTurns s (with_stop q.stop q.done) h.count x z) (sym is) h.turns_are;
-        ends = subst (λ (q : GplRun). EndsAs q.stop q.last z) (sym is) h.matches;
-      };
+      runs = runs_steps s limit h.count x z
+          (subst (λ (q : GplRun). TurnsMade s (with_stop q.stop q.done) h.count x z) (sym is) h.turns_are)
+          (subst (λ (q : GplRun). EndsAs q.stop q.last z) (sym is) h.matches);
     }

@@ -1,7 +1,7 @@
 -- The turn from the dispatch of a step.
 use Rattle.std.proofs.Common.{ℕ, ◌≡◌, Bool, None, Option, refl, slice_index, Some, subst, sym, true}
 use Rattle.sim_rows.proofs.Common.{AtDispatch, code_byte, ReachesWithin, Dispatched, Exits, GplOperation, GplState, MachineState, most_to_dispatch, Opcode}
-use Rattle.sim_rows.proofs.Common.{operation_at, operation_entry, operation_in_view, Stands, state_at, state_at_dispatch, step_none, Stopped, Turn, Turned}
+use Rattle.sim_rows.proofs.Common.{from_dispatch, operation_at, operation_entry, operation_in_view, Stands, state_at, state_at_dispatch, step_none, Stopped, Turn, Turned, whole_turn}
 use Rattle.sim_rows.proofs.Common.{turned_from, UNKN, view}
 use Rattle.sim_steps.specs.declared.family.Family.TheVariants.{Refused}
 use Rattle.sim_steps.specs.Families.{belongs}
@@ -22,10 +22,10 @@ module _ (s : GplState) (x y : MachineState) (t u : ℕ) (c : ReachesWithin most
   pub at_dispatch : (is_one : Option GplOperation → Bool) → is_one (operation_in_view (view y)) ≡ true → AtDispatch is_one y
   at_dispatch is_one family = record { stands = stands; dispatched = dispatched; family = family }
 
-  pub turned : (z : MachineState) (after : ℕ) (turn : Turn) → Turned (state_at_dispatch (view y)) most_to_dispatch y z u after turn
-      → Turned s 0 x z t after turn
+  pub turned : (z : MachineState) (after : ℕ) (turn : Turn) → Turned (state_at_dispatch (view y)) y z (from_dispatch u after) turn
+      → Turned s x z (whole_turn t after) turn
   turned z after turn h =
-      turned_from z after s turn c (families.enters (operation_at (code_byte s))) (subst (λ (q : GplState). Turned q most_to_dispatch y z u after turn) seen h)
+      turned_from z after s turn c (families.enters (operation_at (code_byte s))) (subst (λ (q : GplState). Turned q y z (from_dispatch u after) turn) seen h)
 
 none_of : (o : Option GplOperation) → belongs Refused o ≡ true → o ≡ None
 none_of None e = refl
@@ -35,7 +35,7 @@ pub stands_stop : (y : MachineState) → AtDispatch (belongs Refused) y → Stan
 stands_stop y at = subst (λ (o : Option GplOperation). Stands y (operation_entry o)) (none_of (operation_in_view (view y)) at.family) at.stands
 
 pub refused : (y z : MachineState) (u after : ℕ) → AtDispatch (belongs Refused) y → Exits y z u after (pieces.stop_code (view y)) →
-    Turned (state_at_dispatch (view y)) most_to_dispatch y z u after (Stopped Opcode)
+    Turned (state_at_dispatch (view y)) y z (from_dispatch u after) (Stopped Opcode)
 refused y z u after at run =
     let s = state_at_dispatch (view y) in
     refuses s y z u after at.dispatched (step_none s (none_of (operation_in_view (view y)) at.family)) (stands_stop y at) run

@@ -1,7 +1,7 @@
 //! A turn of the interpreter, which makes one step of GPL.
 
-ghost use Rattle.sim_rows.specs.Prelude.{AtDispatch, IsMatching, most_to_dispatch, shown_by, state_at_dispatch};
-ghost use Rattle.sim_rows.specs.Prelude.{Turned, view};
+ghost use Rattle.sim_rows.specs.Prelude.{AtDispatch, IsMatching, shown_by, state_at_dispatch};
+ghost use Rattle.sim_rows.specs.Prelude.{from_dispatch, Turned, view, whole_turn};
 ghost use Rattle.sim_steps.specs.Families as spec;
 
 use crate::family::{Family, family_of};
@@ -25,7 +25,7 @@ use std::sync::ledger::Ledger;
 /// address of the code byte. It executes at most as many TMS9900 instructions as the bound of the step.
 pub fn gpl_turn<L: Ledger>(machine: &mut Machine, steps: &mut Steps<L>) -> Turn
     requires { IsMatching machine.old }
-    ensures { Turned (shown_by machine.old.cpu.memory) 0 machine.old machine.new steps.old steps.new result }
+    ensures { Turned (shown_by machine.old.cpu.memory) machine.old machine.new (whole_turn steps.old steps.new) result }
 {
     begin_step(machine, steps);
     run_family(machine, steps, family_of(current_operation(machine)))
@@ -34,8 +34,8 @@ pub fn gpl_turn<L: Ledger>(machine: &mut Machine, steps: &mut Steps<L>) -> Turn
 /// Runs the instructions of a family, from the dispatch of a step to its end.
 fn run_family<L: Ledger>(machine: &mut Machine, steps: &mut Steps<L>, family: Family) -> Turn
     requires { AtDispatch (spec.belongs family) machine.old }
-    ensures { Turned (state_at_dispatch (view machine.old)) most_to_dispatch
-        machine.old machine.new steps.old steps.new result }
+    ensures { Turned (state_at_dispatch (view machine.old))
+        machine.old machine.new (from_dispatch steps.old steps.new) result }
 {
     match family {
         Family::Alu => run_alu(machine, steps),

@@ -29,6 +29,27 @@ most_to_row = 127
 abbrev pub most_to_row_stop : ℕ
 most_to_row_stop = 107
 
+-- the operands, from the dispatch to GO
+abbrev pub most_of_operands : ℕ
+most_of_operands = 124
+
+-- the first operand, from the dispatch: to OPSTWO, to GO in a row of one operand, or to the stop
+abbrev pub most_to_second_operand : ℕ
+most_to_second_operand = 65
+
+abbrev pub most_to_row_of_one : ℕ
+most_to_row_of_one = 69
+
+abbrev pub most_to_first_stop : ℕ
+most_to_first_stop = 44
+
+-- the second operand, from OPSTWO to GO, or to the stop
+abbrev pub most_of_second_operand : ℕ
+most_of_second_operand = 59
+
+abbrev pub most_to_second_stop : ℕ
+most_to_second_stop = 42
+
 -- SHOW, from its entry to the next step
 abbrev pub most_of_show : ℕ
 most_of_show = 28
@@ -40,6 +61,17 @@ most_of_result = 45
 -- the store of a result with its status, from STORE to the next step
 abbrev pub most_of_status : ℕ
 most_of_status = 44
+
+-- the end of a step that goes on elsewhere in GROM, from where its address is known; with the condition cleared; and
+-- with changes that are shown
+abbrev pub most_to_go_on : ℕ
+most_to_go_on = 2
+
+abbrev pub most_to_take_branch : ℕ
+most_to_take_branch = 5
+
+abbrev pub most_to_resume : ℕ
+most_to_resume = 31
 
 -- from the entry of a row to the end of its step
 abbrev pub most_of_alu_row : ℕ
@@ -54,6 +86,16 @@ most_of_product_row = 67
 abbrev pub most_of_quotient_row : ℕ
 most_of_quotient_row = 91
 
+-- DIV whose quotient fits, and from STORE to its end: of the quotient alone, and with the remainder
+abbrev pub most_of_division : ℕ
+most_of_division = 87
+
+abbrev pub most_to_end_division : ℕ
+most_to_end_division = 47
+
+abbrev pub most_to_end_quotient : ℕ
+most_to_end_quotient = 64
+
 abbrev pub most_of_exchange_row : ℕ
 most_of_exchange_row = 67
 
@@ -63,9 +105,39 @@ most_of_case_row = 25
 abbrev pub most_of_stack_row : ℕ
 most_of_stack_row = 131
 
+-- FETCH: the address of the next byte is kept; the word on the stack is loaded; the byte is fetched; it is stored
+abbrev pub most_to_locate : ℕ
+most_to_locate = 13
+
+abbrev pub most_to_load_stacked : ℕ
+most_to_load_stacked = 19
+
+abbrev pub most_to_fetch_byte : ℕ
+most_to_fetch_byte = 10
+
+abbrev pub most_to_end_fetch : ℕ
+most_to_end_fetch = 69
+
 -- MOVE, from the dispatch to its copy or its stop
 abbrev pub most_to_copy : ℕ
 most_to_copy = 160
+
+-- MOVE: the length that follows or is in memory is loaded; the length, the target and the index of the source are
+-- found; GROM is turned to the source
+abbrev pub most_to_load_length : ℕ
+most_to_load_length = 16
+
+abbrev pub most_to_length : ℕ
+most_to_length = 61
+
+abbrev pub most_to_target : ℕ
+most_to_target = 50
+
+abbrev pub most_to_source_index : ℕ
+most_to_source_index = 32
+
+abbrev pub most_to_turn : ℕ
+most_to_turn = 17
 
 -- MOVE's copy: from one byte to the next; and its beginning and its end together
 abbrev pub most_of_byte : ℕ
@@ -73,3 +145,7 @@ most_of_byte = 37
 
 abbrev pub most_beside_bytes : ℕ
 most_beside_bytes = 41
+
+-- the end of a copy
+abbrev pub most_to_end_copy : ℕ
+most_to_end_copy = 34

@@ -101,9 +101,9 @@ pub use Rattle.native_interp.specs.declared.words.TheConstants.{INTERP}
 pub use Rattle.interp_defs.specs.Boot.{HoldsEntry, IsBoot}
 pub use Rattle.interp_defs.specs.Interpreter.{address_register, code_register, HoldsRegister, most_to_dispatch}
 pub use Rattle.interp_defs.specs.Match.{IsFetched, IsHalted, IsMatching, Matches, PortsAreIdle, shown_by, StandsBy}
-pub use Rattle.interp_defs.specs.Programs.{AreTurns, EndsAs, RunsSteps}
+pub use Rattle.interp_defs.specs.Programs.{EndsAs, RunsSteps}
 pub use Rattle.interp_defs.specs.Runs.{is_end, Runs}
-pub use Rattle.interp_defs.specs.Turned.{Reaches, Turned, TurnedBy}
+pub use Rattle.interp_defs.specs.Turned.{from_dispatch, Reaches, Turned, TurnedBy, whole_turn}
 pub use Rattle.interp_defs.specs.Turns.{Boots, IsTurn}
 pub use Rattle.interp_defs.specs.declared.turn.Turn.{Turn}
 pub use Rattle.interp_defs.specs.declared.turn.Turn.TheVariants.{Stepped, Stopped}

@@ -14,7 +14,7 @@ use Rattle.bench_io.proofs.Writes.{wrote_none, wrote_more, missed_more, missed_e
 use Rattle.interp_defs.specs.declared.turn.Turn.{Turn}
 use Rattle.interp_defs.specs.declared.turn.Turn.TheVariants.{Stepped, Stopped}
 use Rattle.interp_defs.specs.Match.{IsMatching, shown_by}
-use Rattle.interp_defs.specs.Turned.{TurnedBy, Turned}
+use Rattle.interp_defs.specs.Turned.{Turned, TurnedBy, whole_turn}
 use Rattle.sim_steps.specs.Running.{RunsTurns}
 use Rattle.sim_steps.proofs.TurnRuns.{Stepping, none_yet, stepped, stopped, whole, last_is, done_at_least}
 use Rattle.gpl_run.specs.Sessions.{SessionState, IsSession, seen, address_in, ended_by}
@@ -65,7 +65,7 @@ same_seen a b c v r =
     let made : List ℕ → List ℕ → List ℕ → SeenState = λ x y z. record { cells = x; vdp = y; registers = z } in
     ap (λ x. made x a.vdp a.registers) c ∙ ap (λ y. made b.cells y a.registers) v ∙ ap (made b.cells b.vdp) r
 
-halted_by : (z w : MachineState) (u v : ℕ) (reason : Reason) (r : Result GplState Reason) → TurnedBy r (shown_by z.cpu.memory) 0 z w u v (Stopped reason) →
+halted_by : (z w : MachineState) (u v : ℕ) (reason : Reason) (r : Result GplState Reason) → TurnedBy r (shown_by z.cpu.memory) z w (whole_turn u v) (Stopped reason) →
     seen_state (shown_by w.cpu.memory) ≡ seen_state (shown_by z.cpu.memory)
 halted_by z w u v reason (Ok next) t = absurd (let a = t.0 in cc)
 halted_by z w u v reason (Err other) t = same_seen (shown_by w.cpu.memory) (shown_by z.cpu.memory) t.2.cells t.2.vdp t.2.registers
@@ -76,9 +76,9 @@ module _ (shows : ShowsChanges) (x y z : SessionState) (t u v made : ℕ) (o o' 
   before_is = seen_running y p.running ∙ p.stepping.matches.shows ∙ sym (last_is made p.stepping z.machine v)
 
   -- a step that stops
-  module _ (turn : Turn) (reason : Reason) (is : turn ≡ Stopped reason) (turned : Turned (shown_by y.machine.cpu.memory) 0 y.machine z.machine u v turn) (ended : z.ended ≡ ended_by turn) where
-    abbrev stops : Turned (shown_by y.machine.cpu.memory) 0 y.machine z.machine u v (Stopped reason)
-    stops = subst (λ (a : Turn). Turned (shown_by y.machine.cpu.memory) 0 y.machine z.machine u v a) is turned
+  module _ (turn : Turn) (reason : Reason) (is : turn ≡ Stopped reason) (turned : Turned (shown_by y.machine.cpu.memory) y.machine z.machine (whole_turn u v) turn) (ended : z.ended ≡ ended_by turn) where
+    abbrev stops : Turned (shown_by y.machine.cpu.memory) y.machine z.machine (whole_turn u v) (Stopped reason)
+    stops = subst (λ (a : Turn). Turned (shown_by y.machine.cpu.memory) y.machine z.machine (whole_turn u v) a) is turned
 
     pub stops_whole : (limit : ℕ) → made < limit → PlaysWhole shows limit x z t v o o' made
     stops_whole limit less = record {
@@ -91,9 +91,9 @@ module _ (shows : ShowsChanges) (x y z : SessionState) (t u v made : ℕ) (o o' 
     stops_kept = p.kept_is ∙ sym (halted_by y.machine z.machine u v reason (step (shown_by y.machine.cpu.memory)) stops)
 
   -- a step that is made
-  module _ (turn : Turn) (is : turn ≡ Stepped) (turned : Turned (shown_by y.machine.cpu.memory) 0 y.machine z.machine u v turn) (ended : z.ended ≡ ended_by turn) where
+  module _ (turn : Turn) (is : turn ≡ Stepped) (turned : Turned (shown_by y.machine.cpu.memory) y.machine z.machine (whole_turn u v) turn) (ended : z.ended ≡ ended_by turn) where
     more : Stepping (made + 1) (seen x) x.machine z.machine t v
-    more = stepped made p.stepping z.machine v (subst (λ (a : Turn). Turned (shown_by y.machine.cpu.memory) 0 y.machine z.machine u v a) is turned)
+    more = stepped made p.stepping z.machine v (subst (λ (a : Turn). Turned (shown_by y.machine.cpu.memory) y.machine z.machine (whole_turn u v) a) is turned)
 
     runs_on : z.ended ≡ None
     runs_on = ended ∙ ap ended_by is

@@ -50,7 +50,7 @@ impl Seen {
     /// Keeps what is seen of a machine.
     ///
     /// # Errors
-    /// `AllocError` comes where memory is wanting.
+    /// `AllocError` comes if memory runs out.
     pub fn new(alloc: Global, machine: &Machine) -> Result<Seen, AllocError>
         ensures { IfOk result (λ seen. seen ≡ spec.seen_state (shown_by machine.now.cpu.memory)) }
     {

@@ -7,6 +7,7 @@ use Rattle.gpl_step_defs.specs.State.{GplState, start}
 use Rattle.gpl_step_defs.specs.Run.{GplRun, run}
 use Rattle.interp_defs.specs.Match.{shown_by}
 use Rattle.interp_defs.specs.Programs.{EndsAs, RunsSteps, most_of_boot}
+use Rattle.interp_defs.proofs.Machines.{runs_program}
 use Rattle.sim_steps.specs.Running.{RunsTurns}
 use Rattle.sim_steps.specs.Starting.{Begins}
 use Rattle.gpl_run.specs.Sessions.{SessionState, IsNew, seen, address_in, image_of, entry_of}
@@ -78,17 +79,7 @@ module _ (new : MachineState) (machine : IsMachine new) (is_new : IsNew new) (fi
       let ended = ran.stop_is ∙ ap (λ (state : GplState). (run n state).stop) seen_is in
       record {
         found = is ∙ ap₂ (λ (i : List Item) (state : GplState). hits.found i limit state) same seen_is;
-        runs = record {
-          new = new;
-          machine = machine;
-          is_boot = is_new;
-          boot = begins.count;
-          first = first.machine;
-          boots = begins.boots;
-          within = begins.within;
-          count = ran.count;
-          runs = runs;
-        };
+        runs = runs_program machine is_new begins.boots begins.within runs;
         ended = ended;
         memory = memory;
         report = same_report limit s t memory found ended runs.ends;

@@ -17,7 +17,7 @@ use tms_step::{Machine, Steps};
 /// eight items holds, and no more than `limit` steps. All memory is taken before the first step.
 ///
 /// # Errors
-/// `AllocError` comes where memory is wanting.
+/// `AllocError` comes if memory runs out.
 pub fn watch_program(
     alloc: Global,
     machine: Machine,

@@ -1,5 +1,5 @@
 use Rattle.std.proofs.Common.{ℕ, ◌≡◌, arith, subst}
-use Rattle.sim_rows.proofs.Common.{shown_by, Turn, Turned}
+use Rattle.sim_rows.proofs.Common.{shown_by, Turn, Turned, whole_turn}
 use Rattle.sim_steps.proofs.TurnRuns.{none_yet, stepped, Stepping, stopped, whole}
 use Rattle.sim_steps.proofs.program.run_turns.Goals as goal
 
@@ -12,13 +12,13 @@ gpl_turn-requires g c = c.loop-made.invariant.matches.matching
 pub returns-in-Stopped : goal.returns-in-Stopped
 returns-in-Stopped g c =
     let z = c.loop-made.machine in
-    let P : Turn → Type 0 = λ turn. Turned (shown_by z.cpu.memory) 0 z c.gpl_turn.new.machine c.loop-made.steps c.gpl_turn.new.steps turn in
+    let P : Turn → Type 0 = λ turn. Turned (shown_by z.cpu.memory) z c.gpl_turn.new.machine (whole_turn c.loop-made.steps c.gpl_turn.new.steps) turn in
     stopped c.loop-made.made c.loop-made.invariant _ _ c.args.limit c.in-Stopped.reason c.loop-made-test.true (subst P c.in-Stopped.is c.gpl_turn.ensures)
 
 pub loop-made-preserved : goal.loop-made-preserved
 loop-made-preserved g c =
     let z = c.loop-made.machine in
-    let P : Turn → Type 0 = λ turn. Turned (shown_by z.cpu.memory) 0 z c.gpl_turn.new.machine c.loop-made.steps c.gpl_turn.new.steps turn in
+    let P : Turn → Type 0 = λ turn. Turned (shown_by z.cpu.memory) z c.gpl_turn.new.machine (whole_turn c.loop-made.steps c.gpl_turn.new.steps) turn in
     stepped c.loop-made.made c.loop-made.invariant _ _ (subst P c.in_default.is c.gpl_turn.ensures)
 
 pub returns : goal.returns
