@@ -2,7 +2,7 @@
 use Rattle.std.proofs.Common.{◌≡◌, ℕ, List, Ok, Err, refl, sym, ap}
 use Rattle.std.specs.Prelude.{Option}
 use Rattle.source_defs.specs.Refusals.{seen}
-use Rattle.object_defs.specs.Writing.{written}
+use Rattle.object_defs.specs.Writing.{written_lines}
 use Rattle.object_tags.specs.Seen.{defined_module}
 use Rattle.object_tags.specs.declared.parts.Module.{Module}
 use Rattle.shelf_defs.specs.Copied as copied
@@ -16,7 +16,6 @@ use Rattle.bench_shelf.specs.declared.copy_error.CopyCause.TheVariants.{Asm, Bad
 use Rattle.bench_shelf.specs.declared.copy_error.CopyError.{CopyError}
 use Rattle.bench_shelf.specs.declared.copy_error.CopyError.TheVariants.{At, TooLarge, Fault, Memory}
 use Rattle.report_defs.specs.declared.status.Status.TheVariants.{Done}
-use Rattle.report_defs.specs.TextLines.{text_lines}
 use Rattle.report_defs.specs.Report.{Whole}
 use Rattle.report_defs.specs.FileReports.{copy_report}
 use Rattle.reports.specs.declared.command_error.CommandError.{CommandError}
@@ -25,16 +24,16 @@ use Rattle.file_commands.specs.Copying.{copy_refusal}
 use Rattle.file_commands.specs.Reported.{CopyCauses, CopyReported, CopyFails}
 
 module _ (before after : ShelfState) (source : List ℕ) where
-  pub module_reported : (found : Module) (text : List ℕ) → Answered before after source (Ok found) → ReadWithinLimit most_bytes before after
-      → text ≡ written (defined_module found) → CopyReported before after source (Whole Done (text_lines text))
-  module_reported found text answered within is = record {
+  pub module_reported : (found : Module) (lines : List (List ℕ)) → Answered before after source (Ok found) → ReadWithinLimit most_bytes before after
+      → lines ≡ written_lines (defined_module found) → CopyReported before after source (Whole Done lines)
+  module_reported found lines answered within is = record {
     questions = answered.questions;
     dialogue = answered.dialogue;
     answer = Ok (defined_module found);
     gives = λ contents agrees. sym (answered.gives contents agrees).2;
     opened = λ contents agrees. (answered.gives contents agrees).1;
     causes = within;
-    is = ap (λ text. Whole Done (text_lines text)) is;
+    is = ap (Whole Done) is;
   }
 
   line_causes : (file : Option (List ℕ)) (line : ℕ) (cause : CopyCause) → ShelfCauses (At file line cause) before after

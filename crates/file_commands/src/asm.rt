@@ -2,7 +2,8 @@
 
 ghost use Rattle.std.specs.Prelude.{◌≡◌, ◌≤◌, length, Err, IfOk};
 ghost use Rattle.source_defs.specs.Refusals.{seen};
-ghost use Rattle.object_defs.specs.Writing.{written};
+ghost use Rattle.object_defs.specs.Writing.{written_lines};
+ghost use Rattle.object_tags.specs.Lines.{bytes_of};
 ghost use Rattle.object_tags.specs.Seen.{defined_module};
 ghost use Rattle.bench_shelf.specs.Causes.{CountsGrew};
 ghost use Rattle.bench_shelf.specs.Answered.{IsOfLines};
@@ -14,7 +15,7 @@ ghost use Rattle.reports.specs.Answers.{answer, Reported, error_answer};
 
 use crate::causes::copy_line;
 use bench_shelf::{CopyError, Shelf, copy_assemble};
-use object_tags::{Module, write_module};
+use object_tags::{Module, ObjectLine, write_lines};
 use report_defs::Fault;
 use reports::{CommandError, Report};
 use std::alloc::{AllocError, Global};
@@ -39,7 +40,7 @@ pub fn asm_files<F: Shelf>(
     ensures later { CountsGrew (F.shelf shelf.old) (F.shelf shelf.new) }
 {
     match copy_assemble(alloc, shelf, text) {
-        Ok(module) => Ok(Report::Text(text_of(alloc, &module)?)),
+        Ok(module) => Ok(Report::Object(lines_of(alloc, &module)?)),
         Err(error) => Err(refused(error)),
     }
 }
@@ -56,10 +57,10 @@ fn refused(error: CopyError) -> CommandError
     }
 }
 
-/// The object text of a module of some lines.
-fn text_of(alloc: Global, module: &Module) -> Result<Vec<u8>, AllocError>
+/// The lines of the object text of a module of some lines.
+fn lines_of(alloc: Global, module: &Module) -> Result<Vec<ObjectLine>, AllocError>
     requires { IsOfLines (defined_module «module».now) }
-    ensures { IfOk result (λ text. text.items ≡ written (defined_module «module».now)) }
+    ensures { IfOk result (λ lines. bytes_of lines.items ≡ written_lines (defined_module «module».now)) }
 {
-    write_module(alloc, module)
+    write_lines(alloc, module)
 }

@@ -3,6 +3,7 @@
 -- Editor/Assembler manual, "Tagged object code": every group is a tag and four hexadecimal digits, with a name after
 -- some tags, and a line is groups, a checksum, and the tag F.
 use Rattle.std.specs.Prelude.{ℕ, ◌+◌, ◌%◌, nat_le, if◌then◌else◌, List, [], ◌∷◌, ◌++◌, length, map, Option, Some, None}
+use Rattle.std.specs.List.{concat}
 use Rattle.object_defs.specs.declared.spot.Spot.{Spot}
 use Rattle.object_defs.specs.declared.spot.Piece.{Piece}
 use Rattle.object_defs.specs.declared.tag.Tag.{Tag}
@@ -101,14 +102,19 @@ last_line_text number = numbered number (tag_character tags.EndOfModule ∷ [])
 abbrev pub number_after : ℕ → ℕ
 number_after number = (number + 1) % 10000
 
+-- The lines from one that is begun, with its number, to the one that ends the module.
 -- Profile: an item that does not fit in the columns begins a new line, an address group together with its word.
-unfoldable pub written_from : ℕ → Line → List Item → List ℕ
-written_from number line [] = line_text number line.text ++ last_line_text (number_after number)
-written_from number line (item ∷ items) =
+unfoldable pub lines_from : ℕ → Line → List Item → List (List ℕ)
+lines_from number line [] = line_text number line.text ∷ last_line_text (number_after number) ∷ []
+lines_from number line (item ∷ items) =
     if nat_le (length line.text + length (item_text line.next item)) group_columns
-    then written_from number (with_item line item) items
-    else line_text number line.text ++ written_from (number_after number) (with_item empty_line item) items
+    then lines_from number (with_item line item) items
+    else line_text number line.text ∷ lines_from (number_after number) (with_item empty_line item) items
 
--- the text of a module
+-- the lines of the text of a module, each with its line feed
+abbrev pub written_lines : Module → List (List ℕ)
+written_lines m = lines_from 1 empty_line (items_of m)
+
+-- the text of a module: its lines, one after the other
 abbrev pub written : Module → List ℕ
-written m = written_from 1 empty_line (items_of m)
+written m = concat (written_lines m)

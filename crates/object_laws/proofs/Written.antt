@@ -2,7 +2,7 @@
 use Rattle.std.proofs.Common.{◌≡◌, ℕ, ◌+◌, ◌-◌, ◌/◌, ◌%◌, ◌<◌, ◌≤◌, Bool, true, false, cond, eqb, List, [], ◌∷◌, ◌++◌, length, replicate, Option, Some, None}
 use Rattle.std.proofs.Common.{Ok, refl, sym, ap, ◌∙◌, subst, append_assoc, append-nil, length-append, eq-eqb, arith}
 use Rattle.std.specs.Prelude.{map, sum, nat_le, ◌&&◌, ◌||◌}
-use Rattle.std.specs.List.{AllByRecursion}
+use Rattle.std.specs.List.{AllByRecursion, concat}
 use Rattle.std.proofs.lemmas.Bool.Decides.{nat_tests}
 use Rattle.source_defs.specs.Characters.{is_blank, is_line_feed}
 use Rattle.source_defs.specs.Lines.{lines}
@@ -16,7 +16,7 @@ use Rattle.source_defs.specs.Digits.{word_digits}
 use Rattle.object_defs.specs.Digits.{four_digits, padded, checksum}
 use Rattle.object_defs.specs.Tags.{tag_of}
 use Rattle.object_defs.specs.Writing.{group, header_text, definition_text, reference_text, Item, Group, Placed, items_of, entry_items, Line, empty_line}
-use Rattle.object_defs.specs.Writing.{item_text, next_after, with_item, summed, numbered, line_text, last_line_text, number_after, written_from, written}
+use Rattle.object_defs.specs.Writing.{item_text, next_after, with_item, summed, numbered, line_text, last_line_text, number_after, lines_from, written}
 use Rattle.object_defs.specs.Fields.{all_blank}
 use Rattle.object_defs.specs.Groups.{Header, Sum, Whole, found_with, found_at, groups_from}
 use Rattle.object_defs.specs.Reading.{NumberedLine, numbered_line, has_line_feed, form_of}
@@ -205,14 +205,14 @@ unfolding kept_lines
 read_none modules last = refl
 
 -- the last line of groups, and the line that ends the module
-read_end : (kept : Kept) (line : Line) (m : OpenModule) (number n : ℕ) (front text : List ℕ) → text ≡ front ++ (line_text number line.text ++ last_line_text (number_after number))
+read_end : (kept : Kept) (line : Line) (m : OpenModule) (number n : ℕ) (front text : List ℕ) → text ≡ front ++ (line_text number line.text ++ (last_line_text (number_after number) ++ []))
     → InLine kept.modules kept.current line m → kept_lines Plain kept (left_lines text n (length front)) ≡ Ok (kept.modules ++ m.found ∷ [])
 read_end kept line m number n front text is in_line =
     let next = number_after number in
-    let first = line_step text front (summed line.text) (last_line_text next) number n (summed_prints line.text in_line.prints) is in
-    let behind : text ≡ (front ++ line_text number line.text) ++ (last_line_text next ++ []) = behind_line text front (line_text number line.text) (last_line_text next) is ∙ ap (λ (xs : List ℕ). (front ++ line_text number line.text) ++ xs) (sym (append-nil (last_line_text next))) in
+    let first = line_step text front (summed line.text) (last_line_text next ++ []) number n (summed_prints line.text in_line.prints) is in
+    let behind : text ≡ (front ++ line_text number line.text) ++ (last_line_text next ++ []) = behind_line text front (line_text number line.text) (last_line_text next ++ []) is in
     let second = line_step text (front ++ line_text number line.text) (0x3A ∷ []) [] next (n + 1) refl behind in
-    let all : text ≡ (front ++ line_text number line.text) ++ last_line_text next = behind_line text front (line_text number line.text) (last_line_text next) is in
+    let all : text ≡ (front ++ line_text number line.text) ++ last_line_text next = behind ∙ ap (λ (xs : List ℕ). (front ++ line_text number line.text) ++ xs) (append-nil (last_line_text next)) in
     let third = lines_end text (n + 1 + 1) (length ((front ++ line_text number line.text) ++ last_line_text next)) (ap length (sym all)) in
     let groups : Kept = start kept.modules (Some m) n in
     let ended : Kept = start (kept.modules ++ m.found ∷ []) None (n + 1) in
@@ -222,9 +222,13 @@ read_end kept line m number n front text is in_line =
     ∙ (read_one groups ended _ _ (colon_done kept.modules m n (n + 1) next)
     ∙ (ap (kept_lines Plain ended) third ∙ read_none (kept.modules ++ m.found ∷ []) (n + 1)))))
 
+-- the text from a line that is begun on
+abbrev written_from : ℕ → Line → List Item → List ℕ
+written_from number line items = concat (lines_from number line items)
+
 read_lines : (items : List Item) (kept : Kept) (line : Line) (m end : OpenModule) (number n : ℕ) (front text : List ℕ) → text ≡ front ++ written_from number line items
     → InLine kept.modules kept.current line m → Run m items end → kept_lines Plain kept (left_lines text n (length front)) ≡ Ok (kept.modules ++ end.found ∷ [])
-unfolding written_from
+unfolding lines_from
 read_lines [] kept line m end number n front text is in_line run =
     read_end kept line m number n front text is in_line ∙ ap (λ (b : OpenModule). Ok (kept.modules ++ b.found ∷ [])) run
 read_lines (item ∷ items) kept line m end number n front text is in_line run =
@@ -234,7 +238,7 @@ read_lines (item ∷ items) kept line m end number n front text is in_line run =
     by : (b : Bool)
         → ((kept' : Kept) (line' : Line) (m' : OpenModule) (number' n' : ℕ) (front' : List ℕ) → text ≡ front' ++ written_from number' line' items
         → InLine kept'.modules kept'.current line' m' → Run m' items end → kept_lines Plain kept' (left_lines text n' (length front')) ≡ Ok (kept'.modules ++ end.found ∷ []))
-        → text ≡ front ++ cond b (written_from number (with_item line item) items) (line_text number line.text ++ written_from (number_after number) (with_item empty_line item) items)
+        → text ≡ front ++ concat (cond b (lines_from number (with_item line item) items) (line_text number line.text ∷ lines_from (number_after number) (with_item empty_line item) items))
         → kept_lines Plain kept (left_lines text n (length front)) ≡ Ok (kept.modules ++ end.found ∷ [])
     by true again e = again kept (with_item line item) run.0 number n front e (in_line_with kept.modules kept.current line m item run.0 in_line run.1) run.2
     by false again e =
@@ -350,7 +354,7 @@ module _ (m : Module) (is : IsModule m) (has : HasText m) where
       (run_entry m.entry behind_refs is.entry refl)))
 
   begins : written m ≡ written_from 1 (with_item empty_line (Group (header_text m.size m.name))) (items_behind m)
-  unfolding written_from
+  unfolding lines_from
   begins =
       let fits : nat_le (0 + length (header_text m.size m.name)) 70 ≡ true = let n = header_length m is in grind (arith, nat_tests) in
       rw fits refl
@@ -362,13 +366,13 @@ module _ (m : Module) (is : IsModule m) (has : HasText m) where
 -- ---- the text is plain
 
 plain_from : (items : List Item) (number : ℕ) (text : List ℕ) (next : Option Spot) → form_of (written_from number (record { text = 0x30 ∷ text; next = next }) items) ≡ Plain
-unfolding written_from
+unfolding lines_from
 plain_from [] number text next = refl
 plain_from (item ∷ items) number text next =
     by (nat_le (length (0x30 ∷ text) + length (item_text next item)) 70) (plain_from items number (text ++ item_text next item) (next_after next item))
   where
     by : (b : Bool) → form_of (written_from number (with_item (record { text = 0x30 ∷ text; next = next }) item) items) ≡ Plain
-        → form_of (cond b (written_from number (with_item (record { text = 0x30 ∷ text; next = next }) item) items) (line_text number (0x30 ∷ text) ++ written_from (number_after number) (with_item empty_line item) items)) ≡ Plain
+        → form_of (concat (cond b (lines_from number (with_item (record { text = 0x30 ∷ text; next = next }) item) items) (line_text number (0x30 ∷ text) ∷ lines_from (number_after number) (with_item empty_line item) items))) ≡ Plain
     by true here = here
     by false here = refl
 
@@ -386,15 +390,16 @@ feed_at_right (c ∷ a) b h = rw (feed_at_right a b h) (by (is_line_feed c))
     by false = refl
 
 feed_written : (items : List Item) (line : Line) (number : ℕ) → has_line_feed (written_from number line items) ≡ true
-unfolding written_from
+unfolding lines_from
 feed_written [] line number =
-    feed_at_right (line_text number line.text) (last_line_text (number_after number))
-    (feed_at_right (padded 76 (0x3A ∷ [])) (four_digits (number_after number) ++ 0x0A ∷ []) (feed_at_right (four_digits (number_after number)) (0x0A ∷ []) refl))
+    feed_at_right (line_text number line.text) (last_line_text (number_after number) ++ [])
+    (ap has_line_feed (append-nil (last_line_text (number_after number)))
+    ∙ feed_at_right (padded 76 (0x3A ∷ [])) (four_digits (number_after number) ++ 0x0A ∷ []) (feed_at_right (four_digits (number_after number)) (0x0A ∷ []) refl))
 feed_written (item ∷ items) line number =
     by (nat_le (length line.text + length (item_text line.next item)) 70) (feed_written items (with_item line item) number) (feed_written items (with_item empty_line item) (number_after number))
   where
     by : (b : Bool) → has_line_feed (written_from number (with_item line item) items) ≡ true → has_line_feed (written_from (number_after number) (with_item empty_line item) items) ≡ true
-        → has_line_feed (cond b (written_from number (with_item line item) items) (line_text number line.text ++ written_from (number_after number) (with_item empty_line item) items)) ≡ true
+        → has_line_feed (concat (cond b (lines_from number (with_item line item) items) (line_text number line.text ∷ lines_from (number_after number) (with_item empty_line item) items))) ≡ true
     by true here there = here
     by false here there = feed_at_right (line_text number line.text) (written_from (number_after number) (with_item empty_line item) items) there
 

@@ -1,15 +1,20 @@
 -- What the writer has written, and what is to come.
-use Rattle.std.specs.Prelude.{◌≡◌, ℕ, List, ◌++◌}
-use Rattle.object_defs.specs.Writing.{Item, Line, written_from}
+use Rattle.std.specs.Prelude.{◌≡◌, ℕ, List, ◌++◌, map}
+use Rattle.arrayvec.specs.ArrayVec.{ArrayVec}
+use Rattle.object_defs.specs.Writing.{Item, Line, lines_from}
 use Rattle.object_tags.specs.declared.writer.Writer.{Writer}
+
+-- lines by their bytes
+abbrev pub bytes_of : List (ArrayVec ℕ) → List (List ℕ)
+bytes_of lines = map (λ line. line.items) lines
 
 -- the line that is being written
 abbrev pub line_of : Writer → Line
 line_of writer = record { text = writer.line.items; next = writer.next }
 
--- the whole text, where these items are still to be written
-abbrev pub whole : Writer → List Item → List ℕ
-whole writer items = writer.text.items ++ written_from writer.number (line_of writer) items
+-- all lines, where these items are still to be written
+abbrev pub whole : Writer → List Item → List (List ℕ)
+whole writer items = bytes_of writer.lines.items ++ lines_from writer.number (line_of writer) items
 
 -- some items were written, whatever comes after them
 abbrev pub Wrote : List Item → Writer → Writer → Type 0

@@ -41,9 +41,9 @@ fn named_group(tag: Tag, number: u16, name: &[u8]) -> GroupText
     text
 }
 
-/// Puts some blanks after a text.
-fn put_blanks(text: &mut GroupText, count: usize)
-    requires { length text.old.items + count ≤ 13 }
+/// Puts some blanks after a text, which has room for them.
+pub(crate) fn put_blanks<const N: usize>(text: &mut ArrayVec<u8, N>, count: usize)
+    requires { length text.old.items + count ≤ N }
     ensures { text.new.items ≡ text.old.items ++ replicate count 0x20 }
 {
     for _ in 0..count {

@@ -27,4 +27,5 @@ pub use object_defs::{Piece, Spot, TagCause};
 pub use open_module::{MOST_NAMES, MOST_WORDS};
 pub use parts::{Def, Module, Ref};
 pub use read::read_modules;
-pub use write::write_module;
+pub use write::{write_lines, write_module};
+pub use writer::ObjectLine;

@@ -1,22 +1,23 @@
 //! A module as text.
 
 ghost use Rattle.std.specs.Prelude.{◌≡◌, [], ◌∷◌, map, IfOk, IfSome, OnOk, Ok};
-ghost use Rattle.std.specs.List.{AllByRecursion};
+ghost use Rattle.std.specs.List.{AllByRecursion, concat};
 ghost use Rattle.object_defs.specs.Modules.{HasText};
-ghost use Rattle.object_defs.specs.Writing.{Placed, Group, definition_text, reference_text, entry_items, written};
+ghost use Rattle.object_defs.specs.Writing.{Placed, Group, definition_text, reference_text, entry_items};
+ghost use Rattle.object_defs.specs.Writing.{written, written_lines};
 ghost use Rattle.object_defs.specs.Reading.{read};
 ghost use Rattle.object_defs.specs.Laws.{FitsSpot, FitsPiece, FitsDefinition, FitsReference};
 ghost use Rattle.object_tags.specs.Seen.{defined_def, defined_ref, defined_module};
-ghost use Rattle.object_tags.specs.Lines.{Wrote};
+ghost use Rattle.object_tags.specs.Lines.{Wrote, bytes_of};
 
 use crate::group_text;
 use crate::parts::{Def, Module, Ref};
-use crate::writer::Writer;
+use crate::writer::{ObjectLine, Writer};
 use object_defs::{Piece, Spot};
 use std::alloc::{AllocError, Global};
 
-/// The text of a module: lines of groups, each with its checksum and its number, and the line that ends the module.
-/// `read_modules` gives the module back from it.
+/// The text of a module: its lines, as `write_lines` gives them, one after the other. `read_modules` gives the module
+/// back from it.
 ///
 /// The module's words stand at even places, and it has at most 32,768 words, 256 DEFs and 256 REFs.
 ///
@@ -26,6 +27,27 @@ pub fn write_module(alloc: Global, module: &Module) -> Result<Vec<u8>, AllocErro
     requires { HasText (defined_module «module».now) }
     ensures text { IfOk result (λ text. text.items ≡ written (defined_module «module».now)) }
     ensures read_again { IfOk result (λ text. read text.items ≡ Ok (defined_module «module».now ∷ [])) }
+{
+    let lines = write_lines(alloc, module)?;
+    let mut text = Vec::new(alloc);
+    for line in lines.as_slice() {
+        text.extend_from_slice(line.as_slice())?;
+    }
+    Ok(text)
+}
+
+/// The lines of the text of a module: lines of groups, each with its checksum and its number, and the line that ends
+/// the module. `read_modules` gives the module back from them as one text.
+///
+/// The module's words stand at even places, and it has at most 32,768 words, 256 DEFs and 256 REFs.
+///
+/// # Errors
+/// `AllocError` is want of memory.
+pub fn write_lines(alloc: Global, module: &Module) -> Result<Vec<ObjectLine>, AllocError>
+    requires { HasText (defined_module «module».now) }
+    ensures lines { IfOk result (λ lines. bytes_of lines.items ≡ written_lines (defined_module «module».now)) }
+    ensures read_again { IfOk result
+        (λ lines. read (concat (bytes_of lines.items)) ≡ Ok (defined_module «module».now ∷ [])) }
 {
     let mut writer = Writer::new(alloc);
     writer.put_group(&group_text::header_text(module.size, &module.name))?;

@@ -1,14 +1,13 @@
-//! The lines of a text, as they are written.
+//! The lines of an object text, as they are written.
 
-ghost use Rattle.std.specs.Prelude.{◌≡◌, ◌≤◌, ◌<◌, ◌^◌, ◌+◌, [], ◌∷◌, ◌++◌, length, replicate, map, IfOk, OnOk};
+ghost use Rattle.std.specs.Prelude.{◌≡◌, ◌≤◌, ◌<◌, ◌^◌, ◌+◌, [], ◌∷◌, ◌++◌, length, IfOk, OnOk};
 ghost use Rattle.object_defs.specs.Digits as digits;
-ghost use Rattle.object_defs.specs.Modules as modules;
 ghost use Rattle.object_defs.specs.Writing as writing;
 ghost use Rattle.object_defs.specs.Laws.{FitsSpot, FitsPiece};
-ghost use Rattle.object_tags.specs.Lines.{Wrote, whole, line_of};
+ghost use Rattle.object_tags.specs.Lines.{Wrote, bytes_of, whole, line_of};
 
 use crate::checksum::checksum;
-use crate::group_text::{GroupText, address_text, group, word_text};
+use crate::group_text::{GroupText, address_text, group, put_blanks, word_text};
 use crate::spots::place_after;
 use crate::tags::tag_character;
 use arrayvec::ArrayVec;
@@ -21,11 +20,14 @@ const GROUP_COLUMNS: usize = 70;
 /// The column up to which a line is padded.
 const PADDED_COLUMNS: usize = 76;
 
+/// A line of an object text, up to its line feed.
+pub type ObjectLine = ArrayVec<u8, 81>;
+
 /// The lines that are written, and the line that is being written.
 #[derive(Drop)]
 pub(crate) struct Writer {
     /// The lines that have ended.
-    text: Vec<u8>,
+    lines: Vec<ObjectLine>,
     /// The groups of the line.
     line: ArrayVec<u8, GROUP_COLUMNS>,
     /// The place after the last word of the line.
@@ -35,14 +37,14 @@ pub(crate) struct Writer {
 }
 
 impl Writer {
-    /// A text in which nothing is written.
+    /// Nothing is written.
     pub(crate) fn new(alloc: Global) -> Writer
-        ensures text { result.text.items ≡ [] }
+        ensures lines { result.lines.items ≡ [] }
         ensures line { line_of result ≡ writing.empty_line }
         ensures number { result.number ≡ 1 }
     {
         Writer {
-            text: Vec::new(alloc),
+            lines: Vec::new(alloc),
             line: ArrayVec::new(),
             next: None,
             number: 1,
@@ -50,7 +52,7 @@ impl Writer {
     }
 
     /// Writes a group, on a new line where it does not fit.
-    #[tactic(auto, using(std::proofs::lemmas::List::append_assoc), unfolding(object_defs::specs::Writing::written_from))]
+    #[tactic(auto, using(std::proofs::lemmas::List::append_assoc), unfolding(object_defs::specs::Writing::lines_from))]
     pub(crate) fn put_group(&mut self, text: &GroupText) -> Result<(), AllocError>
         ensures { OnOk result (Wrote (writing.Group text.now.items ∷ []) self.old self.new) }
     {
@@ -62,7 +64,7 @@ impl Writer {
     }
 
     /// Writes a word, with an address group before it where it is not the place after the word before it on the line.
-    #[tactic(auto, using(std::proofs::lemmas::List::append_assoc), unfolding(object_defs::specs::Writing::written_from))]
+    #[tactic(auto, using(std::proofs::lemmas::List::append_assoc), unfolding(object_defs::specs::Writing::lines_from))]
     pub(crate) fn put_word(&mut self, piece: Piece) -> Result<(), AllocError>
         ensures wrote { OnOk result (Wrote (writing.Placed piece ∷ []) self.old self.new) }
         ensures fits { OnOk result (FitsPiece piece) }
@@ -87,8 +89,8 @@ impl Writer {
 
     /// Ends the line, and begins the next one.
     fn end_line(&mut self) -> Result<(), AllocError>
-        ensures text { OnOk result
-            (self.new.text.items ≡ self.old.text.items ++ writing.line_text self.old.number self.old.line.items) }
+        ensures lines { OnOk result (bytes_of self.new.lines.items
+            ≡ bytes_of self.old.lines.items ++ writing.line_text self.old.number self.old.line.items ∷ []) }
         ensures line { OnOk result (line_of self.new ≡ writing.empty_line) }
         ensures number { OnOk result (self.new.number ≡ writing.number_after self.old.number) }
     {
@@ -100,28 +102,25 @@ impl Writer {
     }
 
     /// Ends the last line, and writes the line that ends the module.
-    #[tactic(auto, using(std::proofs::lemmas::List::append_assoc), unfolding(object_defs::specs::Writing::written_from))]
-    pub(crate) fn finish(mut self) -> Result<Vec<u8>, AllocError>
-        ensures { IfOk result (λ text. text.items ≡ whole self []) }
+    #[tactic(auto, using(std::proofs::lemmas::List::append_assoc), unfolding(object_defs::specs::Writing::lines_from))]
+    pub(crate) fn finish(mut self) -> Result<Vec<ObjectLine>, AllocError>
+        ensures { IfOk result (λ lines. bytes_of lines.items ≡ whole self []) }
     {
         self.end_line()?;
         let mut end = ArrayVec::new();
         end.push(tag_character(Tag::EndOfModule));
         self.put_numbered(&end)?;
-        Ok(self.text)
+        Ok(self.lines)
     }
 
-    /// Writes a line up to its line feed, and counts it.
+    /// Writes a line with its number, and counts it.
     fn put_numbered(&mut self, line: &ArrayVec<u8, PADDED_COLUMNS>) -> Result<(), AllocError>
-        ensures text { OnOk result
-            (self.new.text.items ≡ self.old.text.items ++ writing.numbered self.old.number line.now.items) }
+        ensures lines { OnOk result (bytes_of self.new.lines.items
+            ≡ bytes_of self.old.lines.items ++ writing.numbered self.old.number line.now.items ∷ []) }
         ensures number { OnOk result (self.new.number ≡ writing.number_after self.old.number) }
         ensures line { self.new.line ≡ self.old.line }
     {
-        self.text.extend_from_slice(line.as_slice())?;
-        put_blanks(&mut self.text, PADDED_COLUMNS - line.len())?;
-        self.text.extend_from_slice(&decimal(self.number))?;
-        self.text.push(b'\n')?;
+        self.lines.push(numbered(self.number, line))?;
         self.number = number_after(self.number);
         Ok(())
     }
@@ -163,6 +162,19 @@ fn summed(groups: &ArrayVec<u8, GROUP_COLUMNS>) -> ArrayVec<u8, PADDED_COLUMNS>
     line
 }
 
+/// A line padded with blanks, then its number and a line feed.
+#[tactic(auto, using(std::proofs::Common::append_assoc))]
+fn numbered(number: u16, line: &ArrayVec<u8, PADDED_COLUMNS>) -> ObjectLine
+    ensures { result.items ≡ writing.numbered number line.now.items }
+{
+    let mut text = ObjectLine::new();
+    text.try_extend_from_slice(line.as_slice()).unwrap();
+    put_blanks(&mut text, PADDED_COLUMNS - line.len());
+    text.try_extend_from_slice(&decimal(number)).unwrap();
+    text.push(b'\n');
+    text
+}
+
 /// Four decimal digits.
 #[tactic(auto, unfolding(object_defs::specs::Digits::four_digits))]
 fn decimal(number: u16) -> [u8; 4]
@@ -174,14 +186,4 @@ fn decimal(number: u16) -> [u8; 4]
         b'0' + (number / 10 % 10) as u8,
         b'0' + (number % 10) as u8,
     ]
-}
-
-/// Puts some blanks after a text.
-fn put_blanks(text: &mut Vec<u8>, count: usize) -> Result<(), AllocError>
-    ensures { OnOk result (text.new.items ≡ text.old.items ++ replicate count 0x20) }
-{
-    for _ in 0..count {
-        text.push(b' ')?;
-    }
-    Ok(())
 }

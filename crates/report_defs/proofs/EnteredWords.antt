@@ -1,13 +1,12 @@
 -- What dis writes of an input, with an entry behind END, is assembled and linked to its words.
-use Rattle.std.proofs.Common.{◌≡◌, ℕ, ◌≤◌, Bool, true, false, List, [], ◌∷◌, length, refl, ap, sym, arith}
+use Rattle.std.proofs.Common.{◌≡◌, ℕ, ◌≤◌, false, List, [], ◌∷◌, length, refl, ap, sym, arith}
 use Rattle.std.proofs.Common.{Result, Ok, Err, ◌∙◌}
-use Rattle.std.specs.Prelude.{nat_lt, if◌then◌else◌}
+use Rattle.std.specs.Prelude.{nat_lt}
 use Rattle.std.specs.List.{concat}
 use Rattle.std.proofs.lemmas.Bool.Decides.{nat_tests}
-use Rattle.source_defs.specs.Characters.{is_line_feed}
 use Rattle.source_defs.specs.Refusals.{Refusal}
 use Rattle.object_defs.specs.Modules.{Module}
-use Rattle.object_defs.specs.Writing.{written}
+use Rattle.object_defs.specs.Writing.{written_lines, written}
 use Rattle.asm_defs.specs.declared.causes.AsmCause.{AsmCause}
 use Rattle.asm_defs.specs.Modules.{module_of_source}
 use Rattle.link_defs.specs.LinkedMemory.{linked}
@@ -17,24 +16,8 @@ use Rattle.word_listings.proofs.ListingLaw.{words_fit, entered_listings_come_bac
 use Rattle.word_listings.proofs.ShortLaw.{word_listings_are_short, entered_size}
 use Rattle.report_defs.specs.declared.status.Status.TheVariants.{Done}
 use Rattle.report_defs.specs.ObjectInput.{linked_input}
-use Rattle.report_defs.specs.TextLines.{in_front, text_lines}
 use Rattle.report_defs.specs.Report.{Whole, largest_input, asm_report, link_report}
 use Rattle.report_defs.specs.Laws.{EnteredWordsComeBack, EnteredWordsLink}
-
--- the lines of a text, one behind the other, are the text
-front_joined : (byte : ℕ) (pieces : List (List ℕ)) → concat (in_front byte pieces) ≡ byte ∷ concat pieces
-front_joined byte [] = refl
-front_joined byte (piece ∷ pieces) = refl
-
-lines_joined : (text : List ℕ) → concat (text_lines text) ≡ text
-lines_joined [] = refl
-lines_joined (byte ∷ bytes) = by (is_line_feed byte) ∙ ap (λ rest. byte ∷ rest) (lines_joined bytes)
-  where
-    by : (feed : Bool) →
-        concat (if feed then (byte ∷ []) ∷ text_lines bytes else in_front byte (text_lines bytes))
-        ≡ byte ∷ concat (text_lines bytes)
-    by true = refl
-    by false = front_joined byte (text_lines bytes)
 
 not_large : (at : ℕ) (input : List ℕ) (entry : ℕ) → StandEven at input →
     nat_lt largest_input (length (concat (entered_listing at input entry))) ≡ false
@@ -59,8 +42,8 @@ record Assembled (found : Result Module (Refusal AsmCause)) (pieces : List (List
 assembled : (found : Result Module (Refusal AsmCause)) (pieces : List (List ℕ)) →
     Whole Done pieces ≡ asm_report found → Assembled found pieces
 assembled (Ok m) pieces is =
-    let same : pieces ≡ text_lines (written m) = cc is in
-    record { m = m; found_is = refl; joined = ap concat same ∙ lines_joined (written m) }
+    let same : pieces ≡ written_lines m = cc is in
+    record { m = m; found_is = refl; joined = ap concat same }
 assembled (Err refused) pieces is = absurd (cc is)
 
 pub entered_words_link : EnteredWordsLink

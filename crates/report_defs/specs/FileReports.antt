@@ -1,7 +1,7 @@
 -- The report of the program, by what its words say, by its input, and by the files.
 use Rattle.std.specs.Prelude.{◌≡◌, ℕ, List, Some, Result, Ok, Err}
 use Rattle.object_defs.specs.Modules.{Module}
-use Rattle.object_defs.specs.Writing.{written}
+use Rattle.object_defs.specs.Writing.{written_lines}
 use Rattle.link_defs.specs.LinkedMemory.{LinkedMemory}
 use Rattle.gpl_source_defs.specs.Programs.{program_of_source}
 use Rattle.shelf_defs.specs.Files.{Files}
@@ -11,7 +11,6 @@ use Rattle.watch_defs.specs.declared.item.Item.{Item}
 use Rattle.report_defs.specs.declared.status.Status.TheVariants.{Done}
 use Rattle.report_defs.specs.declared.fault.Fault.TheVariants as fault
 use Rattle.report_defs.specs.ObjectFaults.{tag_line, link_line}
-use Rattle.report_defs.specs.TextLines.{text_lines}
 use Rattle.report_defs.specs.MemoryListing.{linked_lines}
 use Rattle.report_defs.specs.Report.{Report, Whole, Faulty, Rejected, ProgramReport, OnInput, ReportOn}
 use Rattle.report_defs.specs.FileLines.{in_file, place_line, missing_line}
@@ -23,7 +22,7 @@ use Rattle.report_defs.specs.Watching.{ReportsWatch}
 -- Profile: the report of asm is the object text of the module, line by line; or the first refused line, with the file
 -- that it stands in; or that a file is too large.
 abbrev pub copy_report : Result Module CopyRefusal → Report
-copy_report (Ok found) = Whole Done (text_lines (written found))
+copy_report (Ok found) = Whole Done (written_lines found)
 copy_report (Err (At place cause)) = Rejected (place_line place cause)
 copy_report (Err TooLarge) = Faulty fault.TooLarge
 

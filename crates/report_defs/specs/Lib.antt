@@ -1,7 +1,6 @@
 pub mod Rows
 pub mod FaultLine
 pub mod SourceFaults
-pub mod TextLines
 pub mod GromListing
 pub mod Commands
 pub mod Dump

@@ -13,7 +13,7 @@ use Rattle.interp_defs.specs.Programs.{RunsProgram}
 use Rattle.gpl_source_defs.specs.declared.causes.GplCause.{GplCause}
 use Rattle.gpl_source_defs.specs.Programs.{Program, program_of_source}
 use Rattle.object_defs.specs.Modules.{Module}
-use Rattle.object_defs.specs.Writing.{written}
+use Rattle.object_defs.specs.Writing.{written_lines}
 use Rattle.asm_defs.specs.declared.causes.AsmCause.{AsmCause}
 use Rattle.asm_defs.specs.Modules.{module_of_source}
 use Rattle.report_defs.specs.declared.command.Command.{Command}
@@ -26,7 +26,6 @@ use Rattle.report_defs.specs.declared.fault.Fault.{Fault}
 use Rattle.report_defs.specs.declared.fault.Fault.TheVariants.{TooLarge, PastEnd, NoEntry}
 use Rattle.report_defs.specs.FaultLine.{fault_status}
 use Rattle.report_defs.specs.SourceFaults.{asm_line, gpl_line}
-use Rattle.report_defs.specs.TextLines.{text_lines}
 use Rattle.word_listings.specs.Listing.{memory_listing}
 use Rattle.report_defs.specs.GromListing.{image_listing}
 use Rattle.link_defs.specs.LinkedMemory.{LinkedMemory}
@@ -67,7 +66,7 @@ one_piece (byte ∷ bytes) = (byte ∷ bytes) ∷ []
 
 -- Profile: the report of asm is the object text of the source's module, line by line.
 abbrev pub asm_report : Result Module (Refusal AsmCause) → Report
-asm_report (Ok found) = Whole Done (text_lines (written found))
+asm_report (Ok found) = Whole Done (written_lines found)
 asm_report (Err refused) = Rejected (asm_line refused)
 
 -- Profile: the report of gasm is the bytes of the image from its lowest to its highest written address, in one piece.

@@ -1,13 +1,13 @@
-//! The lines that reports are made of, how a text is written line by line, and what is said of a source that is
+//! The lines that reports are made of, how lines are written one by one, and what is said of a source that is
 //! refused. Nothing takes memory.
 #![tactic(auto)]
 
 mod faults;
 mod line;
+mod lines;
 mod rows;
-mod text;
 
 pub use faults::{asm_line, gpl_line, refusal_line};
 pub use line::{Line, append, append_count, append_spaced, append_word};
+pub use lines::put_lines;
 pub use rows::put_rows;
-pub use text::put_text;

@@ -21,16 +21,17 @@ use gpl_forms::GromImage;
 use gpl_run::Session;
 use link_loader::Linked;
 use memory_listing::put_memory;
+use object_tags::ObjectLine;
 use report_defs::{Status, Summary};
-use report_lines::put_text;
+use report_lines::put_lines;
 use tms_step::Machine;
 use trace_dump::{program_status, put_state, put_stop};
 
 /// A report of any command, made and not yet written.
 #[derive(Drop)]
 pub enum Report {
-    /// A text, whose lines go to standard output, each by one call.
-    Text(Vec<u8>),
+    /// Object text, whose lines go to standard output, each by one call.
+    Object(Vec<ObjectLine>),
     /// An image, whose bytes go to standard output by one call.
     Image(GromImage),
     /// Raw bytes in memory, whose listing goes to standard output line by line.
@@ -76,7 +77,7 @@ impl Report {
         ensures { Written result (O.state out.old) (O.state out.new) (pieces_of self.now) }
     {
         match self {
-            Report::Text(text) => put_text(text.as_slice(), out),
+            Report::Object(lines) => put_lines(lines.as_slice(), out),
             Report::Image(image) => put_image(out, image.written()),
             Report::Listing(listing) => listing.write(out),
             Report::Grom(image) => put_grom(image, out),
@@ -93,7 +94,7 @@ impl Report {
         ensures { result ≡ own_status self.now }
     {
         match self {
-            Report::Text(_)
+            Report::Object(_)
             | Report::Image(_)
             | Report::Listing(_)
             | Report::Grom(_)

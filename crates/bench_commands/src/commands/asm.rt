@@ -1,14 +1,15 @@
 //! `asm`: the object text of an assembler source.
 
 ghost use Rattle.std.specs.Prelude.{◌≡◌, ◌≤◌, length, Ok, IfOk};
-ghost use Rattle.object_defs.specs.Writing.{written};
+ghost use Rattle.object_defs.specs.Writing.{written_lines};
+ghost use Rattle.object_tags.specs.Lines.{bytes_of};
 ghost use Rattle.object_tags.specs.Seen.{defined_module};
 ghost use Rattle.asm_defs.specs.Modules.{module_of_source};
 ghost use Rattle.report_defs.specs.Report as spec;
 ghost use Rattle.reports.specs.Answers.{answer, WantsMemory, Reported};
 
 use asm_core::{assemble, modules_have_texts};
-use object_tags::{Module, write_module};
+use object_tags::{Module, ObjectLine, write_lines};
 use report_defs::Command;
 use reports::{CommandError, Report};
 use std::alloc::{AllocError, Global};
@@ -19,14 +20,14 @@ pub(crate) fn asm(alloc: Global, input: &[u8]) -> Result<Report, CommandError>
     ensures { Reported (spec.AcceptedReport Command.Asm input.now) WantsMemory (answer result) }
 {
     let module = assemble(alloc, input)?;
-    Ok(Report::Text(text_of(alloc, input, &module)?))
+    Ok(Report::Object(lines_of(alloc, input, &module)?))
 }
 
-/// The object text of a source's module.
-fn text_of(alloc: Global, source: &[u8], module: &Module) -> Result<Vec<u8>, AllocError>
+/// The lines of the object text of a source's module.
+fn lines_of(alloc: Global, source: &[u8], module: &Module) -> Result<Vec<ObjectLine>, AllocError>
     requires { module_of_source source.now ≡ Ok (defined_module «module».now) }
-    ensures { IfOk result (λ text. text.items ≡ written (defined_module «module».now)) }
+    ensures { IfOk result (λ lines. bytes_of lines.items ≡ written_lines (defined_module «module».now)) }
 {
     modules_have_texts();
-    write_module(alloc, module)
+    write_lines(alloc, module)
 }

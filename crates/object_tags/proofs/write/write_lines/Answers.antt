@@ -1,19 +1,19 @@
 use Rattle.std.proofs.Common.{◌≡◌, ℕ, List, [], ◌∷◌, map, IfOk, ◌∙◌, subst}
-use Rattle.object_defs.specs.Writing.{Group, Placed, header_text, definition_text, reference_text, entry_items, items_of, written}
+use Rattle.object_defs.specs.Writing.{Group, Placed, header_text, definition_text, reference_text, entry_items, items_of, written_lines, written}
 use Rattle.object_tags.specs.declared.parts.Def.{Def}
 use Rattle.object_tags.specs.declared.parts.Ref.{Ref}
 use Rattle.object_tags.specs.Seen.{defined_def, defined_ref, defined_module}
-use Rattle.object_tags.specs.Lines.{whole, Wrote}
-use Rattle.std.specs.List.{AllByRecursion}
+use Rattle.object_tags.specs.Lines.{bytes_of, whole, Wrote}
+use Rattle.std.specs.List.{AllByRecursion, concat}
 use Rattle.std.proofs.Common.{Ok}
 use Rattle.object_defs.specs.Reading.{read}
 use Rattle.object_defs.specs.Laws.{FitsPiece, FitsDefinition, FitsReference, IsModule}
 use Rattle.object_laws.proofs.Written.{written_modules_are_read}
 use Rattle.object_tags.proofs.Composed.{composed, in_two_steps, begins, all_defined, if_ok}
-use Rattle.object_tags.proofs.write.write_module.Goals as goal
+use Rattle.object_tags.proofs.write.write_lines.Goals as goal
 
-pub returns-clause-text : goal.returns-clause-text
-returns-clause-text c =
+pub returns-clause-lines : goal.returns-clause-lines
+returns-clause-lines c =
     let m = c.args.module.now in
     let w0 = c.new-writer.result in
     let w1 = c.put_group.new.self in
@@ -35,9 +35,9 @@ returns-clause-text c =
     composed w0 w1 w2 w3 w4 w5 (Group (header_text m.size m.name) ∷ []) (map Placed m.pieces)
     (map (λ definition. Group (definition_text definition)) (map defined_def m.defs))
     (map (λ reference. Group (reference_text reference)) (map defined_ref m.refs)) (entry_items m.entry) header pieces defined_defs defined_refs entry in
-    let text : whole w5 [] ≡ written (defined_module m) = all ∙ begins w0 (items_of (defined_module m)) c.new-writer.ensures.text c.new-writer.ensures.line
+    let lines : whole w5 [] ≡ written_lines (defined_module m) = all ∙ begins w0 (items_of (defined_module m)) c.new-writer.ensures.lines c.new-writer.ensures.line
     c.new-writer.ensures.number in
-    subst (λ (bytes : List ℕ). IfOk c.finish.result (λ found. found.items ≡ bytes)) text c.finish.ensures
+    subst (λ (lines : List (List ℕ)). IfOk c.finish.result (λ found. bytes_of found.items ≡ lines)) lines c.finish.ensures
 
 pub returns-clause-read_again : goal.returns-clause-read_again
 returns-clause-read_again c =
@@ -53,5 +53,5 @@ returns-clause-read_again c =
       refs = all_defined FitsReference defined_ref m.refs refs;
       entry = c.in_ok-put_entry.ensures.fits;
     } in
-    if_ok c.finish.result (λ found. found.items) (written (defined_module m)) (λ bytes. read bytes ≡ Ok (defined_module m ∷ []))
-    (written_modules_are_read (defined_module m) is c.requires) (returns-clause-text c)
+    if_ok c.finish.result (λ found. bytes_of found.items) (written_lines (defined_module m)) (λ lines. read (concat lines) ≡ Ok (defined_module m ∷ []))
+    (written_modules_are_read (defined_module m) is c.requires) (returns-clause-lines c)

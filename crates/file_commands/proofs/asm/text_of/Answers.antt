@@ -1,6 +1,0 @@
-use Rattle.source_defs.specs.Layout.{numbered}
-use Rattle.asm_core.proofs.TextLaws.{module_has_text}
-use Rattle.file_commands.proofs.asm.text_of.Goals as goal
-
-pub write_module-requires : goal.write_module-requires
-write_module-requires c = module_has_text (numbered 1 c.requires.0) _ c.requires.1
