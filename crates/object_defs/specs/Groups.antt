@@ -2,7 +2,7 @@
 --
 -- Editor/Assembler manual, "Tagged object code": a line is groups one after the other, each a tag and its fields.
 use Rattle.std.specs.Prelude.{ℕ, zero, suc, ◌+◌, ◌==◌, Bool, true, false, not, ◌&&◌, if◌then◌else◌, List, [], ◌∷◌}
-use Rattle.std.specs.Prelude.{◌++◌, length, Option, Some, None, Result, Ok, Err}
+use Rattle.std.specs.Prelude.{◌++◌, nat_le, length, slice_index, take, drop, Option, Some, None, Result, Ok, Err}
 use Rattle.source_defs.specs.Refusals.{◌>>=◌}
 use Rattle.object_defs.specs.declared.form.TextForm.{TextForm}
 use Rattle.object_defs.specs.declared.spot.Spot.{Spot}
@@ -142,16 +142,16 @@ abbrev pub size_found : TextForm → FoundGroup → ℕ
 size_found form (Whole character group) = group_size form group
 size_found form (Broken character tag cause) = 0
 
--- The groups in the rest of a line, behind the characters before it and those that are left of the last group there.
+-- At most a number of groups of a line, from a place on: what stands there, and then the groups after it.
 -- Profile: a line may end without the tag of its end.
-unfoldable pub groups_from : TextForm → List ℕ → ℕ → List ℕ → List FoundGroup
-groups_from form before left [] = []
-groups_from form before (suc left) (byte ∷ behind) = groups_from form (before ++ byte ∷ []) left behind
-groups_from form before zero (byte ∷ behind) =
-    let found = found_at form before byte behind in
-    found ∷ (if ends_line found then [] else groups_from form (before ++ byte ∷ []) (size_found form found) behind)
+unfoldable pub groups_from : ℕ → TextForm → List ℕ → ℕ → List FoundGroup
+groups_from zero form line at = []
+groups_from (suc most) form line at =
+    if nat_le (length line) at then [] else (
+    let found = found_at form (take at line) (slice_index line at) (drop (at + 1) line) in
+    found ∷ (if ends_line found then [] else groups_from most form line (at + 1 + size_found form found)))
 
 -- the groups of a line
 -- Profile: a line of blanks is skipped.
 abbrev pub groups_of : TextForm → List ℕ → List FoundGroup
-groups_of form line = if all_blank line then [] else groups_from form [] 0 line
+groups_of form line = if all_blank line then [] else groups_from (length line) form line 0
