@@ -37,8 +37,8 @@ front_after x made =
 -- line alone are read: the number of the instruction, the program counter, the workspace pointer and the status before
 -- it, its text, and its changes. The changes of the lines of the first instructions, made in the first memory one line
 -- after the other, give the memory after these instructions, but for the ROM and the bytes of the GROMs, which no
--- instruction changes. The program counter, the workspace pointer and the status after the last line are in no line. The
--- machine in which a run of the linked memory of an input begins is such a machine.
+-- instruction changes. The program counter, the workspace pointer and the status after the last line are in no line.
+-- The machine in which a run of the linked memory of an input begins is such a machine.
 pub record MachineLinesGiveStates : Type 0 where
   pub lines : (x : MachineState) (count : ℕ) → step_lines x count ≡ map (line_after x) (range_with_len 0 count)
   pub parts : (x : MachineState) → IsMachine x → (made : ℕ)

@@ -43,7 +43,7 @@ fn put_lines<O: Sink>(image: &[u8], low: u16, high: u32, out: &mut O) -> Result<
     requires size { length image.now ≡ 65536 }
     requires end { high ≤ 65536 }
     ensures { Written result (O.state out.old) (O.state out.new)
-        (map listing_line (spec.texts_from image.now low high low 0 (high - low))) }
+        (map listing_line (spec.texts_between image.now low high low)) }
 {
     let mut at = u32::from(low);
     while at < high {

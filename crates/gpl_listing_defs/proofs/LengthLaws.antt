@@ -1,8 +1,9 @@
 -- How long a listing is.
 use Rattle.std.proofs.Common.{◌≡◌, ℕ, zero, suc, ◌+◌, ◌-◌, ◌*◌, ◌/◌, ◌%◌, ◌<◌, ◌≤◌, Bool, true, false, not, ◌&&◌, List, [], ◌∷◌, ◌++◌}
-use Rattle.std.proofs.Common.{length, length-append, refl, sym, subst, Option, arith}
+use Rattle.std.proofs.Common.{length, length-append, refl, sym, subst, Option, ◌≢◌, ◌⊎◌, inl, inr, arith}
 use Rattle.std.specs.Prelude.{◌==◌, codes, IsTrue, map, if◌then◌else◌}
 use Rattle.std.specs.List.{concat}
+use Rattle.std.proofs.lemmas.Bool.{cases_eq}
 use Rattle.std.proofs.lemmas.Bool.Decides.{nat_tests}
 use Rattle.tms_defs.specs.Bytes.{HoldsBytes}
 use Rattle.grom_defs.specs.declared.size.TheConstants.{GROM_SIZE}
@@ -23,7 +24,8 @@ use Rattle.gpl_defs.specs.Valid.{is_valid}
 use Rattle.gpl_source_defs.specs.Mnemonics.{name_of}
 use Rattle.listed_lines.proofs.Scans.{and_left}
 use Rattle.gpl_listing_defs.specs.Texts.{mnemonic_of, instr_text}
-use Rattle.gpl_listing_defs.specs.Listing.{origin_texts, origin_texts_at, texts_from, grom_texts, grom_listing}
+use Rattle.gpl_listing_defs.specs.Listing.{origin_texts, origin_texts_at, texts_from, texts_between, grom_texts, grom_listing}
+use Rattle.gpl_listing_defs.proofs.LineSteps.{no_texts, next_texts}
 use Rattle.gpl_listing_defs.specs.Law.{ListingsAreShort}
 use Rattle.source_defs.specs.Digits.{word_digits, byte_digits}
 use Rattle.source_defs.specs.ListedLines.{listing_line, with_operands}
@@ -139,38 +141,45 @@ module _ (image : List ℕ) (low high : ℕ) (holds : HoldsBytes 65536 image) (t
           rw (origin_size at) (omega arith)
       by false e = omega arith
 
-  from_short_of : (left at belonging : ℕ) → at + left ≡ high → belonging ≤ left →
-      lines_size (texts_from image low high at belonging left) + 16 * belonging + 36 * ((at + 8191) / 8192)
-      ≤ 16 * left + 36 * ((high + 8191) / 8192)
-  from_short_of zero at zero ends le = omega arith
-  from_short_of zero at (suc belonging) ends le = absurd (omega arith)
-  from_short_of (suc left) at (suc belonging) ends le =
-      let rest = from_short_of left (at + 1) belonging (omega arith) (omega arith) in
-      omega arith
-  from_short_of (suc left) at zero ends le =
-      let line = fits at (omega arith) _ (entry_of image holds.fits holds.size at high top) in
-      let some = line.some in
-      let within = line.within in
-      let short = line.short in
-      let rest = from_short_of left (at + 1) ((listed_at image at high).size - 1) (omega arith) (omega arith) in
-      let origin = origin_few at in
-      let both = lines_both (origin_texts_at low at)
-      ((listed_at image at high).text ∷ texts_from image low high (at + 1) ((listed_at image at high).size - 1) left) in
-      omega arith
+  from_short_of : (most at : ℕ) → at ≤ high →
+      lines_size (texts_from image low high most at) + 36 * ((at + 8191) / 8192) + 16 * at
+      ≤ 16 * high + 36 * ((high + 8191) / 8192)
+  from_short_of zero at le = omega arith
+  from_short_of (suc most) at le = by (cases_eq at high) (λ next within. from_short_of most next within)
+    where
+      by : (at ≡ high) ⊎ (at ≢ high) →
+          ((next : ℕ) → next ≤ high →
+          lines_size (texts_from image low high most next) + 36 * ((next + 8191) / 8192) + 16 * next ≤ 16 * high + 36 * ((high + 8191) / 8192)) →
+          lines_size (texts_from image low high (suc most) at) + 36 * ((at + 8191) / 8192) + 16 * at ≤ 16 * high + 36 * ((high + 8191) / 8192)
+      by (inl same) others = let none = no_texts image low high (suc most) at (omega (arith, same)) in rw none (omega arith)
+      by (inr other) others =
+          let inside : at < high = omega (arith, le, other) in
+          let line = fits at inside _ (entry_of image holds.fits holds.size at high top) in
+          let some = line.some in
+          let within = line.within in
+          let short = line.short in
+          let next = at + (listed_at image at high).size in
+          let rest = others next within in
+          let origin = origin_few at in
+          let both = lines_both (origin_texts_at low at) ((listed_at image at high).text ∷ texts_from image low high most next) in
+          let same = next_texts image low high most at inside in
+          rw same (omega arith)
 
 -- the first address is said by the first two lines alone
 first_step : (image : List ℕ) (low high left : ℕ) → HoldsBytes 65536 image → low + left ≡ high → high ≤ 65536 →
-    lines_size (texts_from image low high low 0 left) ≤ 16 * left + 252
+    lines_size (texts_from image low high left low) ≤ 16 * left + 252
 first_step image low high zero holds ends le = omega arith
 first_step image low high (suc left) holds ends le =
-    let line = fits image low high holds le low (omega arith) _ (entry_of image holds.fits holds.size low high le) in
+    let inside : low < high = omega arith in
+    let line = fits image low high holds le low inside _ (entry_of image holds.fits holds.size low high le) in
     let some = line.some in
     let within = line.within in
     let short = line.short in
-    let rest = from_short_of image low high holds le left (low + 1) ((listed_at image low high).size - 1) (omega arith)
-    (omega arith) in
+    let next = low + (listed_at image low high).size in
+    let rest = from_short_of image low high holds le left next within in
     let none : origin_texts_at low low ≡ [] = at_first (low % GROM_SIZE == 0) in
-    rw none (omega arith)
+    let same = next_texts image low high left low inside in
+    rw (same, none) (omega arith)
   where
     at_first : (test : Bool) → (if test && not (low == low) then origin_texts low else []) ≡ []
     at_first true = let same : (low == low) ≡ true = grind (arith, nat_tests) in rw same refl
@@ -181,7 +190,7 @@ unfolding grom_listing word_digits
 listings_are_short image low high holds order within =
     let size = lines_length (grom_texts image low high) in
     let first = first_step image low high (high - low) holds (omega arith) within in
-    let a = lines_both (origin_texts low) (texts_from image low high low 0 (high - low) ++ codes "END" ∷ []) in
-    let b = lines_both (texts_from image low high low 0 (high - low)) (codes "END" ∷ []) in
+    let a = lines_both (origin_texts low) (texts_between image low high low ++ codes "END" ∷ []) in
+    let b = lines_both (texts_between image low high low) (codes "END" ∷ []) in
     let c = origin_size low in
     omega arith

@@ -1,7 +1,7 @@
 -- What is listed is assembled again.
 use Rattle.std.proofs.Common.{◌≡◌, ◌≢◌, ℕ, zero, suc, ◌+◌, ◌-◌, ◌*◌, ◌/◌, ◌%◌, ◌<◌, ◌≤◌, Bool, true, false, not, ◌&&◌}
 use Rattle.std.proofs.Common.{List, [], ◌∷◌, ◌++◌, length, take, drop, refl, ap, sym, subst, ◌∙◌, ◌⊎◌, inl, inr, Ok, None, arith}
-use Rattle.std.specs.Prelude.{◌==◌, codes, map, slice_index, if◌then◌else◌}
+use Rattle.std.specs.Prelude.{◌==◌, codes, map, nat_le, slice_index, if◌then◌else◌}
 use Rattle.std.specs.List.{list_all}
 use Rattle.std.specs.FinMap.{empty}
 use Rattle.std.proofs.lemmas.List.{drop_more}
@@ -16,7 +16,8 @@ use Rattle.gpl_source_defs.specs.declared.location.Location.{Location}
 use Rattle.gpl_source_defs.specs.Locations.{Line, start}
 use Rattle.gpl_source_defs.specs.Programs.{Settled, overlaps, program_of_source}
 use Rattle.gpl_listing_defs.specs.Listing.{Listed, listed_at}
-use Rattle.gpl_listing_defs.specs.Listing.{origin_texts, origin_texts_at, texts_from, grom_texts, grom_listing}
+use Rattle.gpl_listing_defs.specs.Listing.{origin_texts, origin_texts_at, texts_from, texts_between, grom_texts, grom_listing}
+use Rattle.gpl_listing_defs.proofs.LineSteps.{no_texts, next_texts}
 use Rattle.gpl_listing_defs.specs.Law.{ListingsComeBack}
 use Rattle.listed_lines.proofs.Scans.{all_both}
 use Rattle.listed_lines.proofs.DigitLaws.{word_passes, byte_passes}
@@ -93,25 +94,24 @@ module _ (image : List ℕ) (low high : ℕ) (bytes : (k : ℕ) → slice_index 
       (before : List Line) (earlier : List Settled) (number : ℕ) → Stands before earlier (here grom at) (held at) →
       Ends before number (map listed texts) (held high)
 
-  abbrev left_from : ℕ → ℕ → ℕ → List (List ℕ)
-  left_from at belonging left = texts_from image low high at belonging left ++ codes "END" ∷ []
+  abbrev left_from : ℕ → ℕ → List (List ℕ)
+  left_from most at = texts_from image low high most at ++ codes "END" ∷ []
 
-  -- by how many bytes are left, some of which belong to the line before
+  -- by how many lines there are at most
   abbrev GoesFrom : ℕ → Type 0
-  GoesFrom left =
-      (at belonging grom place : ℕ) → place ≡ at + belonging → at + left ≡ high → belonging ≤ left → low ≤ at →
-      grom % 0x2000 ≡ 0 → grom ≤ place → place ≤ grom + 0x2000 → (place ≡ low → place < grom + 0x2000) →
-      Goes grom place (left_from at belonging left)
+  GoesFrom most =
+      (at grom : ℕ) → high ≤ at + most → at ≤ high → low ≤ at → grom % 0x2000 ≡ 0 → grom ≤ at → at ≤ grom + 0x2000 →
+      (at ≡ low → at < grom + 0x2000) → Goes grom at (left_from most at)
 
-  entry_goes : (left at grom : ℕ) → GoesFrom left → at + suc left ≡ high → low ≤ at → grom % 0x2000 ≡ 0 → grom ≤ at →
+  entry_goes : (most at grom : ℕ) → GoesFrom most → high ≤ at + suc most → at < high → low ≤ at → grom % 0x2000 ≡ 0 → grom ≤ at →
       at < grom + 0x2000 →
-      Goes grom at ((listed_at image at high).text ∷ left_from (at + 1) ((listed_at image at high).size - 1) left)
-  entry_goes left at grom others ends le whole from to before earlier number stands =
+      Goes grom at ((listed_at image at high).text ∷ left_from most (at + (listed_at image at high).size))
+  entry_goes most at grom others enough inside le whole from to before earlier number stands =
       let e = entered grom at number stands le (omega arith) whole from to _ (entry_of image bytes size at high top) in
       let some = e.some in
       let within = e.within in
-      let go = others (at + 1) ((listed_at image at high).size - 1) grom (at + (listed_at image at high).size) (omega arith)
-      (omega arith) (omega arith) (omega arith) whole (omega arith) e.in_grom (λ first. absurd (omega arith)) in
+      let go = others (at + (listed_at image at high).size) grom (omega arith) (omega arith) (omega arith) whole (omega arith) e.in_grom
+      (λ first. absurd (omega arith)) in
       ends_more before number _ _ _ _ (held high) e.taken (go (e.taken.line ∷ before) e.taken.earlier (number + 1) e.taken.stands)
 
   -- GROM and AORG, and what stands behind them
@@ -127,53 +127,52 @@ module _ (image : List ℕ) (low high : ℕ) (bytes : (k : ℕ) → slice_index 
       (ends_more (first.line ∷ before) (number + 1) _ _ _ _ (held high) second
       (go (second.line ∷ first.line ∷ before) second.earlier (number + 1 + 1) (subst S there second.stands)))
 
-  step_goes : (test : Bool) (left at grom : ℕ) → ((at % GROM_SIZE == 0) && not (at == low)) ≡ test → GoesFrom left →
-      at + suc left ≡ high → low ≤ at → grom % 0x2000 ≡ 0 → grom ≤ at → at ≤ grom + 0x2000 →
+  step_goes : (test : Bool) (most at grom : ℕ) → ((at % GROM_SIZE == 0) && not (at == low)) ≡ test → GoesFrom most →
+      high ≤ at + suc most → at < high → low ≤ at → grom % 0x2000 ≡ 0 → grom ≤ at → at ≤ grom + 0x2000 →
       (at ≡ low → at < grom + 0x2000) →
       Goes grom at (((if test then origin_texts at else []) ++ ((listed_at image at high).text
-      ∷ texts_from image low high (at + 1) ((listed_at image at high).size - 1) left)) ++ codes "END" ∷ [])
-  step_goes true left at grom e others ends le whole from to first =
+      ∷ texts_from image low high most (at + (listed_at image at high).size))) ++ codes "END" ∷ [])
+  step_goes true most at grom e others enough inside le whole from to first =
       let even : at % 0x2000 ≡ 0 = grind (arith, nat_tests) in
-      origin_from (here grom at) at ((listed_at image at high).text ∷ left_from (at + 1) ((listed_at image at high).size - 1) left)
+      origin_from (here grom at) at ((listed_at image at high).text ∷ left_from most (at + (listed_at image at high).size))
       (omega arith) to
-      (entry_goes left at (at / GROM_SIZE * GROM_SIZE) others ends le (omega arith) (omega arith) (omega arith))
-  step_goes false left at grom e others ends le whole from to first =
-      entry_goes left at grom others ends le whole from (inside (cases_eq at (grom + 0x2000)))
+      (entry_goes most at (at / GROM_SIZE * GROM_SIZE) others enough inside le (omega arith) (omega arith) (omega arith))
+  step_goes false most at grom e others enough inside le whole from to first =
+      entry_goes most at grom others enough inside le whole from (in_grom (cases_eq at (grom + 0x2000)))
     where
-      inside : (at ≡ grom + 0x2000) ⊎ (at ≢ grom + 0x2000) → at < grom + 0x2000
-      inside (inr other) = omega arith
-      inside (inl same) =
+      in_grom : (at ≡ grom + 0x2000) ⊎ (at ≢ grom + 0x2000) → at < grom + 0x2000
+      in_grom (inr other) = omega arith
+      in_grom (inl same) =
           let even : (at % GROM_SIZE == 0) ≡ true =
           (let z : at % 0x2000 ≡ 0 = omega arith in grind (arith, nat_tests)) in
           let is_low : (at == low) ≡ true = not_false (at == low) (rw even at e) in
           first (grind (arith, nat_tests))
 
-  goes_from : (left : ℕ) → GoesFrom left
-  goes_from zero at belonging grom place is ends few le whole from to first =
-      λ before earlier number stands.
-      let H : ℕ → Type 0 = λ end. Ends before number (map listed (left_from at belonging 0)) (held end) in
-      let same : place ≡ high = omega arith in
-      let none : texts_from image low high at belonging 0 ≡ [] = no_texts belonging in
-      rw none (subst H same (ends_last before number _ _ _ (end_taken number stands to)))
+  at_end : (at grom : ℕ) (texts : List (List ℕ)) → high ≡ at → at ≤ grom + 0x2000 → texts ≡ [] → Goes grom at (texts ++ codes "END" ∷ [])
+  at_end at grom texts same to none before earlier number stands =
+      let H : ℕ → Type 0 = λ end. Ends before number (map listed (texts ++ codes "END" ∷ [])) (held end) in
+      subst H (sym same) (rw none (ends_last before number _ _ _ (end_taken number stands to)))
+
+  goes_from : (most : ℕ) → GoesFrom most
+  goes_from zero at grom enough within le whole from to first = at_end at grom [] (omega arith) to refl
+  goes_from (suc most) at grom enough within le whole from to first = by (goes_from most) (cases_eq at high)
     where
-      no_texts : (belonging : ℕ) → texts_from image low high at belonging 0 ≡ []
-      no_texts zero = refl
-      no_texts (suc n) = refl
-  goes_from (suc left) at (suc belonging) grom place is ends few le whole from to first =
-      goes_from left (at + 1) belonging grom place (omega arith) (omega arith) (omega arith) (omega arith) whole from to first
-  goes_from (suc left) at zero grom place is ends few le whole from to first =
-      let same : at ≡ place = omega arith in
-      subst (λ place. Goes grom place (left_from at 0 (suc left))) same
-      (step_goes _ left at grom refl (goes_from left) ends le whole (omega arith) (omega arith) (λ e. omega (arith, first (omega arith))))
+      by : GoesFrom most → (at ≡ high) ⊎ (at ≢ high) → Goes grom at (left_from (suc most) at)
+      by others (inl same) = at_end at grom (texts_from image low high (suc most) at) (sym same) to (no_texts image low high (suc most) at (omega (arith, same)))
+      by others (inr other) =
+          let inside : at < high = omega (arith, within, other) in
+          let same = next_texts image low high most at inside in
+          subst (λ texts. Goes grom at (texts ++ codes "END" ∷ [])) (sym same)
+          (step_goes _ most at grom refl others enough inside le whole from to first)
 
   all_go : low ≤ high → low < 65536 → Ends [] 1 (map listed (grom_texts image low high)) (held high)
   all_go order fits =
       let nothing : low - low ≡ 0 = omega arith in
       let none : [] ≡ between image low low = ap (λ n. take n (drop low image)) (sym nothing) in
       let S : List ℕ → Type 0 = λ taken. Stands [] [] start (placed empty low taken) in
-      origin_from start low (left_from low 0 (high - low)) fits (omega arith)
-      (goes_from (high - low) low 0 (low / GROM_SIZE * GROM_SIZE) low (omega arith) (omega arith) (omega arith) (omega arith)
-      (omega arith) (omega arith) (omega arith) (λ first. omega arith))
+      origin_from start low (left_from (high - low) low) fits (omega arith)
+      (goes_from (high - low) low (low / GROM_SIZE * GROM_SIZE) (omega arith) order (omega arith) (omega arith) (omega arith)
+      (omega arith) (λ first. omega arith))
       [] [] 1 (subst S none at_first)
 
   -- ---- no text has a line feed
@@ -186,18 +185,21 @@ module _ (image : List ℕ) (low high : ℕ) (bytes : (k : ℕ) → slice_index 
   clean_entry at line (Whole found valid fits same ends) = instr_in_line found at valid
   clean_entry at line Single = byte_passes in_line (slice_index image at) refl refl
 
-  clean_from : (at belonging left : ℕ) → clean (texts_from image low high at belonging left) ≡ true
-  clean_from at zero zero = refl
-  clean_from at (suc belonging) zero = refl
-  clean_from at (suc belonging) (suc left) = clean_from (at + 1) belonging left
-  clean_from at zero (suc left) =
-      all_both _ (origin_texts_at low at) _ (clean_origin ((at % GROM_SIZE == 0) && not (at == low)) at)
-      (rw (clean_entry at _ (entry_of image bytes size at high top), clean_from (at + 1) ((listed_at image at high).size - 1) left) refl)
+  clean_from : (most at : ℕ) → clean (texts_from image low high most at) ≡ true
+  clean_from zero at = refl
+  clean_from (suc most) at = by (nat_le high at) _ (clean_from most (at + (listed_at image at high).size))
+    where
+      by : (past : Bool) (rest : List (List ℕ)) → clean rest ≡ true →
+          clean (if past then [] else origin_texts_at low at ++ ((listed_at image at high).text ∷ rest)) ≡ true
+      by true rest others = refl
+      by false rest others =
+          all_both _ (origin_texts_at low at) _ (clean_origin ((at % GROM_SIZE == 0) && not (at == low)) at)
+          (rw (clean_entry at _ (entry_of image bytes size at high top), others) refl)
 
   clean_all : clean (grom_texts image low high) ≡ true
   clean_all =
-      all_both (λ text. list_all in_line (listed text)) (origin_texts low) (left_from low 0 (high - low)) (clean_origin true low)
-      (all_both (λ text. list_all in_line (listed text)) (texts_from image low high low 0 (high - low)) (codes "END" ∷ []) (clean_from low 0 (high - low)) refl)
+      all_both (λ text. list_all in_line (listed text)) (origin_texts low) (left_from (high - low) low) (clean_origin true low)
+      (all_both (λ text. list_all in_line (listed text)) (texts_between image low high low) (codes "END" ∷ []) (clean_from (high - low) low) refl)
 
 -- a source whose lines are let through to the last
 program_is : (texts : List (List ℕ)) (bytes : Image) → Ends [] 1 (map listed texts) bytes →

@@ -41,7 +41,7 @@ listed_by image at end (Refused code) = byte_listed image at
 unfoldable pub listed_at : List ℕ → ℕ → ℕ → Listed
 listed_at image at end = listed_by image at end (reading image at)
 
--- Profile: a GROM is given by its first address, and the place in it by an offset.
+-- Profile: a GROM is told by its first address, and the place in it by an offset.
 abbrev pub origin_texts : ℕ → List (List ℕ)
 origin_texts at =
     (codes "GROM " ++ hex_word (at / GROM_SIZE * GROM_SIZE)) ∷ (codes "AORG " ++ hex_word (at % GROM_SIZE)) ∷ []
@@ -50,20 +50,23 @@ origin_texts at =
 abbrev pub origin_texts_at : ℕ → ℕ → List (List ℕ)
 origin_texts_at low at = if (at % GROM_SIZE == 0) && not (at == low) then origin_texts at else []
 
--- What the lines of a number of bytes from an address on say, by the address of the first of all and the end after the
--- last. The first of them may belong to the line before, and have none of their own.
-abbrev pub texts_from : List ℕ → ℕ → ℕ → ℕ → ℕ → ℕ → List (List ℕ)
-texts_from image low end at belonging zero = []
-texts_from image low end at (suc belonging) (suc left) = texts_from image low end (at + 1) belonging left
-texts_from image low end at zero (suc left) =
-    let line = listed_at image at end in
-    origin_texts_at low at ++ (line.text ∷ texts_from image low end (at + 1) (line.size - 1) left)
+-- What the lines from an address on say, at most a number of them, by the address of the first of all and the end
+-- after the last byte: the line there, and then those of the bytes after it.
+abbrev pub texts_from : List ℕ → ℕ → ℕ → ℕ → ℕ → List (List ℕ)
+texts_from image low end zero at = []
+texts_from image low end (suc most) at =
+    if nat_le end at then [] else (let line = listed_at image at end in
+    origin_texts_at low at ++ (line.text ∷ texts_from image low end most (at + line.size)))
+
+-- what the lines of the bytes from an address up to the end say
+abbrev pub texts_between : List ℕ → ℕ → ℕ → ℕ → List (List ℕ)
+texts_between image low end at = texts_from image low end (end - at) at
 
 -- Profile: a listing begins with the address of the first byte, and ends with END. So does the listing of no byte at
 -- all.
 abbrev pub grom_texts : List ℕ → ℕ → ℕ → List (List ℕ)
 grom_texts image low high =
-    origin_texts low ++ (texts_from image low high low 0 (high - low) ++ codes "END" ∷ [])
+    origin_texts low ++ (texts_between image low high low ++ codes "END" ∷ [])
 
 -- the listing of the bytes from an address up to another
 unfoldable pub grom_listing : List ℕ → ℕ → ℕ → List (List ℕ)

@@ -2,7 +2,7 @@
 --
 -- Editor/Assembler manual, "Tagged object code": a line is groups one after the other, each a tag and its fields.
 use Rattle.std.specs.Prelude.{ℕ, zero, suc, ◌+◌, ◌==◌, Bool, true, false, not, ◌&&◌, if◌then◌else◌, List, [], ◌∷◌}
-use Rattle.std.specs.Prelude.{◌++◌, length, Option, Some, None, Result, Ok, Err}
+use Rattle.std.specs.Prelude.{◌++◌, nat_le, length, slice_index, take, drop, Option, Some, None, Result, Ok, Err}
 use Rattle.source_defs.specs.Refusals.{◌>>=◌}
 use Rattle.object_defs.specs.declared.form.TextForm.{TextForm}
 use Rattle.object_defs.specs.declared.spot.Spot.{Spot}
@@ -71,7 +71,7 @@ tag_at form place character =
 abbrev pub compared : ℕ → ℕ → Result Group TagCause
 compared computed number = if number == computed then Ok Sum else Err (Checksum number computed)
 
--- the group that a tag begins, by what stands after it, where its line has a checksum through the tag
+-- the group that a tag begins, by what stands behind it, where its line has a checksum through the tag
 abbrev pub group_of : TextForm → ℕ → ℕ → Tag → List ℕ → Result Group TagCause
 group_of form computed character tags.Header behind = do
   size ← number_at form behind
@@ -107,13 +107,13 @@ found_with form computed character None behind = Broken character None (BadTag c
 found_with form computed character (Some tag) behind =
     found_as character tag (group_of form computed character tag behind)
 
--- What stands in the place of a group. The checksum is the one of the line's characters from the first through the
--- group's tag.
+-- What stands in the place of a group. The checksum is that of the line's characters from the first through the group's
+-- tag.
 abbrev pub found_at : TextForm → List ℕ → ℕ → List ℕ → FoundGroup
 found_at form before character behind =
     found_with form (checksum (before ++ character ∷ [])) character (tag_at form (length before) character) behind
 
--- how many characters a group has after its tag
+-- how many characters a group has behind its tag
 abbrev pub group_size : TextForm → Group → ℕ
 group_size form (Header size name) = number_size form + 8
 group_size form (Entry at) = number_size form
@@ -132,26 +132,26 @@ is_last EndOfLine = true
 is_last EndOfModule = true
 is_last _ = false
 
--- no group is looked for after a broken one
+-- no group is looked for behind a broken one
 abbrev pub ends_line : FoundGroup → Bool
 ends_line (Whole character group) = is_last group
 ends_line (Broken character tag cause) = true
 
--- how many characters stand after the tag
+-- how many characters stand behind the tag
 abbrev pub size_found : TextForm → FoundGroup → ℕ
 size_found form (Whole character group) = group_size form group
 size_found form (Broken character tag cause) = 0
 
--- The groups in the rest of a line, after the characters before it and those that are left of the last group there.
+-- At most a number of groups of a line, from a place on: what stands there, and then the groups after it.
 -- Profile: a line may end without the tag of its end.
-unfoldable pub groups_from : TextForm → List ℕ → ℕ → List ℕ → List FoundGroup
-groups_from form before left [] = []
-groups_from form before (suc left) (byte ∷ behind) = groups_from form (before ++ byte ∷ []) left behind
-groups_from form before zero (byte ∷ behind) =
-    let found = found_at form before byte behind in
-    found ∷ (if ends_line found then [] else groups_from form (before ++ byte ∷ []) (size_found form found) behind)
+unfoldable pub groups_from : ℕ → TextForm → List ℕ → ℕ → List FoundGroup
+groups_from zero form line at = []
+groups_from (suc most) form line at =
+    if nat_le (length line) at then [] else (
+    let found = found_at form (take at line) (slice_index line at) (drop (at + 1) line) in
+    found ∷ (if ends_line found then [] else groups_from most form line (at + 1 + size_found form found)))
 
 -- the groups of a line
 -- Profile: a line of blanks is skipped.
 abbrev pub groups_of : TextForm → List ℕ → List FoundGroup
-groups_of form line = if all_blank line then [] else groups_from form [] 0 line
+groups_of form line = if all_blank line then [] else groups_from (length line) form line 0

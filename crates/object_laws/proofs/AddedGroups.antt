@@ -13,36 +13,36 @@ use Rattle.object_defs.specs.declared.causes.TagCause.{TagCause}
 use Rattle.object_defs.specs.Modules.{Definition, Reference, number_of, moved, even, same_spot, StandsEven}
 use Rattle.object_defs.specs.Digits.{padded}
 use Rattle.object_defs.specs.Tags.{tag_of}
-use Rattle.object_defs.specs.Groups.{Group, Entry, Referred, Defined, Address, Word, Whole, found_with, found_at, group_size, ends_line, groups_from}
-use Rattle.object_laws.specs.Running.{OpenModule, more, Kept, with_current, kept_with, kept_groups}
+use Rattle.object_defs.specs.Groups.{Group, Entry, Referred, Defined, Address, Word, Whole, found_with, found_at, group_size, ends_line}
+use Rattle.object_laws.specs.Running.{OpenModule, more, Kept, with_current, kept_with, kept_groups, groups_after}
 use Rattle.object_defs.specs.Writing.{word_text, address_text, definition_text, reference_text, entry_text, Placed, item_text}
 use Rattle.object_defs.specs.Laws.{FitsSpot, FitsPiece, FitsDefinition, FitsReference}
 use Rattle.object_defs.proofs.FieldsAgain.{number_again, symbol_again, digits_length, kept_length}
 
 -- what the rest of a line leads to, behind the characters before it
 abbrev pub leads : Kept → List ℕ → List ℕ → Result Kept TagCause
-leads kept before rest = kept_groups kept (groups_from Plain before 0 rest)
+leads kept before rest = kept_groups kept (groups_after Plain before 0 rest)
 
 -- a text adds to a module what another has more than it, whatever line it stands in
 abbrev pub Adds : OpenModule → List ℕ → OpenModule → Type 0
 Adds m text after = (kept : Kept) (before rest : List ℕ) → leads (with_current kept m) before (text ++ rest) ≡ leads (with_current kept after) (before ++ text) rest
 
 -- what a group has behind its tag is passed over
-left_over : (before : List ℕ) (k : ℕ) (xs rest : List ℕ) → length xs ≡ k → groups_from Plain before k (xs ++ rest) ≡ groups_from Plain (before ++ xs) 0 rest
-unfolding groups_from
-left_over before zero [] rest e = ap (λ (b : List ℕ). groups_from Plain b 0 rest) (sym (append-nil before))
+left_over : (before : List ℕ) (k : ℕ) (xs rest : List ℕ) → length xs ≡ k → groups_after Plain before k (xs ++ rest) ≡ groups_after Plain (before ++ xs) 0 rest
+unfolding groups_after
+left_over before zero [] rest e = ap (λ (b : List ℕ). groups_after Plain b 0 rest) (sym (append-nil before))
 left_over before (suc k) [] rest e = absurd (omega arith)
 left_over before zero (x ∷ xs) rest e = absurd (omega arith)
-left_over before (suc k) (x ∷ xs) rest e = left_over (before ++ x ∷ []) k xs rest (omega arith) ∙ ap (λ (b : List ℕ). groups_from Plain b 0 rest) (append_assoc before (x ∷ []) xs)
+left_over before (suc k) (x ∷ xs) rest e = left_over (before ++ x ∷ []) k xs rest (omega arith) ∙ ap (λ (b : List ℕ). groups_after Plain b 0 rest) (append_assoc before (x ∷ []) xs)
 
 -- a group that is whole and is added
 pub group_adds : (kept after : Kept) (before : List ℕ) (character : ℕ) (fields rest : List ℕ) (group : Group)
     → found_at Plain before character (fields ++ rest) ≡ Whole character group → ends_line (Whole character group) ≡ false → length fields ≡ group_size Plain group
     → kept_with kept (Whole character group) ≡ Ok after → leads kept before (character ∷ (fields ++ rest)) ≡ leads after (before ++ character ∷ fields) rest
-unfolding groups_from kept_groups
+unfolding groups_after kept_groups
 group_adds kept after before character fields rest group found goes size adds =
-    let behind : groups_from Plain (before ++ character ∷ []) (group_size Plain group) (fields ++ rest) ≡ groups_from Plain (before ++ character ∷ fields) 0 rest =
-    left_over (before ++ character ∷ []) (group_size Plain group) fields rest size ∙ ap (λ (b : List ℕ). groups_from Plain b 0 rest) (append_assoc before (character ∷ []) fields) in
+    let behind : groups_after Plain (before ++ character ∷ []) (group_size Plain group) (fields ++ rest) ≡ groups_after Plain (before ++ character ∷ fields) 0 rest =
+    left_over (before ++ character ∷ []) (group_size Plain group) fields rest size ∙ ap (λ (b : List ℕ). groups_after Plain b 0 rest) (append_assoc before (character ∷ []) fields) in
     rw (found, goes, adds, behind) refl
 
 -- ---- words at their places

@@ -1,3 +1,4 @@
 pub mod ReaderRuns
+pub mod Places
 pub mod AddedGroups
 pub mod Written

@@ -10,6 +10,7 @@ use Rattle.object_defs.specs.Modules.{Module, moved}
 use Rattle.object_defs.specs.Fields.{all_blank}
 use Rattle.object_defs.specs.Groups.{Group, Header, Entry, Referred, Defined, Word, FoundGroup, Whole, Broken}
 use Rattle.object_defs.specs.Groups.{tag_of_group, groups_from}
+use Rattle.object_laws.proofs.Places.{all_places}
 use Rattle.object_defs.specs.Reading.{last_address, words_since, place_behind, module_of, stands_first, stands_behind, Found, nothing_found, added, with_group}
 use Rattle.object_defs.specs.Reading.{with_groups, NumberedLine, with_lines, last_number, ended, form_of, text_lines, read}
 use Rattle.object_laws.specs.Running.{OpenModule, first_of, grown, more, begun, Kept, nothing_kept, kept_with, kept_groups, kept_line, kept_lines, finished}
@@ -117,7 +118,11 @@ lines_are form (line ∷ lines) last found = by (lines_are form lines) (all_blan
     by : Goes → (b : Bool) → all_blank line.text ≡ b
         → kept_lines form (kept_of last found) (line ∷ lines) ≡ (with_lines form found (line ∷ lines) >>= λ found. end_of (last_number last (line ∷ lines)) found)
     by go true e = rw e (go last found)
-    by go false e = rw e (ap (λ (r : Result Kept TagCause). at_line line.number r >>= λ k. kept_lines form k lines) (groups_are (groups_from form [] 0 line.text) line.number found) ∙ through go (with_groups found (groups_from form [] 0 line.text)))
+    by go false e =
+        let groups : List FoundGroup = groups_from (length line.text) form line.text 0 in
+        rw (e, ← all_places form line.text)
+        (ap (λ (r : Result Kept TagCause). at_line line.number r >>= λ k. kept_lines form k lines) (groups_are groups line.number found)
+        ∙ through go (with_groups found groups))
 
 -- what is read is what is kept in the end
 pub read_is : (text : List ℕ) → read text ≡ kept_lines (form_of text) nothing_kept (text_lines text)

@@ -18,9 +18,9 @@ use Rattle.object_defs.specs.Tags.{tag_of}
 use Rattle.object_defs.specs.Writing.{group, header_text, definition_text, reference_text, Item, Group, Placed, items_of, entry_items, Line, empty_line}
 use Rattle.object_defs.specs.Writing.{item_text, next_after, with_item, summed, numbered, line_text, last_line_text, number_after, lines_from, written}
 use Rattle.object_defs.specs.Fields.{all_blank}
-use Rattle.object_defs.specs.Groups.{Header, Sum, Whole, found_with, found_at, groups_from}
+use Rattle.object_defs.specs.Groups.{Header, Sum, Whole, found_with, found_at}
 use Rattle.object_defs.specs.Reading.{NumberedLine, numbered_line, has_line_feed, form_of}
-use Rattle.object_laws.specs.Running.{OpenModule, opened, begun, more, Kept, nothing_kept, with_current, kept_groups, kept_line, kept_lines}
+use Rattle.object_laws.specs.Running.{OpenModule, opened, begun, more, Kept, nothing_kept, with_current, kept_groups, groups_after, kept_line, kept_lines}
 use Rattle.object_defs.specs.Laws.{FitsSpot, FitsPiece, FitsDefinition, FitsReference, IsModule, WrittenModulesAreRead}
 use Rattle.object_defs.proofs.FieldsAgain.{number_again, module_name_again, digits_length}
 use Rattle.object_laws.proofs.AddedGroups.{leads, Adds, group_adds, with_piece, piece_adds, with_def, definition_adds, with_ref, reference_adds, with_entry_at}
@@ -95,7 +95,7 @@ body_ends number text =
     (pad, regroup text (sum ++ 0x46 ∷ []) blanks (first_digits number) (last_digit number ∷ []) ∙ ap (λ (xs : List ℕ). text ++ xs) (append_assoc sum (0x46 ∷ []) pad))
 
 line_ends : (before pad : List ℕ) (kept : Kept) (m : OpenModule) → leads (with_current kept m) before (0x46 ∷ pad) ≡ Ok (with_current kept m)
-unfolding groups_from kept_groups found_with more tag_of
+unfolding groups_after kept_groups found_with more tag_of
 line_ends before pad kept m = refl
 
 -- the checksum of the line agrees, and the line ends
@@ -139,7 +139,7 @@ line_done kept line m n number in_line =
 -- the line that ends a module
 colon_done : (modules : List Module) (m : OpenModule) (last n number : ℕ)
     → kept_line Plain (start modules (Some m) last) (record { number = n; text = body_of number (0x3A ∷ []) }) ≡ Ok (start (modules ++ m.found ∷ []) None n)
-unfolding kept_line groups_from kept_groups found_with more tag_of
+unfolding kept_line groups_after kept_groups found_with more tag_of
 colon_done modules m last n number = refl
 
 -- ---- items

@@ -1,7 +1,7 @@
 -- What a reader may keep of the groups that it has read, in place of the groups: the module so far, and a load address
 -- that each word moves. No rule stands here; that reading so is reading is proved (`proofs/ReaderRuns`).
-use Rattle.std.specs.Prelude.{ℕ, ◌++◌, Bool, true, false, if◌then◌else◌, List, [], ◌∷◌, length, Option, Some, None}
-use Rattle.std.specs.Prelude.{Result, Ok, Err}
+use Rattle.std.specs.Prelude.{ℕ, zero, suc, ◌++◌, Bool, true, false, if◌then◌else◌, List, [], ◌∷◌, length}
+use Rattle.std.specs.Prelude.{Option, Some, None, Result, Ok, Err}
 use Rattle.source_defs.specs.Refusals.{Refusal, ◌>>=◌, at_line}
 use Rattle.object_defs.specs.declared.form.TextForm.{TextForm}
 use Rattle.object_defs.specs.declared.spot.Spot.{Spot}
@@ -12,7 +12,7 @@ use Rattle.object_defs.specs.Modules.{Module, moved, even}
 use Rattle.object_defs.specs.Fields.{all_blank}
 use Rattle.object_defs.specs.Groups.{Group, Header, Entry, Referred, Defined, Sum, IgnoredSum, Address, Word}
 use Rattle.object_defs.specs.Groups.{EndOfLine, EndOfModule, FoundGroup, Whole, Broken, tag_found, character_found}
-use Rattle.object_defs.specs.Groups.{group_found, groups_from}
+use Rattle.object_defs.specs.Groups.{group_found, found_at, ends_line, size_found}
 use Rattle.object_defs.specs.Reading.{stands_first, stands_behind, NumberedLine}
 
 -- a module whose end is not read yet, and the load address
@@ -95,10 +95,18 @@ unfoldable pub kept_groups : Kept → List FoundGroup → Result Kept TagCause
 kept_groups kept [] = Ok kept
 kept_groups kept (group ∷ groups) = kept_with kept group >>= λ kept. kept_groups kept groups
 
+-- the groups in the rest of a line, after the characters before it and those that are left of the last group there
+unfoldable pub groups_after : TextForm → List ℕ → ℕ → List ℕ → List FoundGroup
+groups_after form before left [] = []
+groups_after form before (suc left) (byte ∷ rest) = groups_after form (before ++ byte ∷ []) left rest
+groups_after form before zero (byte ∷ rest) =
+    let found = found_at form before byte rest in
+    found ∷ (if ends_line found then [] else groups_after form (before ++ byte ∷ []) (size_found form found) rest)
+
 unfoldable pub kept_line : TextForm → Kept → NumberedLine → Result Kept (Refusal TagCause)
 kept_line form kept line =
     if all_blank line.text then Ok kept
-    else at_line line.number (kept_groups (record kept { last = line.number }) (groups_from form [] 0 line.text))
+    else at_line line.number (kept_groups (record kept { last = line.number }) (groups_after form [] 0 line.text))
 
 abbrev pub finished : Kept → Option OpenModule → Result (List Module) (Refusal TagCause)
 finished kept None = Ok kept.modules

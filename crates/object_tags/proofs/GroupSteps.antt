@@ -1,29 +1,20 @@
 -- The groups of a line, one by one.
-use Rattle.std.proofs.Common.{◌≡◌, ℕ, zero, suc, ◌+◌, ◌-◌, ◌%◌, ◌<◌, ◌≤◌, get_or, cond, List, [], ◌∷◌, ◌++◌, length, take, drop, sum, refl, sym, ap, ◌∙◌}
-use Rattle.std.proofs.Common.{append_assoc, append-nil, length-append, length-drop, take-append-drop, Result, Ok, arith}
+use Rattle.std.proofs.Common.{◌≡◌, ℕ, ◌+◌, ◌-◌, ◌%◌, ◌<◌, ◌≤◌, get_or, cond, List, [], ◌∷◌, ◌++◌, length, take, drop, sum, refl, sym, ap, ◌∙◌}
+use Rattle.std.proofs.Common.{append_assoc, length-append, length-drop, take-append-drop, Result, Ok, arith}
 use Rattle.std.proofs.lemmas.List.{take_at, drop_at, length-take-le, take_more, drop_more, nil_from_length}
 use Rattle.std.proofs.lemmas.List.Sums.{sum_by-append}
 use Rattle.object_defs.specs.declared.form.TextForm.{TextForm}
 use Rattle.object_defs.specs.declared.causes.TagCause.{TagCause}
 use Rattle.object_defs.specs.Digits.{complement, checksum}
-use Rattle.object_defs.specs.Groups.{FoundGroup, tag_at, found_with, ends_line, size_found, groups_from}
-use Rattle.object_laws.specs.Running.{Kept, kept_with, kept_groups}
+use Rattle.object_defs.specs.Groups.{FoundGroup, tag_at, found_with, ends_line, size_found}
+use Rattle.object_laws.proofs.Places.{passed_over}
+use Rattle.object_laws.specs.Running.{Kept, kept_with, kept_groups, groups_after}
 use Rattle.object_tags.specs.declared.error.Failure.{Failure}
 use Rattle.object_tags.specs.declared.error.Failure.TheVariants as failures
 use Rattle.object_tags.specs.Answers.{Fails}
 
 sum-append : (a b : List ℕ) → sum (a ++ b) ≡ sum a + sum b
 sum-append a b = sum_by-append (λ (x : ℕ). x) a b
-
--- the characters that are left of a group are passed over
-passed_over : (form : TextForm) (before : List ℕ) (left : ℕ) (rest : List ℕ)
-    → groups_from form before left rest ≡ groups_from form (before ++ take left rest) 0 (drop left rest)
-unfolding groups_from
-passed_over form before zero rest = ap (λ (b : List ℕ). groups_from form b 0 rest) (sym (append-nil before))
-passed_over form before (suc left) [] = refl
-passed_over form before (suc left) (byte ∷ rest) =
-    passed_over form (before ++ byte ∷ []) left rest ∙ ap (λ (b : List ℕ). groups_from form b 0 (drop left rest))
-    (append_assoc before (byte ∷ []) (take left rest))
 
 -- a line up to a place, some characters behind it, and the rest
 module _ (line : List ℕ) (at left : ℕ) (inside : at ≤ length line) where
@@ -51,8 +42,8 @@ module _ (line : List ℕ) (at left : ℕ) (inside : at ≤ length line) where
   passed_within = omega (arith, size, ap length parts, length-append (take at line ++ passed) rest)
 
   -- the groups behind the characters
-  pub groups_behind : (form : TextForm) → groups_from form (take (at + length passed) line) 0 (drop (at + length passed) line)
-      ≡ groups_from form (take at line) left (drop at line)
+  pub groups_behind : (form : TextForm) → groups_after form (take (at + length passed) line) 0 (drop (at + length passed) line)
+      ≡ groups_after form (take at line) left (drop at line)
   groups_behind form = rw (front_is, rest_is) (sym (passed_over form (take at line) left (drop at line)))
 
   -- the sum of the line through them
@@ -85,20 +76,20 @@ module _ (line : List ℕ) (at : ℕ) (inside : at < length line) where
   -- what stands in the place of a group, and the groups behind it
   pub first_group : (form : TextForm) (found : FoundGroup) → found ≡ found_with form (checksum (before ++ byte ∷ [])) byte (tag_at form at byte)
       (drop (at + 1) line)
-      → groups_from form before 0 (drop at line) ≡ found ∷ cond (ends_line found) []
-      (groups_from form (take (at + 1) line) (size_found form found) (drop (at + 1) line))
-  unfolding groups_from
+      → groups_after form before 0 (drop at line) ≡ found ∷ cond (ends_line found) []
+      (groups_after form (take (at + 1) line) (size_found form found) (drop (at + 1) line))
+  unfolding groups_after
   first_group form found is =
       let place : length before ≡ at = length-take-le at line (omega (arith, inside)) in
       rw (cut, place, ← is, one) refl
 
 -- no group is left
-pub no_groups : (form : TextForm) (line : List ℕ) (at : ℕ) → at ≡ length line → groups_from form (take at line) 0 (drop at line) ≡ []
-unfolding groups_from
+pub no_groups : (form : TextForm) (line : List ℕ) (at : ℕ) → at ≡ length line → groups_after form (take at line) 0 (drop at line) ≡ []
+unfolding groups_after
 no_groups form line at e = let none : drop at line ≡ [] = nil_from_length (drop at line) (omega (arith, length-drop at line)) in rw none refl
 
-pub none_left : (form : TextForm) → groups_from form [] 0 [] ≡ []
-unfolding groups_from
+pub none_left : (form : TextForm) → groups_after form [] 0 [] ≡ []
+unfolding groups_after
 none_left form = refl
 
 -- the groups that are left of a line, and what they lead to

@@ -2,6 +2,7 @@
 
 ghost use Rattle.std.specs.Prelude.{◌≡◌, ◌≤◌, ◌<◌, ◌^◌, ◌%◌, length, take, drop, sum, []};
 ghost use Rattle.object_defs.specs.Groups as spec;
+ghost use Rattle.object_laws.specs.Running.{groups_after};
 ghost use Rattle.object_tags.specs.SeenGroups.{defined_found, defined_whole};
 
 use crate::checksum::{complement, sum_of};
@@ -26,11 +27,12 @@ pub(crate) struct Groups<'a> {
 
 impl<'a> Model for Groups<'a> {
     ghost use Rattle.std.specs.Prelude.{◌≡◌, ℕ, List, ◌≤◌, ◌<◌, ◌^◌, ◌%◌, length, take, drop, sum};
-    ghost use Rattle.object_defs.specs.Groups.{FoundGroup, groups_from};
+    ghost use Rattle.object_defs.specs.Groups.{FoundGroup};
+    ghost use Rattle.object_laws.specs.Running.{groups_after};
 
     ghost Value = { List FoundGroup };
 
-    ghost view = { λ s. groups_from s.form (take s.at s.line.now) 0 (drop s.at s.line.now) };
+    ghost view = { λ s. groups_after s.form (take s.at s.line.now) 0 (drop s.at s.line.now) };
 
     ghost invariant = { λ s. (s.at ≤ length s.line.now) × (length s.line.now < 2 ^ 32)
         × (s.total ≡ sum (take s.at s.line.now) % 65536) };
@@ -40,7 +42,7 @@ impl<'a> Groups<'a> {
     /// The groups of a line.
     pub(crate) fn new(form: TextForm, line: &'a [u8]) -> Groups<'a>
         requires { length line.now < 2 ^ 32 }
-        ensures { result ≡ spec.groups_from form [] 0 line.now }
+        ensures { result ≡ groups_after form [] 0 line.now }
     {
         Groups {
             form,
@@ -55,7 +57,7 @@ impl<'a> Groups<'a> {
         requires line { length line.now < 2 ^ 32 }
         requires at { at ≤ length line.now }
         requires total { total ≡ sum (take at line.now) % 65536 }
-        ensures { result ≡ spec.groups_from form (take at line.now) left (drop at line.now) }
+        ensures { result ≡ groups_after form (take at line.now) left (drop at line.now) }
     {
         let passed = front(behind(line, at), left);
         Groups {

@@ -1,7 +1,6 @@
 //! The modules of the lines so far.
 
 ghost use Rattle.std.specs.Prelude.{◌≡◌, ◌<◌, ◌^◌, length, [], IsFalse, None, Some};
-ghost use Rattle.object_defs.specs.Groups.{groups_from};
 ghost use Rattle.object_laws.specs.Running as running;
 ghost use Rattle.object_tags.specs.Answers.{Leaves, Gives, defined_modules, defined_open};
 ghost use Rattle.object_tags.specs.Reads.{kept_of, TakesLine};
@@ -70,7 +69,7 @@ impl Reader {
     fn take_groups(&mut self, alloc: Global, form: TextForm, line: &[u8]) -> Result<(), Failure>
         requires { length line.now < 2 ^ 32 }
         ensures { Leaves result (kept_of self.new)
-            (running.kept_groups (kept_of self.old) (groups_from form [] 0 line.now)) }
+            (running.kept_groups (kept_of self.old) (running.groups_after form [] 0 line.now)) }
     {
         for found in Groups::new(form, line) {
             self.take_group(alloc, found)?;

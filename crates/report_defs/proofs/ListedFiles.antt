@@ -1,5 +1,5 @@
 -- A listing of dis copies no file, so asm makes its words again, whatever files there are.
-use Rattle.std.proofs.Common.{◌≡◌, ℕ, zero, suc, ◌+◌, ◌-◌, ◌*◌, ◌/◌, ◌<◌, ◌≤◌, Bool, true, false, List, [], ◌∷◌, ◌++◌, length, append_assoc, refl, ap, sym, subst, ◌∙◌}
+use Rattle.std.proofs.Common.{◌≡◌, ℕ, zero, suc, ◌+◌, ◌-◌, ◌*◌, ◌/◌, ◌<◌, ◌≤◌, Bool, true, false, List, [], ◌∷◌, ◌++◌, drop, length, append_assoc, refl, ap, sym, subst, ◌∙◌}
 use Rattle.std.proofs.Common.{Ok, Option, Some, None, arith}
 use Rattle.std.specs.Prelude.{Result, map, slice_get, codes, if◌then◌else◌}
 use Rattle.std.specs.Option.{unwrap_or}
@@ -21,7 +21,7 @@ use Rattle.shelf_defs.specs.Copied.{Place, PlacedLine, Ended, Copied, lines_in, 
 use Rattle.shelf_defs.specs.Assembly.{texts, places, place_of, in_place, module_of_copied, module_of_files}
 use Rattle.listed_lines.proofs.LineTexts.{lines_joined, clean_lines, text_of}
 use Rattle.word_listings.specs.Listing.{memory_listing, words_in}
-use Rattle.word_listings.specs.Modules.{wraps, first_wrapping, unless_far}
+use Rattle.word_listings.specs.Modules.{wraps, wrapping_from, first_wrapping, unless_far}
 use Rattle.word_listings.specs.Law.{StandEven, listed_module}
 use Rattle.word_listings.proofs.ListingLaw.{AllBytes, aorg_text, are_words, words_fit, listing_texts, listing_ends, clean_all, listing_is, behind_laid, odd_texts}
 use Rattle.word_listings.proofs.Behind.{texts_from}
@@ -89,16 +89,17 @@ behind_copied lines all answer a b = rw (texts_placed 1 lines, a, b) refl
 
 -- ---- the report
 
-first_from : (words : List ℕ) (number at belonging found : ℕ) → first_wrapping number at belonging words ≡ Some found → number ≤ found
-first_from [] number at belonging found e = cc e
-first_from (word ∷ words) number at (suc belonging) found e = first_from words number (at + 2) belonging found e
-first_from (word ∷ words) number at zero found e =
-    by (wraps at (instr_at word)) e (first_from words (number + 1) (at + 2) ((printed (word ∷ words) at).count - 1) found)
+first_from : (most : ℕ) (words : List ℕ) (number at found : ℕ) → wrapping_from most number at words ≡ Some found → number ≤ found
+first_from zero words number at found e = cc e
+first_from (suc most) [] number at found e = cc e
+first_from (suc most) (word ∷ words) number at found e =
+    let count = (printed (word ∷ words) at).count in
+    by (wraps at (instr_at word)) (wrapping_from most (number + 1) (at + 2 * count) (drop count (word ∷ words))) e
+    (first_from most (drop count (word ∷ words)) (number + 1) (at + 2 * count) found)
   where
-    by : (far : Bool) → (if far then Some number else first_wrapping (number + 1) (at + 2) ((printed (word ∷ words) at).count - 1) words) ≡ Some found
-        → (first_wrapping (number + 1) (at + 2) ((printed (word ∷ words) at).count - 1) words ≡ Some found → number + 1 ≤ found) → number ≤ found
-    by true e rest = let same : number ≡ found = cc e in omega (arith, same)
-    by false e rest = let le = rest e in omega (arith, le)
+    by : (far : Bool) (later : Option ℕ) → (if far then Some number else later) ≡ Some found → (later ≡ Some found → number + 1 ≤ found) → number ≤ found
+    by true later e rest = let same : number ≡ found = cc e in omega (arith, same)
+    by false later e rest = let le = rest e in omega (arith, le)
 
 same_report : (lines : List (List ℕ)) (found : Module) (far : Option ℕ) → ((number : ℕ) → far ≡ Some number → 0 < number)
     → copy_report (in_place (placed 1 lines) (unless_far far found)) ≡ asm_report (unless_far far found)
@@ -117,7 +118,7 @@ module _ (half : ℕ) (bytes : List ℕ) (files : Files) (stands : StandEven (2 
 
   texts_are : found_texts ≡ found_front ++ codes "END" ∷ []
   texts_are =
-      ap (λ texts. aorg_text (2 * half) stands.below ∷ texts) (sym (append_assoc (texts_from (2 * half) 0 (words_in bytes)) (odd_texts bytes) (codes "END" ∷ [])))
+      ap (λ texts. aorg_text (2 * half) stands.below ∷ texts) (sym (append_assoc (texts_from (length (words_in bytes)) (2 * half) (words_in bytes)) (odd_texts bytes) (codes "END" ∷ [])))
 
   copied_all : copied files (concat (memory_listing (2 * half) bytes)) ≡ whole 1 0 (map listed found_texts)
   unfolding memory_listing
@@ -142,8 +143,8 @@ module _ (half : ℕ) (bytes : List ℕ) (files : Files) (stands : StandEven (2 
   report_is =
       sym (
       ap copy_report module_is
-      ∙ same_report (map listed found_texts) _ (first_wrapping 2 (2 * half) 0 (words_in bytes))
-      (λ number e. let le = first_from (words_in bytes) 2 (2 * half) 0 number e in omega (arith, le))
+      ∙ same_report (map listed found_texts) _ (first_wrapping 2 (2 * half) (words_in bytes))
+      (λ number e. let le = first_from (length (words_in bytes)) (words_in bytes) 2 (2 * half) number e in omega (arith, le))
       )
 
 report_at : (at : ℕ) (input : List ℕ) (files : Files) → StandEven at input

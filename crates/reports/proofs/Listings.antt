@@ -9,7 +9,7 @@ use Rattle.source_defs.specs.Digits.{hex_byte}
 use Rattle.tms_defs.specs.Words.{join}
 use Rattle.instruction_defs.specs.Printed.{printed}
 use Rattle.instruction_defs.proofs.Windows.{count_within}
-use Rattle.word_listings.specs.Listing.{listing_line, words_in, lines_from, odd_byte_lines}
+use Rattle.word_listings.specs.Listing.{listing_line, words_in, lines_from, word_lines, odd_byte_lines}
 
 abbrev nothing : List ℕ
 nothing = []
@@ -61,30 +61,38 @@ front_three (a ∷ b ∷ c ∷ rest) = let e : min (length (a ∷ b ∷ c ∷ re
 pub three_words : (bytes : List ℕ) (count a b c : ℕ) → count ≡ min (length bytes / 2) 3 → a ≡ get_or (words_in bytes) 0 0 → b ≡ get_or (words_in bytes) 1 0 → c ≡ get_or (words_in bytes) 2 0 → take count (a ∷ b ∷ c ∷ []) ≡ take 3 (words_in bytes)
 three_words bytes count a b c is p q r = rw (is, p, q, r, ← words_length bytes) (front_three (words_in bytes))
 
--- the words that belong to an instruction before them have no line of their own
-skipped : (n at : ℕ) (words : List ℕ) → lines_from at n words ≡ lines_from (at + 2 * n) 0 (drop n words)
-skipped zero at words = ap (λ a. lines_from a 0 words) (omega arith)
-skipped (suc n) at [] = refl
-skipped (suc n) at (word ∷ words) = skipped n (at + 2) words ∙ ap (λ a. lines_from a 0 (drop n words)) (omega arith)
+-- a greater number of lines at most makes no others
+enough : (most more at : ℕ) (words : List ℕ) → length words ≤ most → most ≤ more → lines_from more at words ≡ lines_from most at words
+enough zero zero at words few le = refl
+enough zero (suc more) at [] few le = refl
+enough zero (suc more) at (word ∷ words) few le = absurd (omega (arith, few))
+enough (suc most) zero at words few le = absurd (omega (arith, le))
+enough (suc most) (suc more) at [] few le = refl
+enough (suc most) (suc more) at (word ∷ words) few le =
+    let front = printed (word ∷ words) at in
+    let some = (count_within word words at).0 in
+    let left = length-drop front.count (word ∷ words) in
+    ap (λ lines. listing_line front.text ∷ lines)
+    (enough most more (at + 2 * front.count) (drop front.count (word ∷ words)) (omega (arith, few, some, left)) (omega (arith, le)))
 
--- the line of the instruction at the front of some words, and then the lines of those behind it
-front_words : (at word : ℕ) (words : List ℕ) → let front = printed (word ∷ words) at in lines_from at 0 (word ∷ words) ≡ listing_line front.text ∷ lines_from (at + 2 * front.count) 0 (drop front.count (word ∷ words))
-front_words at word words = by (printed (word ∷ words) at).count (count_within word words at).0
-  where
-    by : (count : ℕ) → 1 ≤ count → listing_line (printed (word ∷ words) at).text ∷ lines_from (at + 2) (count - 1) words ≡ listing_line (printed (word ∷ words) at).text ∷ lines_from (at + 2 * count) 0 (drop count (word ∷ words))
-    by zero some = absurd (omega arith)
-    by (suc n) some =
-        let e : suc n - 1 ≡ n = omega arith in
-        rw e (ap (λ lines. listing_line (printed (word ∷ words) at).text ∷ lines) (skipped n (at + 2) words ∙ ap (λ a. lines_from a 0 (drop n words)) (omega arith)))
+-- the line of the instruction at the front of some words, and then the lines of those after it
+front_words : (at word : ℕ) (words : List ℕ) → let front = printed (word ∷ words) at in word_lines at (word ∷ words) ≡ listing_line front.text ∷ word_lines (at + 2 * front.count) (drop front.count (word ∷ words))
+front_words at word words =
+    let front = printed (word ∷ words) at in
+    let rest = drop front.count (word ∷ words) in
+    let some = (count_within word words at).0 in
+    let left = length-drop front.count (word ∷ words) in
+    ap (λ lines. listing_line front.text ∷ lines)
+    (enough (length rest) (length words) (at + 2 * front.count) rest (omega arith) (omega (arith, some, left)))
 
 -- the same of the words that bytes hold
-pub front_bytes : (at : ℕ) (bytes : List ℕ) → 1 < length bytes → let front = printed (words_in bytes) at in lines_from at 0 (words_in bytes) ≡ listing_line front.text ∷ lines_from (at + 2 * front.count) 0 (words_in (drop (2 * front.count) bytes))
+pub front_bytes : (at : ℕ) (bytes : List ℕ) → 1 < length bytes → let front = printed (words_in bytes) at in word_lines at (words_in bytes) ≡ listing_line front.text ∷ word_lines (at + 2 * front.count) (words_in (drop (2 * front.count) bytes))
 front_bytes at [] some = absurd (omega arith)
 front_bytes at (a ∷ []) some = absurd (omega arith)
 front_bytes at (a ∷ b ∷ rest) some =
     let front = printed (words_in (a ∷ b ∷ rest)) at in
     front_words at (join a b) (words_in rest)
-    ∙ ap (λ words. listing_line front.text ∷ lines_from (at + 2 * front.count) 0 words) (sym (words_behind front.count (a ∷ b ∷ rest)))
+    ∙ ap (λ words. listing_line front.text ∷ word_lines (at + 2 * front.count) words) (sym (words_behind front.count (a ∷ b ∷ rest)))
 
 -- an instruction has one word at least, and no byte that is not there
 pub front_count : (at : ℕ) (bytes : List ℕ) → 1 < length bytes → let front = printed (words_in bytes) at in 1 ≤ front.count × 2 * front.count ≤ length bytes
@@ -98,22 +106,22 @@ front_count at (a ∷ b ∷ rest) some =
 pub record Listed (at : ℕ) (bytes : List ℕ) (place : ℕ) (before after : SinkState) : Type 0 where
   pub lines : List (List ℕ)
   pub wrote : Wrote before after lines
-  pub rest : lines_from at 0 (words_in bytes) ≡ lines ++ lines_from (at + place) 0 (words_in (drop place bytes))
+  pub rest : word_lines at (words_in bytes) ≡ lines ++ word_lines (at + place) (words_in (drop place bytes))
 
 pub listed_none : (at : ℕ) (bytes : List ℕ) (state : SinkState) → Listed at bytes 0 state state
 listed_none at bytes state = record {
   lines = [];
   wrote = wrote_none state;
-  rest = ap (λ a. lines_from a 0 (words_in bytes)) (omega arith);
+  rest = ap (λ a. word_lines a (words_in bytes)) (omega arith);
 }
 
 -- the rest of the lines begin with the line of the instruction at the place
-next_line : (at place : ℕ) (bytes : List ℕ) → place + 1 < length bytes → let front = printed (words_in (drop place bytes)) (at + place) in lines_from (at + place) 0 (words_in (drop place bytes)) ≡ listing_line front.text ∷ lines_from (at + (place + 2 * front.count)) 0 (words_in (drop (place + 2 * front.count) bytes))
+next_line : (at place : ℕ) (bytes : List ℕ) → place + 1 < length bytes → let front = printed (words_in (drop place bytes)) (at + place) in word_lines (at + place) (words_in (drop place bytes)) ≡ listing_line front.text ∷ word_lines (at + (place + 2 * front.count)) (words_in (drop (place + 2 * front.count) bytes))
 next_line at place bytes some =
     let front = printed (words_in (drop place bytes)) (at + place) in
     front_bytes (at + place) (drop place bytes) (omega (arith, length-drop place bytes))
-    ∙ ap (λ a. listing_line front.text ∷ lines_from a 0 (words_in (drop (2 * front.count) (drop place bytes)))) (omega arith)
-    ∙ ap (λ bytes. listing_line front.text ∷ lines_from (at + (place + 2 * front.count)) 0 (words_in bytes)) (drop-drop (2 * front.count) place bytes)
+    ∙ ap (λ a. listing_line front.text ∷ word_lines a (words_in (drop (2 * front.count) (drop place bytes)))) (omega arith)
+    ∙ ap (λ bytes. listing_line front.text ∷ word_lines (at + (place + 2 * front.count)) (words_in bytes)) (drop-drop (2 * front.count) place bytes)
 
 pub listed_more : (at place count : ℕ) (bytes : List ℕ) (a b c : SinkState) → place + 1 < length bytes → let front = printed (words_in (drop place bytes)) (at + place) in count ≡ front.count → Listed at bytes place a b → Wrote b c (listing_line front.text ∷ []) → Listed at bytes (place + 2 * count) a c
 listed_more at place count bytes a b c some is listed wrote =
@@ -127,21 +135,21 @@ listed_more at place count bytes a b c some is listed wrote =
     })
 
 -- the line at the place could not be written
-pub listed_missed : (at place : ℕ) (bytes : List ℕ) (a b c : SinkState) → place + 1 < length bytes → let front = printed (words_in (drop place bytes)) (at + place) in Listed at bytes place a b → Missed b c (listing_line front.text ∷ []) → Missed a c (lines_from at 0 (words_in bytes))
+pub listed_missed : (at place : ℕ) (bytes : List ℕ) (a b c : SinkState) → place + 1 < length bytes → let front = printed (words_in (drop place bytes)) (at + place) in Listed at bytes place a b → Missed b c (listing_line front.text ∷ []) → Missed a c (word_lines at (words_in bytes))
 listed_missed at place bytes a b c some listed missed =
     let front = printed (words_in (drop place bytes)) (at + place) in
     let all = listed.rest ∙ ap (λ lines. listed.lines ++ lines) (next_line at place bytes some) in
     rw all
-    (missed_more a b c listed.lines (listing_line front.text ∷ lines_from (at + (place + 2 * front.count)) 0 (words_in (drop (place + 2 * front.count) bytes))) listed.wrote
-    (missed_early b c (listing_line front.text ∷ []) (lines_from (at + (place + 2 * front.count)) 0 (words_in (drop (place + 2 * front.count) bytes))) missed))
+    (missed_more a b c listed.lines (listing_line front.text ∷ word_lines (at + (place + 2 * front.count)) (words_in (drop (place + 2 * front.count) bytes))) listed.wrote
+    (missed_early b c (listing_line front.text ∷ []) (word_lines (at + (place + 2 * front.count)) (words_in (drop (place + 2 * front.count) bytes))) missed))
 
-few_words : (at : ℕ) (bytes : List ℕ) → length bytes ≤ 1 → lines_from at 0 (words_in bytes) ≡ []
+few_words : (at : ℕ) (bytes : List ℕ) → length bytes ≤ 1 → word_lines at (words_in bytes) ≡ []
 few_words at [] few = refl
 few_words at (a ∷ []) few = refl
 few_words at (a ∷ b ∷ rest) few = absurd (omega arith)
 
 -- no word is left
-pub listed_all : (at place : ℕ) (bytes : List ℕ) (a b : SinkState) → length bytes ≤ place + 1 → Listed at bytes place a b → Wrote a b (lines_from at 0 (words_in bytes))
+pub listed_all : (at place : ℕ) (bytes : List ℕ) (a b : SinkState) → length bytes ≤ place + 1 → Listed at bytes place a b → Wrote a b (word_lines at (words_in bytes))
 listed_all at place bytes a b few listed =
     let none = few_words (at + place) (drop place bytes) (omega (arith, length-drop place bytes)) in
     let all = listed.rest ∙ (ap (λ lines. listed.lines ++ lines) none ∙ append-nil listed.lines) in

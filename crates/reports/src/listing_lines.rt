@@ -31,7 +31,7 @@ pub(crate) fn origin_line(at: u16) -> Line
 #[tactic(auto, using(bench_io::proofs::Writes::wrote_none))]
 pub(crate) fn put_instructions<O: Sink>(at: u16, bytes: &[u8], out: &mut O) -> Result<(), Failed>
     requires { at + length bytes.now ≤ 65536 }
-    ensures { Written result (O.state out.old) (O.state out.new) (spec.lines_from at 0 (spec.words_in bytes.now)) }
+    ensures { Written result (O.state out.old) (O.state out.new) (spec.word_lines at (spec.words_in bytes.now)) }
 {
     let mut line = Line::new();
     let mut place = 0;

@@ -1,5 +1,5 @@
 -- Lines behind others: where they stand, what they hold, where one is refused; and those of words, to the last line.
-use Rattle.std.proofs.Common.{◌≡◌, ℕ, ◌+◌, ◌*◌, ◌≤◌, Bool, true, false, List, [], ◌∷◌, ◌++◌, zero, suc, ◌-◌, ◌%◌, ◌<◌}
+use Rattle.std.proofs.Common.{◌≡◌, ℕ, ◌+◌, ◌*◌, ◌≤◌, Bool, true, false, List, [], ◌∷◌, ◌++◌, zero, suc, ◌%◌}
 use Rattle.std.proofs.Common.{length, refl, ap, ◌∙◌, Ok, Some, None, arith}
 use Rattle.std.specs.Option.{option_map}
 use Rattle.std.specs.Prelude.{Result, Err, ◌||◌, map, max, nat_le, Option, if◌then◌else◌}
@@ -27,12 +27,12 @@ use Rattle.line_laws.proofs.PlacedWords.{HoldWords, ComesNext, hold_more}
 use Rattle.line_laws.proofs.SecondChecks.{has_room}
 use Rattle.line_laws.proofs.Small.{chosen}
 use Rattle.word_listings.proofs.LineBacks.{absolute_at, LineBack, Counts, come_unless, words_back}
-use Rattle.std.proofs.Common.{length-append, append_assoc, append-nil, take-append-drop, length-take-le, take, drop, sym, subst}
+use Rattle.std.proofs.Common.{length-append, append_assoc, append-nil, take-append-drop, length-take-le, length-drop, get_or-drop, take, drop, sym, subst}
 use Rattle.tms_defs.specs.Instructions.{instr_at}
 use Rattle.instruction_defs.specs.declared.causes.FormError.TheVariants.{JumpTooFar}
 use Rattle.instruction_defs.specs.Printed.{printed}
 use Rattle.asm_defs.specs.declared.causes.AsmCause.TheVariants.{Form}
-use Rattle.word_listings.specs.Modules.{wraps, first_wrapping, unless_far}
+use Rattle.word_listings.specs.Modules.{wraps, wrapping_from, unless_far}
 use Rattle.word_listings.proofs.Instructions.{AreWords}
 
 -- lines behind which the location is an absolute place, and which say nothing else
@@ -199,18 +199,13 @@ holds_next before number text at next more earlier from words taken holds there 
 
 -- what the lines of words say
 abbrev pub texts_from : ℕ → ℕ → List ℕ → List (List ℕ)
-texts_from at belonging [] = []
-texts_from at (suc belonging) (word ∷ words) = texts_from (at + 2) belonging words
-texts_from at zero (word ∷ words) =
-    let front = printed (word ∷ words) at in front.text ∷ texts_from (at + 2) (front.count - 1) words
+texts_from zero at words = []
+texts_from (suc most) at [] = []
+texts_from (suc most) at words =
+    let front = printed words at in front.text ∷ texts_from most (at + 2 * front.count) (drop front.count words)
 
-drop_none : (n : ℕ) → ◌≡◌ {A = List ℕ} (drop n []) []
-drop_none zero = refl
-drop_none (suc n) = refl
-
-dropped : (word : ℕ) (words : List ℕ) (count : ℕ) → 0 < count → drop (count - 1) words ≡ drop count (word ∷ words)
-dropped word words zero lt = absurd (omega (arith, lt))
-dropped word words (suc count) lt = let same : suc count - 1 ≡ count = omega arith in ap (λ n. drop n words) same
+pub drop_words : (count : ℕ) (words : List ℕ) → AreWords words → AreWords (drop count words)
+drop_words count words are k = rw (get_or-drop count words k 0) (are (count + k))
 
 module _ (from : ℕ) (total : List ℕ) (tails : List (List ℕ)) (whole : Module) (end : ℕ) (below : end ≤ 65536) where
   -- the last lines, behind all words or where a line before is refused
@@ -230,14 +225,13 @@ module _ (from : ℕ) (total : List ℕ) (tails : List (List ℕ)) (whole : Modu
   finish (Err refusal) far = Err refusal
 
   module _ (closes : Closes) where
-    abbrev GoesFrom : List ℕ → Type 0
-    GoesFrom words =
-        (at belonging number : ℕ) (before : List Line) (come : Result (List ℕ) (Refusal AsmCause)) → belonging ≤ length words →
-        at % 2 ≡ 0 → at + 2 * length words ≡ end → AreWords words → Stands before (at + 2 * belonging) → Comes before from come →
-        AreAll come (drop belonging words) (at + 2 * belonging) →
-        Ends before number (texts_from at belonging words ++ tails) (finish come (first_wrapping number at belonging words))
+    abbrev GoesFrom : ℕ → Type 0
+    GoesFrom most =
+        (words : List ℕ) (at number : ℕ) (before : List Line) (come : Result (List ℕ) (Refusal AsmCause)) → length words ≤ most →
+        at % 2 ≡ 0 → at + 2 * length words ≡ end → AreWords words → Stands before at → Comes before from come → AreAll come words at →
+        Ends before number (texts_from most at words ++ tails) (finish come (wrapping_from most number at words))
 
-    module _ (word : ℕ) (words : List ℕ) (others : GoesFrom words) (at number : ℕ) (before : List Line) (even : at % 2 ≡ 0)
+    module _ (most word : ℕ) (words : List ℕ) (others : GoesFrom most) (at number : ℕ) (before : List Line) (few : length words ≤ most) (even : at % 2 ≡ 0)
         (size : at + 2 * length (word ∷ words) ≡ end) (are : AreWords (word ∷ words)) (stands : Stands before at) where
       abbrev count : ℕ
       count = (printed (word ∷ words) at).count
@@ -245,27 +239,28 @@ module _ (from : ℕ) (total : List ℕ) (tails : List (List ℕ)) (whole : Modu
       abbrev text : List ℕ
       text = (printed (word ∷ words) at).text
 
+      abbrev rest : List ℕ
+      rest = drop count (word ∷ words)
+
       abbrev later : Option ℕ
-      later = first_wrapping (number + 1) (at + 2) (count - 1) words
+      later = wrapping_from most (number + 1) (at + 2 * count) rest
 
       go_on : {answer : Result Outcome AsmCause} (line : Taken before number text at (at + 2 * count) false answer)
           (come : Result (List ℕ) (Refusal AsmCause)) → Counts (word ∷ words) text count → Comes (line.line ∷ before) from come →
-          AreAll come (drop count (word ∷ words)) (at + 2 * count) →
-          Ends before number (text ∷ (texts_from (at + 2) (count - 1) words ++ tails)) (finish come later)
+          AreAll come rest (at + 2 * count) →
+          Ends before number (text ∷ (texts_from most (at + 2 * count) rest ++ tails)) (finish come later)
       go_on line come counts comes all =
           let some = counts.some in
           let within = counts.within in
-          let next : at + 2 * count ≡ at + 2 + 2 * (count - 1) = omega (arith, some) in
+          let left = length-drop count (word ∷ words) in
           ends_more before number _ _ _ _ _ _ line
-          (others (at + 2) (count - 1) (number + 1) (line.line ∷ before) come (omega (arith, within)) (omega (arith, even))
-          (omega (arith, size)) (λ k. are (suc k)) (subst (Stands (line.line ∷ before)) next line.stands) comes
-          (subst (AreAll come (drop (count - 1) words)) next
-          (subst (λ rest. AreAll come rest (at + 2 * count)) (sym (dropped word words count some)) all)))
+          (others rest (at + 2 * count) (number + 1) (line.line ∷ before) come (omega (arith, left, few, some)) (omega (arith, even))
+          (omega (arith, size, left, within)) (drop_words count (word ∷ words) are) line.stands comes all)
 
       goes_by : (far : Bool) → LineBack at text (2 * count) false (come_unless far (take count (word ∷ words))) →
           Counts (word ∷ words) text count → (come : Result (List ℕ) (Refusal AsmCause)) → Comes before from come →
           AreAll come (word ∷ words) at →
-          Ends before number (text ∷ (texts_from (at + 2) (count - 1) words ++ tails)) (finish come (if far then Some number else later))
+          Ends before number (text ∷ (texts_from most (at + 2 * count) rest ++ tails)) (finish come (if far then Some number else later))
       goes_by far back counts (Err refusal) comes all =
           let within = counts.within in
           let line = taken at text (2 * count) false _ back (omega (arith, size, below, within)) before stands number in
@@ -289,20 +284,19 @@ module _ (from : ℕ) (total : List ℕ) (tails : List (List ℕ)) (whole : Modu
                 ∙ (ap (λ rest. held ++ rest) (take-append-drop count (word ∷ words)) ∙ all.1),
           )
 
-    pub goes_from : (words : List ℕ) → GoesFrom words
-    goes_from [] at belonging number before (Err refusal) le even size are stands comes all =
-        let ends : at + 2 * belonging ≡ end = omega (arith, size, le) in
-        (closes before number (subst (Stands before) ends stands)).1 refusal comes
-    goes_from [] at belonging number before (Ok held) le even size are stands comes all =
-        let ends : at + 2 * belonging ≡ end = omega (arith, size, le) in
-        let same : held ≡ total = sym (append-nil held) ∙ (ap (λ rest. held ++ rest) (sym (drop_none belonging)) ∙ all.1) in
-        (closes before number (subst (Stands before) ends stands)).0 comes.0 (subst (Holds before comes.0 from) same comes.1)
-    goes_from (word ∷ words) at zero number before come le even size are stands comes all =
-        let here : at + 2 * 0 ≡ at = omega arith in
+    no_more : (at number : ℕ) (before : List Line) (come : Result (List ℕ) (Refusal AsmCause)) → at + 2 * 0 ≡ end → Stands before at → Comes before from come →
+        AreAll come [] at → Ends before number tails (finish come None)
+    no_more at number before (Err refusal) size stands comes all =
+        (closes before number (subst (Stands before) (omega (arith, size)) stands)).1 refusal comes
+    no_more at number before (Ok held) size stands comes all =
+        let same : held ≡ total = sym (append-nil held) ∙ all.1 in
+        (closes before number (subst (Stands before) (omega (arith, size)) stands)).0 comes.0 (subst (Holds before comes.0 from) same comes.1)
+
+    pub goes_from : (most : ℕ) → GoesFrom most
+    goes_from zero (word ∷ words) at number before come few even size are stands comes all = absurd (omega (arith, few))
+    goes_from zero [] at number before come few even size are stands comes all = no_more at number before come size stands comes all
+    goes_from (suc most) [] at number before come few even size are stands comes all = no_more at number before come size stands comes all
+    goes_from (suc most) (word ∷ words) at number before come few even size are stands comes all =
         let back = words_back at (omega (arith, size, below)) even word words are in
-        goes_by word words (goes_from words) at number before even size are (subst (Stands before) here stands)
-        (wraps at (instr_at word)) back.0 back.1 come comes (subst (AreAll come (word ∷ words)) here all)
-    goes_from (word ∷ words) at (suc belonging) number before come le even size are stands comes all =
-        let next : at + 2 * suc belonging ≡ at + 2 + 2 * belonging = omega arith in
-        goes_from words (at + 2) belonging number before come (omega (arith, le)) (omega (arith, even)) (omega (arith, size))
-        (λ k. are (suc k)) (subst (Stands before) next stands) comes (subst (AreAll come (drop belonging words)) next all)
+        goes_by most word words (goes_from most) at number before (omega (arith, few)) even size are stands
+        (wraps at (instr_at word)) back.0 back.1 come comes all

@@ -1,7 +1,7 @@
 -- The listing of memory is assembled to its words, or refused for a jump that wraps; its lines copy no file; and no jump
 -- wraps far from the ends of memory.
 use Rattle.std.proofs.Common.{◌≡◌, inr, ℕ, zero, suc, ◌+◌, ◌-◌, ◌*◌, ◌/◌, ◌%◌, ◌<◌, ◌≤◌, true, List, [], ◌∷◌, ◌++◌}
-use Rattle.std.proofs.Common.{length, refl, ap, sym, subst, ◌∙◌, Ok, Some, None, arith, Bool, false, Option}
+use Rattle.std.proofs.Common.{length, length-drop, drop, refl, ap, sym, subst, ◌∙◌, Ok, Some, None, arith, Bool, false, Option}
 use Rattle.std.specs.Prelude.{Result, Option, map, nat_le, slice_index, codes}
 use Rattle.std.specs.List.{list_all, concat, AllByRecursion}
 use Rattle.std.proofs.lemmas.Bool.Decides.{nat_tests}
@@ -16,6 +16,7 @@ use Rattle.tms_defs.specs.Words.{join}
 use Rattle.object_defs.specs.Digits.{padded}
 use Rattle.object_defs.specs.Modules.{Module}
 use Rattle.instruction_defs.specs.Printed.{printed}
+use Rattle.instruction_defs.proofs.Windows.{count_within}
 use Rattle.asm_defs.specs.declared.causes.AsmCause.{AsmCause}
 use Rattle.asm_defs.specs.Directives.{directive}
 use Rattle.asm_defs.specs.Statements.{Aorg, statement_in, Statement, operation_statement}
@@ -25,17 +26,17 @@ use Rattle.asm_defs.specs.SecondChecks.{Nothing, outcome, Outcome}
 use Rattle.asm_defs.specs.Modules.{settle, module_by, module_behind, module_of_source}
 use Rattle.line_laws.proofs.PlacedWords.{HoldWords}
 use Rattle.line_laws.proofs.Whole.{none_by, room_still, hold_still}
-use Rattle.word_listings.specs.Listing.{memory_listing, words_in, lines_from, odd_byte_lines}
+use Rattle.word_listings.specs.Listing.{memory_listing, words_in, lines_from, word_lines, odd_byte_lines}
 use Rattle.listed_lines.proofs.DigitLaws.{word_passes}
 use Rattle.listed_lines.proofs.OperandLines.{whole, one_text}
 use Rattle.listed_lines.proofs.Scans.{all_both}
 use Rattle.listed_lines.proofs.LineTexts.{plain_byte, number_fit, Cut, Fit, cut_listed, in_line, listed_in_line, joined, lines_joined, clean, clean_lines, text_of}
-use Rattle.word_listings.specs.Modules.{padded_words, module_of_words, first_wrapping, unless_far}
+use Rattle.word_listings.specs.Modules.{padded_words, module_of_words, wrapping_from, first_wrapping, unless_far}
 use Rattle.word_listings.specs.Law.{StandEven, listed_module, WordListingsComeBack, EnteredListingsComeBack}
 use Rattle.word_listings.proofs.Slots.{known, word_value}
 use Rattle.word_listings.proofs.Instructions.{AreWords, instr_at-signed}
 use Rattle.word_listings.proofs.LineBacks.{absolute_at, byte_line, end_text, end_line, IsEntry, words_back, LineBack}
-use Rattle.word_listings.proofs.Behind.{Stands, Holds, Ends, same_place, texts_from, goes_from, Closes}
+use Rattle.word_listings.proofs.Behind.{Stands, Holds, Ends, same_place, texts_from, drop_words, goes_from, Closes}
 use Rattle.word_listings.proofs.LastLines.{closes_end, breaks_end, closes_byte, breaks_byte, words_held}
 use Rattle.source_defs.specs.Names.{is_word}
 use Rattle.std.specs.Prelude.{ℤ, pos, negsuc, FitsSigned, IfSome, if◌then◌else◌}
@@ -162,26 +163,25 @@ module _ (half : ℕ) (bytes : List ℕ) (entered : Option ℕ) (all : AllBytes 
   words = words_in bytes
 
   abbrev answer : Result Module (Refusal AsmCause)
-  answer = unless_far (first_wrapping 2 (2 * half) 0 words) (module_of_words (2 * half) (padded_words bytes) entered)
+  answer = unless_far (first_wrapping 2 (2 * half) words) (module_of_words (2 * half) (padded_words bytes) entered)
 
   abbrev texts : List (List ℕ)
-  texts = texts_from (2 * half) 0 words ++ tail_texts bytes entered
+  texts = texts_from (length words) (2 * half) words ++ tail_texts bytes entered
 
   all_go : (tails : List (List ℕ)) (whole : Module) (below : 2 * half + 2 * length words ≤ 65536)
       → Closes (2 * half) words tails whole (2 * half + 2 * length words) below
-      → Ends (aorg_line (2 * half) inside ∷ []) 2 (texts_from (2 * half) 0 words ++ tails) (unless_far (first_wrapping 2 (2 * half) 0 words) whole)
+      → Ends (aorg_line (2 * half) inside ∷ []) 2 (texts_from (length words) (2 * half) words ++ tails) (unless_far (first_wrapping 2 (2 * half) words) whole)
   all_go tails whole below closes =
-      let here : 2 * half + 2 * 0 ≡ 2 * half = omega arith in
-      goes_from (2 * half) words tails whole (2 * half + 2 * length words) below closes words (2 * half) 0 2 (aorg_line (2 * half) inside ∷ []) (Ok [])
+      goes_from (2 * half) words tails whole (2 * half + 2 * length words) below closes (length words) words (2 * half) 2 (aorg_line (2 * half) inside ∷ []) (Ok [])
       (omega arith) (omega arith) refl (are_words bytes all)
-      (subst (Stands (aorg_line (2 * half) inside ∷ [])) (sym here) (aorg_stands (2 * half) inside)) (_, aorg_holds (2 * half) inside half) (omega arith, refl)
+      (aorg_stands (2 * half) inside) (_, aorg_holds (2 * half) inside half) (omega arith, refl)
 
   by_rest : Rest bytes → Ends (aorg_line (2 * half) inside ∷ []) 2 texts answer
   by_rest (Even none padded size) =
       let below : 2 * half + 2 * length words ≤ 65536 = omega (arith, fits, size) in
-      subst (λ odd. Ends (aorg_line (2 * half) inside ∷ []) 2 (texts_from (2 * half) 0 words ++ (odd ++ end_text entered ∷ [])) answer) (sym none)
-      (subst (λ found. Ends (aorg_line (2 * half) inside ∷ []) 2 (texts_from (2 * half) 0 words ++ (end_text entered ∷ []))
-      (unless_far (first_wrapping 2 (2 * half) 0 words) (module_of_words (2 * half) found entered))) (sym padded)
+      subst (λ odd. Ends (aorg_line (2 * half) inside ∷ []) 2 (texts_from (length words) (2 * half) words ++ (odd ++ end_text entered ∷ [])) answer) (sym none)
+      (subst (λ found. Ends (aorg_line (2 * half) inside ∷ []) 2 (texts_from (length words) (2 * half) words ++ (end_text entered ∷ []))
+      (unless_far (first_wrapping 2 (2 * half) words) (module_of_words (2 * half) found entered))) (sym padded)
       (all_go (end_text entered ∷ []) (module_of_words (2 * half) words entered) below
       (λ before number stands. (
         λ earlier holds. closes_end entered is_entry (2 * half + 2 * length words) below before earlier number _ stands holds.settled_are
@@ -191,9 +191,9 @@ module _ (half : ℕ) (bytes : List ℕ) (entered : Option ℕ) (all : AllBytes 
   by_rest (Odd byte lt odd padded size) =
       let below : 2 * half + 2 * length words ≤ 65536 = omega (arith, fits, size) in
       let more : 2 * half + 2 * length words < 65536 = omega (arith, fits, size) in
-      subst (λ odd. Ends (aorg_line (2 * half) inside ∷ []) 2 (texts_from (2 * half) 0 words ++ (odd ++ end_text entered ∷ [])) answer) (sym odd)
-      (subst (λ found. Ends (aorg_line (2 * half) inside ∷ []) 2 (texts_from (2 * half) 0 words ++ ((codes "BYTE " ++ hex_byte byte) ∷ end_text entered ∷ []))
-      (unless_far (first_wrapping 2 (2 * half) 0 words) (module_of_words (2 * half) found entered))) (sym padded)
+      subst (λ odd. Ends (aorg_line (2 * half) inside ∷ []) 2 (texts_from (length words) (2 * half) words ++ (odd ++ end_text entered ∷ [])) answer) (sym odd)
+      (subst (λ found. Ends (aorg_line (2 * half) inside ∷ []) 2 (texts_from (length words) (2 * half) words ++ ((codes "BYTE " ++ hex_byte byte) ∷ end_text entered ∷ []))
+      (unless_far (first_wrapping 2 (2 * half) words) (module_of_words (2 * half) found entered))) (sym padded)
       (all_go ((codes "BYTE " ++ hex_byte byte) ∷ end_text entered ∷ []) (module_of_words (2 * half) (words ++ join byte 0 ∷ []) entered) below
       (λ before number stands. (
         λ earlier holds. closes_byte entered is_entry (2 * half + 2 * length words) byte more lt half words (omega arith) before earlier number stands holds,
@@ -208,13 +208,16 @@ module _ (half : ℕ) (bytes : List ℕ) (entered : Option ℕ) (all : AllBytes 
 
   -- ---- no text has a line feed
 
-  clean_from : (words : List ℕ) (at belonging : ℕ) → at % 2 ≡ 0 → at + 2 * length words ≤ 65536 → AreWords words → clean (texts_from at belonging words) ≡ true
-  clean_from [] at belonging even below are = refl
-  clean_from (word ∷ words) at (suc belonging) even below are = clean_from words (at + 2) belonging (omega (arith, even)) (omega (arith, below)) (λ k. are (suc k))
-  clean_from (word ∷ words) at zero even below are =
+  clean_from : (most : ℕ) (words : List ℕ) (at : ℕ) → at % 2 ≡ 0 → at + 2 * length words ≤ 65536 → AreWords words → clean (texts_from most at words) ≡ true
+  clean_from zero words at even below are = refl
+  clean_from (suc most) [] at even below are = refl
+  clean_from (suc most) (word ∷ words) at even below are =
       let there : at < 65536 = omega (arith, below) in
       let back = words_back at there even word words are in
-      let rest = clean_from words (at + 2) ((printed (word ∷ words) at).count - 1) (omega (arith, even)) (omega (arith, below)) (λ k. are (suc k)) in
+      let count = (printed (word ∷ words) at).count in
+      let left = length-drop count (word ∷ words) in
+      let within = back.1.within in
+      let rest = clean_from most (drop count (word ∷ words)) (at + 2 * count) (omega (arith, even)) (omega (arith, below, left, within)) (drop_words count (word ∷ words) are) in
       rw (back.0.clean, rest) refl
 
   clean_tail : Rest bytes → clean (tail_texts bytes entered) ≡ true
@@ -230,16 +233,17 @@ module _ (half : ℕ) (bytes : List ℕ) (entered : Option ℕ) (all : AllBytes 
       let rest = rest_of bytes all in
       rw (
         aorg_clean (2 * half) inside,
-        all_both _ (texts_from (2 * half) 0 words) (tail_texts bytes entered) (clean_from words (2 * half) 0 (omega arith) (below_all rest) (are_words bytes all)) (clean_tail rest),
+        all_both _ (texts_from (length words) (2 * half) words) (tail_texts bytes entered) (clean_from (length words) words (2 * half) (omega arith) (below_all rest) (are_words bytes all)) (clean_tail rest),
       )
       refl
 
 -- the lines of a listing by their texts
-lines_are : (words : List ℕ) (at belonging : ℕ) → lines_from at belonging words ≡ map listing_line (texts_from at belonging words)
-lines_are [] at belonging = refl
-lines_are (word ∷ words) at (suc belonging) = lines_are words (at + 2) belonging
-lines_are (word ∷ words) at zero =
-    ap (λ rest. listing_line (printed (word ∷ words) at).text ∷ rest) (lines_are words (at + 2) ((printed (word ∷ words) at).count - 1))
+lines_are : (most : ℕ) (words : List ℕ) (at : ℕ) → lines_from most at words ≡ map listing_line (texts_from most at words)
+lines_are zero words at = refl
+lines_are (suc most) [] at = refl
+lines_are (suc most) (word ∷ words) at =
+    let front = printed (word ∷ words) at in
+    ap (λ rest. listing_line front.text ∷ rest) (lines_are most (drop front.count (word ∷ words)) (at + 2 * front.count))
 
 odd_are : (bytes : List ℕ) → odd_byte_lines bytes ≡ map listing_line (odd_texts bytes)
 odd_are [] = refl
@@ -254,18 +258,18 @@ map_both (x ∷ xs) ys = ap (λ rest. listing_line x ∷ rest) (map_both xs ys)
 abbrev pub listing_to : ℕ → List ℕ → List ℕ → List (List ℕ)
 listing_to at bytes end =
     listing_line (codes "AORG " ++ hex_word at)
-    ∷ (lines_from at 0 (words_in bytes) ++ (odd_byte_lines bytes ++ listing_line end ∷ []))
+    ∷ (word_lines at (words_in bytes) ++ (odd_byte_lines bytes ++ listing_line end ∷ []))
 
 pub listing_is : (at : ℕ) (bytes end : List ℕ)
-    → listing_to at bytes end ≡ map listing_line ((codes "AORG " ++ hex_word at) ∷ (texts_from at 0 (words_in bytes) ++ (odd_texts bytes ++ end ∷ [])))
+    → listing_to at bytes end ≡ map listing_line ((codes "AORG " ++ hex_word at) ∷ (texts_from (length (words_in bytes)) at (words_in bytes) ++ (odd_texts bytes ++ end ∷ [])))
 listing_is at bytes end =
     let tail : odd_byte_lines bytes ++ listing_line end ∷ [] ≡ map listing_line (odd_texts bytes ++ end ∷ []) =
     ap (λ lines. lines ++ listing_line end ∷ []) (odd_are bytes) ∙ map_both (odd_texts bytes) (end ∷ []) in
-    let body : lines_from at 0 (words_in bytes) ++ (odd_byte_lines bytes ++ listing_line end ∷ [])
-    ≡ map listing_line (texts_from at 0 (words_in bytes) ++ (odd_texts bytes ++ end ∷ [])) =
-    ap (λ lines. lines ++ (odd_byte_lines bytes ++ listing_line end ∷ [])) (lines_are (words_in bytes) at 0)
-    ∙ (ap (λ rest. map listing_line (texts_from at 0 (words_in bytes)) ++ rest) tail
-    ∙ map_both (texts_from at 0 (words_in bytes)) (odd_texts bytes ++ end ∷ [])) in
+    let body : word_lines at (words_in bytes) ++ (odd_byte_lines bytes ++ listing_line end ∷ [])
+    ≡ map listing_line (texts_from (length (words_in bytes)) at (words_in bytes) ++ (odd_texts bytes ++ end ∷ [])) =
+    ap (λ lines. lines ++ (odd_byte_lines bytes ++ listing_line end ∷ [])) (lines_are (length (words_in bytes)) (words_in bytes) at)
+    ∙ (ap (λ rest. map listing_line (texts_from (length (words_in bytes)) at (words_in bytes)) ++ rest) tail
+    ∙ map_both (texts_from (length (words_in bytes)) at (words_in bytes)) (odd_texts bytes ++ end ∷ [])) in
     ap (λ lines. listing_line (codes "AORG " ++ hex_word at) ∷ lines) body
 
 pub behind_laid : (all : List Line) (come : Result Module (Refusal AsmCause)) → names all ≡ predefined
@@ -346,15 +350,17 @@ own_origin at inside = record {
   last_is = refl;
 }
 
-own_words : (words : List ℕ) (at belonging : ℕ) → at % 2 ≡ 0 → at + 2 * length words ≤ 65536 → AreWords words → AreOwn (texts_from at belonging words)
-own_words [] at belonging even below are = _
-own_words (word ∷ words) at (suc belonging) even below are =
-    own_words words (at + 2) belonging (omega (arith, even)) (omega (arith, below)) (λ k. are (suc k))
-own_words (word ∷ words) at zero even below are =
+own_words : (most : ℕ) (words : List ℕ) (at : ℕ) → at % 2 ≡ 0 → at + 2 * length words ≤ 65536 → AreWords words → AreOwn (texts_from most at words)
+own_words zero words at even below are = _
+own_words (suc most) [] at even below are = _
+own_words (suc most) (word ∷ words) at even below are =
     let there : at < 65536 = omega (arith, below) in
-    let back = words_back at there even word words are in (
+    let back = words_back at there even word words are in
+    let count = (printed (word ∷ words) at).count in
+    let left = length-drop count (word ∷ words) in
+    let within = back.1.within in (
       own_back at _ _ false _ back.0,
-      own_words words (at + 2) ((printed (word ∷ words) at).count - 1) (omega (arith, even)) (omega (arith, below)) (λ k. are (suc k)),
+      own_words most (drop count (word ∷ words)) (at + 2 * count) (omega (arith, even)) (omega (arith, below, left, within)) (drop_words count (word ∷ words) are),
     )
 
 own_odd : (bytes : List ℕ) → AllBytes bytes → AreOwn (odd_texts bytes)
@@ -368,12 +374,12 @@ both_own (x ∷ xs) ys a b = (a.0, both_own xs ys a.1 b)
 
 -- the lines before the last
 abbrev pub front_texts : (at : ℕ) → at < 65536 → List ℕ → List (List ℕ)
-front_texts at inside bytes = aorg_text at inside ∷ (texts_from at 0 (words_in bytes) ++ odd_texts bytes)
+front_texts at inside bytes = aorg_text at inside ∷ (texts_from (length (words_in bytes)) at (words_in bytes) ++ odd_texts bytes)
 
 pub own_front : (at : ℕ) (inside : at < 65536) (bytes : List ℕ) → AllBytes bytes → at % 2 ≡ 0 → at + 2 * length (words_in bytes) ≤ 65536 → AreWords (words_in bytes)
     → AreOwn (front_texts at inside bytes)
 own_front at inside bytes all even below are =
-    (own_origin at inside, both_own (texts_from at 0 (words_in bytes)) (odd_texts bytes) (own_words (words_in bytes) at 0 even below are) (own_odd bytes all))
+    (own_origin at inside, both_own (texts_from (length (words_in bytes)) at (words_in bytes)) (odd_texts bytes) (own_words (length (words_in bytes)) (words_in bytes) at even below are) (own_odd bytes all))
 
 -- ---- No jump wraps far from the ends of memory
 
@@ -394,16 +400,20 @@ instr_stays at (Some (Jump op disp)) fits from to = jump_stays op (at + 2) disp 
 instr_stays at (Some _) fits from to = refl
 instr_stays at None fits from to = refl
 
-none_wraps : (words : List ℕ) (number at belonging : ℕ) → 254 ≤ at → at + 2 * length words ≤ 65281 → first_wrapping number at belonging words ≡ None
-none_wraps [] number at belonging from to = refl
-none_wraps (word ∷ words) number at (suc belonging) from to = none_wraps words number (at + 2) belonging (omega (arith, from)) (omega (arith, to))
-none_wraps (word ∷ words) number at zero from to =
-    ap (λ far. if far then Some number else first_wrapping (number + 1) (at + 2) ((printed (word ∷ words) at).count - 1) words)
+none_wraps : (most : ℕ) (words : List ℕ) (number at : ℕ) → 254 ≤ at → at + 2 * length words ≤ 65281 → wrapping_from most number at words ≡ None
+none_wraps zero words number at from to = refl
+none_wraps (suc most) [] number at from to = refl
+none_wraps (suc most) (word ∷ words) number at from to =
+    let count = (printed (word ∷ words) at).count in
+    let rest = drop count (word ∷ words) in
+    let left = length-drop count (word ∷ words) in
+    let within = (count_within word words at).1 in
+    ap (λ far. if far then Some number else wrapping_from most (number + 1) (at + 2 * count) rest)
     (instr_stays at (instr_at word) (instr_at-signed word) from (omega (arith, to)))
-    ∙ none_wraps words (number + 1) (at + 2) ((printed (word ∷ words) at).count - 1) (omega (arith, from)) (omega (arith, to))
+    ∙ none_wraps most rest (number + 1) (at + 2 * count) (omega (arith, from)) (omega (arith, to, left, within))
 
 pub inner_listings_come_back : InnerListingsComeBack
 inner_listings_come_back at bytes stands from to =
     let fit = words_fit bytes in
     word_listings_come_back at bytes stands
-    ∙ ap (λ far. unless_far far (module_of_words at (padded_words bytes) None)) (none_wraps (words_in bytes) 2 at 0 from (omega (arith, to, fit)))
+    ∙ ap (λ far. unless_far far (module_of_words at (padded_words bytes) None)) (none_wraps (length (words_in bytes)) (words_in bytes) 2 at from (omega (arith, to, fit)))

@@ -1,14 +1,15 @@
 -- How long a listing is.
-use Rattle.std.proofs.Common.{◌≡◌, ℕ, zero, suc, ◌+◌, ◌-◌, ◌*◌, ◌%◌, ◌≤◌, List, [], ◌∷◌, ◌++◌, length, length-append, refl, arith}
+use Rattle.std.proofs.Common.{◌≡◌, ℕ, zero, suc, ◌+◌, ◌*◌, ◌%◌, ◌≤◌, List, [], ◌∷◌, ◌++◌, length, length-append, length-drop, drop, refl, arith}
 use Rattle.std.specs.Prelude.{codes}
 use Rattle.std.specs.List.{concat}
 use Rattle.source_defs.specs.Digits.{hex_word, word_digits, byte_digits}
 use Rattle.source_defs.specs.ListedLines.{listing_line}
 use Rattle.instruction_defs.specs.Printed.{printed}
-use Rattle.word_listings.specs.Listing.{memory_listing, words_in, lines_from, odd_byte_lines}
+use Rattle.word_listings.specs.Listing.{memory_listing, words_in, lines_from, word_lines, odd_byte_lines}
 use Rattle.word_listings.specs.Law.{entered_listing, WordListingsAreShort}
 use Rattle.word_listings.proofs.Instructions.{AreWords}
 use Rattle.word_listings.proofs.LineBacks.{words_back}
+use Rattle.word_listings.proofs.Behind.{drop_words}
 use Rattle.word_listings.proofs.ListingLaw.{are_words, words_fit}
 
 concat_both : (xs ys : List (List ℕ)) → length (concat (xs ++ ys)) ≡ length (concat xs) + length (concat ys)
@@ -22,21 +23,21 @@ concat_both (x ∷ xs) ys =
 line_size : (text : List ℕ) → length (listing_line text) ≡ 8 + length text
 line_size text = let l = length-append text (codes "\n") in omega (arith, l)
 
-lines_short : (words : List ℕ) (at belonging : ℕ) → at % 2 ≡ 0 → at + 2 * length words ≤ 65536 → AreWords words → belonging ≤ length words
-    → length (concat (lines_from at belonging words)) + 26 * belonging ≤ 26 * length words
-lines_short [] at belonging even below are le = omega (arith, le)
-lines_short (word ∷ words) at (suc belonging) even below are le =
-    let rest = lines_short words (at + 2) belonging (omega (arith, even)) (omega (arith, below)) (λ k. are (suc k)) (omega (arith, le)) in
-    omega (arith, rest)
-lines_short (word ∷ words) at zero even below are le =
+lines_short : (most : ℕ) (words : List ℕ) (at : ℕ) → at % 2 ≡ 0 → at + 2 * length words ≤ 65536 → AreWords words
+    → length (concat (lines_from most at words)) ≤ 26 * length words
+lines_short zero words at even below are = omega arith
+lines_short (suc most) [] at even below are = omega arith
+lines_short (suc most) (word ∷ words) at even below are =
     let back = words_back at (omega (arith, below)) even word words are in
-    let some = back.1.some in
     let within = back.1.within in
     let short = back.1.short in
     let size = line_size (printed (word ∷ words) at).text in
-    let rest = lines_short words (at + 2) ((printed (word ∷ words) at).count - 1) (omega (arith, even)) (omega (arith, below)) (λ k. are (suc k)) (omega (arith, within)) in
-    let all = length-append (listing_line (printed (word ∷ words) at).text) (concat (lines_from (at + 2) ((printed (word ∷ words) at).count - 1) words)) in
-    omega (arith, some, within, short, size, rest, all)
+    let count = (printed (word ∷ words) at).count in
+    let after = drop count (word ∷ words) in
+    let left = length-drop count (word ∷ words) in
+    let rest = lines_short most after (at + 2 * count) (omega (arith, even)) (omega (arith, below, left, within)) (drop_words count (word ∷ words) are) in
+    let all = length-append (listing_line (printed (word ∷ words) at).text) (concat (lines_from most (at + 2 * count) after)) in
+    omega (arith, left, within, short, size, rest, all)
 
 odd_short : (bytes : List ℕ) → length (concat (odd_byte_lines bytes)) ≤ 16
 unfolding byte_digits
@@ -54,12 +55,12 @@ word_listings_are_short at bytes stands =
     let even = stands.even in
     let within = stands.within in
     let fit = words_fit bytes in
-    let words = lines_short (words_in bytes) at 0 even (omega (arith, within, fit)) (are_words bytes stands.holds.fits) (omega arith) in
+    let words = lines_short (length (words_in bytes)) (words_in bytes) at even (omega (arith, within, fit)) (are_words bytes stands.holds.fits) in
     let odd = odd_short bytes in
     let first = first_short at in
     let last = concat_both (odd_byte_lines bytes) (listing_line (codes "END") ∷ []) in
-    let rest = concat_both (lines_from at 0 (words_in bytes)) (odd_byte_lines bytes ++ listing_line (codes "END") ∷ []) in
-    let all = length-append (listing_line (codes "AORG " ++ hex_word at)) (concat (lines_from at 0 (words_in bytes) ++ (odd_byte_lines bytes ++ listing_line (codes "END") ∷ []))) in
+    let rest = concat_both (word_lines at (words_in bytes)) (odd_byte_lines bytes ++ listing_line (codes "END") ∷ []) in
+    let all = length-append (listing_line (codes "AORG " ++ hex_word at)) (concat (word_lines at (words_in bytes) ++ (odd_byte_lines bytes ++ listing_line (codes "END") ∷ []))) in
     omega (arith, words, odd, first, last, rest, all)
 
 -- an entry behind END has six bytes
@@ -67,17 +68,17 @@ pub entered_size : (at : ℕ) (bytes : List ℕ) (entry : ℕ) →
     length (concat (entered_listing at bytes entry)) ≡ length (concat (memory_listing at bytes)) + 6
 unfolding memory_listing word_digits
 entered_size at bytes entry =
-    let size : (end : List ℕ) → length (concat (lines_from at 0 (words_in bytes) ++ (odd_byte_lines bytes ++ end ∷ [])))
-    ≡ length (concat (lines_from at 0 (words_in bytes))) + (length (concat (odd_byte_lines bytes)) + length end) =
+    let size : (end : List ℕ) → length (concat (word_lines at (words_in bytes) ++ (odd_byte_lines bytes ++ end ∷ [])))
+    ≡ length (concat (word_lines at (words_in bytes))) + (length (concat (odd_byte_lines bytes)) + length end) =
     λ end. (let last = concat_both (odd_byte_lines bytes) (end ∷ []) in
-    let rest = concat_both (lines_from at 0 (words_in bytes)) (odd_byte_lines bytes ++ end ∷ []) in
+    let rest = concat_both (word_lines at (words_in bytes)) (odd_byte_lines bytes ++ end ∷ []) in
     let one = length-append end [] in
     omega (arith, last, rest, one)) in
     let plain = size (listing_line (codes "END")) in
     let entered = size (listing_line (codes "END " ++ hex_word entry)) in
     let first = listing_line (codes "AORG " ++ hex_word at) in
     let all = length-append first
-    (concat (lines_from at 0 (words_in bytes) ++ (odd_byte_lines bytes ++ listing_line (codes "END") ∷ []))) in
+    (concat (word_lines at (words_in bytes) ++ (odd_byte_lines bytes ++ listing_line (codes "END") ∷ []))) in
     let whole = length-append first (concat
-    (lines_from at 0 (words_in bytes) ++ (odd_byte_lines bytes ++ listing_line (codes "END " ++ hex_word entry) ∷ []))) in
+    (word_lines at (words_in bytes) ++ (odd_byte_lines bytes ++ listing_line (codes "END " ++ hex_word entry) ∷ []))) in
     omega (arith, plain, entered, all, whole)

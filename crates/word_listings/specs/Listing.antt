@@ -1,5 +1,5 @@
 -- The listing of memory, as assembler source.
-use Rattle.std.specs.Prelude.{ℕ, zero, suc, ◌+◌, ◌-◌, List, [], ◌∷◌, ◌++◌, codes}
+use Rattle.std.specs.Prelude.{ℕ, zero, suc, ◌+◌, ◌*◌, List, [], ◌∷◌, ◌++◌, length, drop, codes}
 use Rattle.source_defs.specs.Digits.{hex_word, hex_byte}
 pub use Rattle.source_defs.specs.ListedLines.{listing_line}
 use Rattle.tms_defs.specs.Words.{join}
@@ -11,14 +11,18 @@ words_in [] = []
 words_in (byte ∷ []) = []
 words_in (more ∷ less ∷ rest) = join more less ∷ words_in rest
 
--- The lines of words, of which the first stands at an address: one line an instruction, or DATA with a word that is
--- none. The first of the words may belong to the instruction before them, and have no line of their own.
+-- At most a number of lines of words, of which the first word stands at an address: the line of the instruction in
+-- front, or DATA with a word that is none, and then the lines of the words after it.
 abbrev pub lines_from : ℕ → ℕ → List ℕ → List (List ℕ)
-lines_from at belonging [] = []
-lines_from at (suc belonging) (word ∷ words) = lines_from (at + 2) belonging words
-lines_from at zero (word ∷ words) =
-    let front = printed (word ∷ words) at in
-    listing_line front.text ∷ lines_from (at + 2) (front.count - 1) words
+lines_from zero at words = []
+lines_from (suc most) at [] = []
+lines_from (suc most) at words =
+    let front = printed words at in
+    listing_line front.text ∷ lines_from most (at + 2 * front.count) (drop front.count words)
+
+-- Profile: the lines of words are one an instruction, or one a word that is none.
+abbrev pub word_lines : ℕ → List ℕ → List (List ℕ)
+word_lines at words = lines_from (length words) at words
 
 -- Profile: a last odd byte is a BYTE line.
 abbrev pub odd_byte_lines : List ℕ → List (List ℕ)
@@ -30,4 +34,4 @@ odd_byte_lines (more ∷ less ∷ rest) = odd_byte_lines rest
 unfoldable pub memory_listing : ℕ → List ℕ → List (List ℕ)
 memory_listing at bytes =
     listing_line (codes "AORG " ++ hex_word at)
-    ∷ (lines_from at 0 (words_in bytes) ++ (odd_byte_lines bytes ++ listing_line (codes "END") ∷ []))
+    ∷ (word_lines at (words_in bytes) ++ (odd_byte_lines bytes ++ listing_line (codes "END") ∷ []))

@@ -1,6 +1,6 @@
 -- The module of words that stand one after the other, and the listed jumps that the assembler refuses.
-use Rattle.std.specs.Prelude.{ℕ, zero, suc, ℤ, pos, negsuc, ◌+◌, ◌-◌, ◌*◌, Bool, false, nat_lt}
-use Rattle.std.specs.Prelude.{if◌then◌else◌, List, [], ◌∷◌}
+use Rattle.std.specs.Prelude.{ℕ, zero, suc, ℤ, pos, negsuc, ◌+◌, ◌*◌, Bool, false, nat_lt}
+use Rattle.std.specs.Prelude.{if◌then◌else◌, List, [], ◌∷◌, length, drop}
 use Rattle.std.specs.Prelude.{Option, Some, None, Result, Ok, Err}
 use Rattle.std.specs.Option.{option_map}
 use Rattle.source_defs.specs.Refusals.{Refusal}
@@ -25,7 +25,7 @@ padded_words [] = []
 padded_words (byte ∷ []) = join byte 0 ∷ []
 padded_words (more ∷ less ∷ rest) = join more less ∷ padded_words rest
 
--- The module of words that stand one after the other from an absolute place on, with an absolute entry or none: these
+-- The module of words that stand one behind the other from an absolute place on, with an absolute entry or none: these
 -- words, and no name, no use of a name and no relocatable code.
 abbrev pub module_of_words : ℕ → List ℕ → Option ℕ → Module
 module_of_words at words entry =
@@ -38,7 +38,7 @@ module_of_words at words entry =
       entry = option_map spot.Absolute entry;
     }
 
--- a number of words from the next instruction on lead below address 0, or past the last address
+-- so many words from the next instruction on lead below address 0, or past the last address
 abbrev pub leads_out : ℕ → ℤ → Bool
 leads_out next (pos count) = nat_lt 0xFFFF (next + 2 * count)
 leads_out next (negsuc count) = nat_lt next (2 * suc count)
@@ -61,14 +61,19 @@ wraps at (Some (Imm op number)) = false
 wraps at (Some (Bare op)) = false
 wraps at None = false
 
--- The first listed jump that wraps, by the number of its line. The lines are the lines of words, of which the first
--- stands at an address and may belong to the instruction before it.
-abbrev pub first_wrapping : ℕ → ℕ → ℕ → List ℕ → Option ℕ
-first_wrapping number at belonging [] = None
-first_wrapping number at (suc belonging) (word ∷ words) = first_wrapping number (at + 2) belonging words
-first_wrapping number at zero (word ∷ words) =
+-- The first jump that wraps in at most a number of lines of words, by the number of its line, from the number of the
+-- first line and the address of the first word on.
+abbrev pub wrapping_from : ℕ → ℕ → ℕ → List ℕ → Option ℕ
+wrapping_from zero number at words = None
+wrapping_from (suc most) number at [] = None
+wrapping_from (suc most) number at (word ∷ words) =
     if wraps at (instr_at word) then Some number
-    else first_wrapping (number + 1) (at + 2) ((printed (word ∷ words) at).count - 1) words
+    else (let count = (printed (word ∷ words) at).count in
+    wrapping_from most (number + 1) (at + 2 * count) (drop count (word ∷ words)))
+
+-- the first listed jump that wraps
+abbrev pub first_wrapping : ℕ → ℕ → List ℕ → Option ℕ
+first_wrapping number at words = wrapping_from (length words) number at words
 
 -- A module, unless a line holds a jump that leads too far: the distance of a jump in a source does not wrap.
 abbrev pub unless_far : Option ℕ → Module → Result Module (Refusal AsmCause)

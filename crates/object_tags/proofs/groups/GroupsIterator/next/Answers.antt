@@ -1,6 +1,7 @@
 use Rattle.std.proofs.Common.{◌≡◌, ◌+◌, ◌%◌, ◌<◌, ◌≤◌, cond, List, [], ◌∷◌, ◌++◌, take, drop, length, get_or, refl, sym, ap, ◌∙◌, arith, rules}
 use Rattle.object_defs.specs.Digits.{complement, checksum}
-use Rattle.object_defs.specs.Groups.{FoundGroup, tag_at, found_with, ends_line, size_found, groups_from}
+use Rattle.object_defs.specs.Groups.{FoundGroup, tag_at, found_with, ends_line, size_found}
+use Rattle.object_laws.specs.Running.{groups_after}
 use Rattle.object_tags.specs.SeenGroups.{defined_found}
 use Rattle.object_tags.proofs.GroupSteps.{first_group, next_checksum, no_groups, none_left}
 use Rattle.object_tags.proofs.groups.GroupsIterator.next.Goals.{then-ends_line, else-ends_line}
@@ -27,7 +28,7 @@ steps c =
   where
     left : (c : goal.After-self-2)
         → cond (ends_line (defined_found c.found_with-found.result)) []
-        (groups_from c.self.inside.form (take (c.self.inside.at + 1) c.self.inside.line.now)
+        (groups_after c.self.inside.form (take (c.self.inside.at + 1) c.self.inside.line.now)
         (size_found c.self.inside.form (defined_found c.found_with-found.result)) (drop (c.self.inside.at + 1) c.self.inside.line.now))
         ≡ c.if-ends_line.self
     left c = elim c.if-ends_line.branch [
