@@ -29,7 +29,7 @@ opened_once left calls taken empty faults =
       largest = taken;
     }
 
--- so many bytes more were given of what was opened last
+-- a number of further bytes were given of what was opened last
 pub record GaveMore (count : ℕ) (before after : SourceState) : Type 0 where
   pub given : after.given ≡ saturating_sum before.given count
   pub largest : after.largest ≡ max before.largest after.given

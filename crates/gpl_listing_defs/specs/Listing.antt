@@ -41,7 +41,7 @@ listed_by image at end (Refused code) = byte_listed image at
 unfoldable pub listed_at : List ℕ → ℕ → ℕ → Listed
 listed_at image at end = listed_by image at end (reading image at)
 
--- Profile: a GROM is told by its first address, and the place in it by an offset.
+-- Profile: a GROM is given by its first address, and the place in it by an offset.
 abbrev pub origin_texts : ℕ → List (List ℕ)
 origin_texts at =
     (codes "GROM " ++ hex_word (at / GROM_SIZE * GROM_SIZE)) ∷ (codes "AORG " ++ hex_word (at % GROM_SIZE)) ∷ []

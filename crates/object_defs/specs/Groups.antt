@@ -71,7 +71,7 @@ tag_at form place character =
 abbrev pub compared : ℕ → ℕ → Result Group TagCause
 compared computed number = if number == computed then Ok Sum else Err (Checksum number computed)
 
--- the group that a tag begins, by what stands behind it, where its line has a checksum through the tag
+-- the group that a tag begins, by what stands after it, where its line has a checksum through the tag
 abbrev pub group_of : TextForm → ℕ → ℕ → Tag → List ℕ → Result Group TagCause
 group_of form computed character tags.Header behind = do
   size ← number_at form behind
@@ -113,7 +113,7 @@ abbrev pub found_at : TextForm → List ℕ → ℕ → List ℕ → FoundGroup
 found_at form before character behind =
     found_with form (checksum (before ++ character ∷ [])) character (tag_at form (length before) character) behind
 
--- how many characters a group has behind its tag
+-- how many characters a group has after its tag
 abbrev pub group_size : TextForm → Group → ℕ
 group_size form (Header size name) = number_size form + 8
 group_size form (Entry at) = number_size form
@@ -132,12 +132,12 @@ is_last EndOfLine = true
 is_last EndOfModule = true
 is_last _ = false
 
--- no group is looked for behind a broken one
+-- no group is looked for after a broken one
 abbrev pub ends_line : FoundGroup → Bool
 ends_line (Whole character group) = is_last group
 ends_line (Broken character tag cause) = true
 
--- how many characters stand behind the tag
+-- how many characters stand after the tag
 abbrev pub size_found : TextForm → FoundGroup → ℕ
 size_found form (Whole character group) = group_size form group
 size_found form (Broken character tag cause) = 0

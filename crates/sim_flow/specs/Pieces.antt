@@ -15,7 +15,7 @@ read_target v =
     let second = past v.grom in
     exit 2 GOTO (record v { r = record v.r { r6 = join v.grom.fetched second.fetched }; grom = past second })
 
--- BRANCH: the condition is told from the code byte's bit >20, which BS has, and BR has not. Where they are equal the
+-- BRANCH: the condition is found from the code byte's bit >20, which BS has, and BR has not. Where they are equal the
 -- branch is taken, and else the byte that follows is passed.
 abbrev pub test_branch : View → Exit
 test_branch v =

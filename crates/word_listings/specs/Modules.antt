@@ -25,7 +25,7 @@ padded_words [] = []
 padded_words (byte ∷ []) = join byte 0 ∷ []
 padded_words (more ∷ less ∷ rest) = join more less ∷ padded_words rest
 
--- The module of words that stand one behind the other from an absolute place on, with an absolute entry or none: these
+-- The module of words that stand one after the other from an absolute place on, with an absolute entry or none: these
 -- words, and no name, no use of a name and no relocatable code.
 abbrev pub module_of_words : ℕ → List ℕ → Option ℕ → Module
 module_of_words at words entry =
@@ -38,7 +38,7 @@ module_of_words at words entry =
       entry = option_map spot.Absolute entry;
     }
 
--- so many words from the next instruction on lead below address 0, or past the last address
+-- a number of words from the next instruction on lead below address 0, or past the last address
 abbrev pub leads_out : ℕ → ℤ → Bool
 leads_out next (pos count) = nat_lt 0xFFFF (next + 2 * count)
 leads_out next (negsuc count) = nat_lt next (2 * suc count)
