@@ -59,9 +59,9 @@ reads_then : (a b c : MemoryChanges) (t u : List ℕ) → Reads a t b → Reads 
 reads_then a b c t u first second = record {
   by = λ next rest ends.
       let ahead = first.by next (u ++ rest) (second.by None rest ends).0 in
-      let behind = second.by ahead.1 rest ends in
+      let later = second.by ahead.1 rest ends in
       let same = append_assoc t u rest in
-      (ap (λ l. (cut l).0) same ∙ ahead.0, behind.1, ap (read (reading a next)) same ∙ ahead.2 ∙ behind.2);
+      (ap (λ l. (cut l).0) same ∙ ahead.0, later.1, ap (read (reading a next)) same ∙ ahead.2 ∙ later.2);
 }
 
 -- a blank, a name, an equals sign and a value
@@ -252,10 +252,10 @@ changes_read area (c ∷ cs) made next end goes all =
     subst (λ (m : MemoryChanges). ReadsFrom made next (text ++ others) m) (one_more area c cs made)
     (record {
       by = λ rest ends.
-          let behind = after.by rest ends in
-          let ahead = first.by (others ++ rest) behind.0 in
+          let later = after.by rest ends in
+          let ahead = first.by (others ++ rest) later.0 in
           let same = append_assoc text others rest in
-          (ap (λ l. (cut l).0) same ∙ ahead.0, behind.1, ap (read (reading made next)) same ∙ ahead.1 ∙ behind.2);
+          (ap (λ l. (cut l).0) same ∙ ahead.0, later.1, ap (read (reading made next)) same ∙ ahead.1 ∙ later.2);
     })
 
 area_read : (area : Area) (cs : List Change) (made : MemoryChanges) → AllInside (size_of area) cs → Reads made (area_text area cs) (with_runs area cs made)
