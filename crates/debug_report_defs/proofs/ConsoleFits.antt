@@ -24,10 +24,24 @@ word_set count bytes at w lt h = set_keeps count _ (at + 1) (low w) (set_keeps c
 
 module _ (m : Memory) (is : IsMemory m) where
   with_vdp : (v : VdpState) → IsVdp v → IsMemory (record m { vdp = v })
-  with_vdp v k = record { scratchpad = is.scratchpad; low_expansion = is.low_expansion; high_expansion = is.high_expansion; rom = is.rom; vdp = k; grom = is.grom }
+  with_vdp v k = record {
+    scratchpad = is.scratchpad;
+    low_expansion = is.low_expansion;
+    high_expansion = is.high_expansion;
+    rom = is.rom;
+    vdp = k;
+    grom = is.grom;
+  }
 
   with_grom : (g : GromState) → IsGrom g → IsMemory (record m { grom = g })
-  with_grom g k = record { scratchpad = is.scratchpad; low_expansion = is.low_expansion; high_expansion = is.high_expansion; rom = is.rom; vdp = is.vdp; grom = k }
+  with_grom g k = record {
+    scratchpad = is.scratchpad;
+    low_expansion = is.low_expansion;
+    high_expansion = is.high_expansion;
+    rom = is.rom;
+    vdp = is.vdp;
+    grom = k;
+  }
 
   pub with_pad : (bytes : List ℕ) → HoldsBytes 256 bytes → IsMemory (record m { scratchpad = bytes })
   with_pad bytes k = record { scratchpad = k; low_expansion = is.low_expansion; high_expansion = is.high_expansion; rom = is.rom; vdp = is.vdp; grom = is.grom }
@@ -92,7 +106,13 @@ module _ (m : Memory) (is : IsMemory m) where
   pair_took WriteSetup f b lt =
       with_vdp _ (record { memory = is.vdp.memory; registers = is.vdp.registers; address = omega arith; fetched = is.vdp.fetched; held = tt })
   pair_took RegisterWrite f b lt =
-      with_vdp _ (record { memory = is.vdp.memory; registers = set_keeps 8 m.vdp.registers (b % 8) f is.vdp.registers lt; address = is.vdp.address; fetched = is.vdp.fetched; held = tt })
+      with_vdp _ (record {
+        memory = is.vdp.memory;
+        registers = set_keeps 8 m.vdp.registers (b % 8) f is.vdp.registers lt;
+        address = is.vdp.address;
+        fetched = is.vdp.fetched;
+        held = tt;
+      })
   pair_took NoOperation f b lt = with_vdp _ (vdp_left None tt)
 
   address_took : (held : Option ℕ) (b : ℕ) → IfSome held (λ byte. byte < 256) → b < 256 → IsMemory (record m { vdp = address_byte_taken held m.vdp b })
@@ -108,7 +128,13 @@ module _ (m : Memory) (is : IsMemory m) where
   port_took VdpDataRead b lt = is
   port_took VdpStatusRead b lt = is
   port_took VdpDataWrite b lt =
-      with_vdp _ (record { memory = set_keeps 16384 m.vdp.memory m.vdp.address b is.vdp.memory lt; registers = is.vdp.registers; address = omega arith; fetched = lt; held = tt })
+      with_vdp _ (record {
+        memory = set_keeps 16384 m.vdp.memory m.vdp.address b is.vdp.memory lt;
+        registers = is.vdp.registers;
+        address = omega arith;
+        fetched = lt;
+        held = tt;
+      })
   port_took VdpAddressWrite b lt = address_took m.vdp.held b is.vdp.held lt
   port_took GromDataRead b lt = is
   port_took GromAddressRead b lt = is

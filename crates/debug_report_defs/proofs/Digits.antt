@@ -21,9 +21,11 @@ onto_passes p e zero n acc all = all
 onto_passes p e (suc k) n acc all = by (nat_eq (n / 10) 0) (onto_passes p e k (n / 10) (digit_glyph false (n % 10) ∷ acc))
   where
     more : list_all p (digit_glyph false (n % 10) ∷ acc) ≡ true
-    more = let glyph : p (digit_glyph false (n % 10)) ≡ true = agree_below_at (λ d. p (digit_glyph false d)) (λ d. true) 10 (n % 10) e (omega arith) in rw glyph all
+    more = let glyph : p (digit_glyph false (n % 10)) ≡ true = agree_below_at (λ d. p (digit_glyph false d)) (λ d. true) 10 (n % 10) e
+        (omega arith) in rw glyph all
 
-    by : (last : Bool) → (list_all p (digit_glyph false (n % 10) ∷ acc) ≡ true → list_all p (digits_onto k 10 false (n / 10) (digit_glyph false (n % 10) ∷ acc)) ≡ true)
+    by : (last : Bool) → (list_all p (digit_glyph false (n % 10) ∷ acc) ≡ true → list_all p
+        (digits_onto k 10 false (n / 10) (digit_glyph false (n % 10) ∷ acc)) ≡ true)
         → list_all p (cond last (digit_glyph false (n % 10) ∷ acc) (digits_onto k 10 false (n / 10) (digit_glyph false (n % 10) ∷ acc))) ≡ true
     by true rest = more
     by false rest = rest more

@@ -89,7 +89,8 @@ gpl_front_read number s lt =
     let values = slice_index s.cells VALUE_STACK in
     let returns = slice_index s.cells RETURN_STACK in
     let shown =
-    (hex_word s.pc ++ (codes " S" ++ (byte_digits status ++ (codes " D" ++ (byte_digits values ++ (codes " R" ++ byte_digits returns)))))) ++ (codes " " ++ text) in
+    (hex_word s.pc ++ (codes " S" ++ (byte_digits status ++ (codes " D" ++ (byte_digits values ++ (codes " R" ++ byte_digits returns)))))) ++
+    (codes " " ++ text) in
     let rest = rest_found number shown in
     record {
       number_is = λ small. number_found number shown small;

@@ -24,7 +24,8 @@ use Rattle.tms_defs.specs.declared.instruction.Instr.{Instr}
 use Rattle.tms_defs.specs.declared.instruction.Instr.TheVariants.{Two, Reg, Shift, One, Jump, Imm, Bare}
 use Rattle.instruction_defs.specs.Operations.{name_of}
 use Rattle.instruction_defs.specs.Operands.{following_words, has_immediate, has_value, words_of}
-use Rattle.instruction_defs.specs.Printed.{register_text, signed_text, symbolic_text, operand_text, number_text, target_text, instr_text, printed_word, printed_where, printed}
+use Rattle.instruction_defs.specs.Printed.{register_text, signed_text, symbolic_text, operand_text, number_text}
+use Rattle.instruction_defs.specs.Printed.{target_text, instr_text, printed_word, printed_where, printed}
 use Rattle.debug_report_defs.proofs.Digits.{decimal_passes, word_digits_pass}
 use Rattle.debug_report_defs.proofs.LineSplit.{in_front}
 use Rattle.debug_report_defs.proofs.FrontRead.{front_all}
@@ -62,13 +63,15 @@ clean_symbolic address register = by (nat_eq register 0)
   where
     by : (none : Bool) → Clean (cond none (0x40 ∷ hex_word address) (0x40 ∷ (hex_word address ++ (0x28 ∷ (register_text register ++ codes ")")))))
     by true = clean_word address
-    by false = front_all (hex_word address) (0x28 ∷ (register_text register ++ codes ")")) (clean_word address) (front_all (register_text register) (codes ")") (clean_register register) refl)
+    by false = front_all (hex_word address) (0x28 ∷ (register_text register ++ codes ")")) (clean_word address)
+        (front_all (register_text register) (codes ")") (clean_register register) refl)
 
 clean_operand : (place : Place) (word : ℕ) → Clean (operand_text place word)
 unfolding operand_text
 clean_operand place word = by (nat_eq place.mode 0) (nat_eq place.mode 1) (nat_eq place.mode 2)
   where
-    by : (a b c : Bool) → Clean (cond a (register_text place.reg) (cond b (0x2A ∷ register_text place.reg) (cond c (symbolic_text word place.reg) (0x2A ∷ (register_text place.reg ++ codes "+")))))
+    by : (a b c : Bool) → Clean (cond a (register_text place.reg)
+        (cond b (0x2A ∷ register_text place.reg) (cond c (symbolic_text word place.reg) (0x2A ∷ (register_text place.reg ++ codes "+")))))
     by true b c = clean_register place.reg
     by false true c = clean_register place.reg
     by false false true = clean_symbolic word place.reg
@@ -92,12 +95,14 @@ clean_target _ next disp = clean_word (jump_target next disp)
 clean_instr : (found : Instr) (at : ℕ) (words : List ℕ) → Clean (instr_text found at words)
 clean_instr (Two op byte dst src) at words =
     front_all (name_of (operation.Two op byte)) _ (clean_name (operation.Two op byte))
-    (clean_two (operand_text src (slice_index words 1)) (operand_text dst (slice_index words (1 + following_words src))) (clean_operand src (slice_index words 1)) (clean_operand dst (slice_index words (1 + following_words src))))
+    (clean_two (operand_text src (slice_index words 1)) (operand_text dst (slice_index words (1 + following_words src)))
+    (clean_operand src (slice_index words 1)) (clean_operand dst (slice_index words (1 + following_words src))))
 clean_instr (Reg op number src) at words =
     front_all (name_of (operation.Reg op)) _ (clean_name (operation.Reg op))
     (clean_two (operand_text src (slice_index words 1)) (number_text op number) (clean_operand src (slice_index words 1)) (clean_number op number))
 clean_instr (Shift op count number) at words =
-    front_all (name_of (operation.Shift op)) _ (clean_name (operation.Shift op)) (clean_two (register_text number) (decimal count) (clean_register number) (clean_decimal count))
+    front_all (name_of (operation.Shift op)) _ (clean_name (operation.Shift op))
+    (clean_two (register_text number) (decimal count) (clean_register number) (clean_decimal count))
 clean_instr (One op place) at words =
     front_all (name_of (operation.One op)) _ (clean_name (operation.One op)) (clean_operand place (slice_index words 1))
 clean_instr (Jump op disp) at words =

@@ -72,7 +72,8 @@ name_has (byte ∷ name) rest e =
     by (nat_eq byte 0x3D) (nat_eq byte 0x20) (and_left (in_word byte) (list_all in_word name) e)
     (name_has name rest (and_right (in_word byte) (list_all in_word name) e))
   where
-    by : (equals blank : Bool) → not blank ≡ true → has_equals (name ++ 0x3D ∷ rest) ≡ true → cond equals true (cond blank false (has_equals (name ++ 0x3D ∷ rest))) ≡ true
+    by : (equals blank : Bool) → not blank ≡ true → has_equals (name ++ 0x3D ∷ rest) ≡ true → cond equals true
+        (cond blank false (has_equals (name ++ 0x3D ∷ rest))) ≡ true
     by true blank e f = refl
     by false true e f = absurd (cc)
     by false false e f = f

@@ -1,5 +1,6 @@
 -- The words and the entry of linked memory have 16 bits.
-use Rattle.std.proofs.Common.{◌≡◌, ℕ, ◌<◌, Bool, true, false, cond, List, [], ◌∷◌, ◌++◌, length, map, Option, Some, None, Result, Ok, Err, refl, sym, ◌∙◌, subst, arith}
+use Rattle.std.proofs.Common.{◌≡◌, ℕ, ◌<◌, Bool, true, false, cond, List, [], ◌∷◌, ◌++◌, length, map, Option, Some}
+use Rattle.std.proofs.Common.{None, Result, Ok, Err, refl, sym, ◌∙◌, subst, arith}
 use Rattle.std.specs.List.{flat_map, AllByRecursion}
 use Rattle.std.specs.Option.{unwrap_or, option_to_list}
 use Rattle.std.proofs.Common.{Ordering, Less, Equal, Greater}
@@ -16,7 +17,8 @@ use Rattle.link_defs.specs.Causes.{LinkCause, DuplicateDef, OutOfMemoryRange, Ov
 use Rattle.link_defs.specs.First.{first, unless}
 use Rattle.link_defs.specs.Chains.{Uses, uses_of}
 use Rattle.link_defs.specs.Placing.{Section, sections, def_at, word_at, value_of, defs_of, words_of, refs_of, entries_of}
-use Rattle.link_defs.specs.LinkedMemory.{LinkedMemory, value_in, is_defined_again, is_outside, is_taken, is_unresolved, first_entry, word_for, filled, linked_parts, linked}
+use Rattle.link_defs.specs.LinkedMemory.{LinkedMemory, value_in, is_defined_again, is_outside, is_taken}
+use Rattle.link_defs.specs.LinkedMemory.{is_unresolved, first_entry, word_for, filled, linked_parts, linked}
 use Rattle.report_defs.specs.ObjectFaults.{link_line}
 use Rattle.report_defs.specs.ObjectInput.{told, linked_modules, linked_input}
 
@@ -112,13 +114,15 @@ parts_fit : (defs : List (List ℕ × ℕ)) (words : List (ℕ × ℕ)) (refs : 
     → AreValues defs → AreWords words → AllByRecursion (λ (n : ℕ). n < 65536) found → linked_parts defs words refs found ≡ Ok l → LinkedFits l
 parts_fit defs words refs found l values all fits e =
     by (unless (λ definition. DuplicateDef definition.0) (first is_defined_again defs)) (unless (λ word. OutOfMemoryRange word.0) (first is_outside words))
-    (unless (λ word. Overlap word.0) (first is_taken words)) (uses_of words [] refs) (unless (λ ref. Unresolved ref.0) (first (is_unresolved defs) refs)) (first_entry found)
+    (unless (λ word. Overlap word.0) (first is_taken words)) (uses_of words [] refs) (unless (λ ref. Unresolved ref.0) (first (is_unresolved defs) refs))
+    (first_entry found)
     (λ entry is. entry_fits found entry fits is) e
   where
     made : Uses → ℕ → LinkedMemory
     made uses entry = record { words = from_entries (map (filled defs uses) words); names = defs; entry = entry }
 
-    by : (apart : Result (Option (List ℕ × ℕ)) LinkCause) (inside alone : Result (Option (ℕ × ℕ)) LinkCause) (uses : Result Uses LinkCause) (known : Result (Option (List ℕ × ℕ)) LinkCause)
+    by : (apart : Result (Option (List ℕ × ℕ)) LinkCause) (inside alone : Result (Option (ℕ × ℕ)) LinkCause) (uses : Result Uses LinkCause)
+        (known : Result (Option (List ℕ × ℕ)) LinkCause)
         (entry : Result ℕ LinkCause) → ((n : ℕ) → entry ≡ Ok n → n < 65536)
         → (apart >>= λ a. inside >>= λ b. alone >>= λ c. uses >>= λ used. known >>= λ k. entry >>= λ n. Ok (made used n)) ≡ Ok l → LinkedFits l
     by (Ok a) (Ok b) (Ok c) (Ok uses) (Ok k) (Ok entry) lt e =

@@ -82,7 +82,8 @@ module _ (x : MachineState) (is : IsMachine x) where
   fit_changes : (made : ℕ) → ChangesFit (changed made)
   fit_changes made = changes_fit (after made x).cpu.wp (seen_memory (after made x).cpu.memory) (after (suc made) x).cpu.memory (runs_fit x is (suc made)).memory
 
-  parts_are : (made : ℕ) → (front_part (line_after x made) ≡ step_front (made + 1) (after made x)) × (changes_part (line_after x made) ≡ changes_text (changed made) ++ codes "\n")
+  parts_are : (made : ℕ) → (front_part (line_after x made) ≡ step_front (made + 1) (after made x)) ×
+      (changes_part (line_after x made) ≡ changes_text (changed made) ++ codes "\n")
   parts_are made =
       split (step_front (made + 1) (after made x)) (changes_text (changed made) ++ codes "\n") (front_clean (made + 1) (after made x))
       (changes_begin (changed made) (fit_changes made))
@@ -98,7 +99,8 @@ module _ (x : MachineState) (is : IsMachine x) where
       let r = read_front made in
       λ i. front_of (r.number_is lt i) (r.pc_is i) (r.wp_is i) (r.status_is i) (r.instruction_is i)
 
-  memory_from : (from count : ℕ) → memory_of_lines (map (line_after x) (range_with_len from count)) (memory_by_changes x from) ≡ memory_by_changes x (from + count)
+  memory_from : (from count : ℕ) → memory_of_lines (map (line_after x) (range_with_len from count)) (memory_by_changes x from) ≡ memory_by_changes x
+      (from + count)
   memory_from from zero = let same : from ≡ from + 0 = omega arith in ap (λ (n : ℕ). memory_by_changes x n) same
   memory_from from (suc count) =
       let line = line_after x from in

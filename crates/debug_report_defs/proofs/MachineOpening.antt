@@ -9,7 +9,9 @@ use Rattle.machine_change_defs.specs.declared.area.Area.{Area}
 use Rattle.machine_change_defs.specs.declared.area.Area.TheVariants.{Scratchpad, LowExpansion, HighExpansion, Video, Registers}
 use Rattle.machine_change_defs.specs.Seen.{size_of}
 use Rattle.machine_change_defs.specs.Changes.{RegisterChange, LatchChanges, MemoryChanges}
-use Rattle.machine_change_defs.specs.Text.{register_text, place_text, change_text, change_texts, area_text, latch_text, held_text, mark_text, latches_text, bytes_text, ports_text, changes_text}
+use Rattle.machine_change_defs.specs.Text.{register_text, place_text, change_text, change_texts, area_text}
+use Rattle.machine_change_defs.specs.Text.{latch_text, held_text, mark_text, latches_text, bytes_text, ports_text}
+use Rattle.machine_change_defs.specs.Text.{changes_text}
 use Rattle.debug_report_defs.proofs.Fitting.{AllInside}
 use Rattle.debug_report_defs.proofs.Digits.{decimal_passes}
 use Rattle.debug_report_defs.proofs.LineSplit.{Begins, begins_feed}
@@ -50,7 +52,8 @@ changes_begin made fit =
     opens_then (flat_map register_text made.workspace) (bytes_text o ++ ports_text o) (registers_open made.workspace)
     (opens_then (bytes_text o) (ports_text o)
     (opens_then (area_text Scratchpad o.scratchpad) _ (area_opens Scratchpad o.scratchpad fit.scratchpad)
-    (opens_then (area_text LowExpansion o.low_expansion) _ (area_opens LowExpansion o.low_expansion fit.low_expansion) (area_opens HighExpansion o.high_expansion fit.high_expansion)))
+    (opens_then (area_text LowExpansion o.low_expansion) _ (area_opens LowExpansion o.low_expansion fit.low_expansion)
+    (area_opens HighExpansion o.high_expansion fit.high_expansion)))
     (opens_then (area_text Video o.video) _ (area_opens Video o.video fit.video)
     (opens_then (area_text Registers o.registers) _ (area_opens Registers o.registers fit.registers) (latches_open o.latches))))
     (codes "\n") begins_feed

@@ -15,9 +15,13 @@ use Rattle.machine_change_defs.specs.declared.area.Area.{Area}
 use Rattle.machine_change_defs.specs.declared.area.Area.TheVariants.{Scratchpad, LowExpansion, HighExpansion, Video, Registers}
 use Rattle.machine_change_defs.specs.Seen.{size_of}
 use Rattle.machine_change_defs.specs.Changes.{RegisterChange, LatchChanges, MemoryChanges}
-use Rattle.machine_change_defs.specs.Text.{register_text, place_text, change_text, change_texts, area_text, latch_text, held_text, mark_text, latches_text, bytes_text, ports_text, changes_text}
+use Rattle.machine_change_defs.specs.Text.{register_text, place_text, change_text, change_texts, area_text}
+use Rattle.machine_change_defs.specs.Text.{latch_text, held_text, mark_text, latches_text, bytes_text, ports_text}
+use Rattle.machine_change_defs.specs.Text.{changes_text}
 use Rattle.debug_report_defs.specs.LineFronts.{hexadecimal_value}
-use Rattle.debug_report_defs.specs.MachineReader.{begins_piece, cut, Bytes, named_by, run_at, held_value, with_run, with_latches, Reading, reading, with_bytes_of, with_value, with_more, after_piece, after_pieces, no_latch_changes, no_changes}
+use Rattle.debug_report_defs.specs.MachineReader.{begins_piece, cut, Bytes, named_by, run_at, held_value, with_run}
+use Rattle.debug_report_defs.specs.MachineReader.{with_latches, Reading, reading, with_bytes_of, with_value}
+use Rattle.debug_report_defs.specs.MachineReader.{with_more, after_piece, after_pieces, no_latch_changes, no_changes}
 use Rattle.debug_report_defs.proofs.Opening.{plain, all_plain}
 use Rattle.debug_report_defs.proofs.Fitting.{Inside, AllInside}
 use Rattle.debug_report_defs.proofs.Digits.{decimal_passes, word_digits_pass, byte_digits_pass, decimal_back, word_back, byte_back, bytes_back}
@@ -55,9 +59,9 @@ reads_then : (a b c : MemoryChanges) (t u : List ℕ) → Reads a t b → Reads 
 reads_then a b c t u first second = record {
   by = λ next rest ends.
       let ahead = first.by next (u ++ rest) (second.by None rest ends).0 in
-      let behind = second.by ahead.1 rest ends in
+      let later = second.by ahead.1 rest ends in
       let same = append_assoc t u rest in
-      (ap (λ l. (cut l).0) same ∙ ahead.0, behind.1, ap (read (reading a next)) same ∙ ahead.2 ∙ behind.2);
+      (ap (λ l. (cut l).0) same ∙ ahead.0, later.1, ap (read (reading a next)) same ∙ ahead.2 ∙ later.2);
 }
 
 -- a blank, a name, an equals sign and a value
@@ -98,10 +102,12 @@ one_register made c f =
     let number = c.number in
     one_named made (with_registers (c ∷ []) made) None (0x52 ∷ decimal c.number) (byte_digits c.high ++ byte_digits c.low) name value
     (rw (decimal_back c.number (let lt = f.number in omega arith), bytes_back c.high c.low f.high f.low)
-    (ap₂ (λ (h l : ℕ). reading (with_registers (record { number = c.number; high = h; low = l } ∷ []) made) None) (let l = f.low in omega arith) (let l = f.low in omega arith)))
+    (ap₂ (λ (h l : ℕ). reading (with_registers (record { number = c.number; high = h; low = l } ∷ []) made) None) (let l = f.low in omega arith)
+    (let l = f.low in omega arith)))
 
 registers_read : (made : MemoryChanges) (cs : List RegisterChange) → AllRegistersFit cs → Reads made (flat_map register_text cs) (with_registers cs made)
-registers_read made [] all = subst (λ (l : List RegisterChange). Reads made [] (record made { workspace = l })) (sym (append-nil made.workspace)) (reads_none made)
+registers_read made [] all = subst (λ (l : List RegisterChange). Reads made [] (record made { workspace = l })) (sym (append-nil made.workspace))
+    (reads_none made)
 registers_read made (c ∷ cs) all =
     subst (λ (l : List RegisterChange). Reads made (flat_map register_text (c ∷ cs)) (record made { workspace = l })) (append_assoc made.workspace (c ∷ []) cs)
     (reads_then made (with_registers (c ∷ []) made) (with_registers cs (with_registers (c ∷ []) made)) (register_text c) (flat_map register_text cs)
@@ -144,7 +150,8 @@ run_back : (at byte count : ℕ) → byte < 256 → count < 2 ^ 64 → run_at at
 unfolding repeated_text byte_digits
 run_back at byte count p q = by (nat_eq count 1) refl
   where
-    by : (one : Bool) → nat_eq count 1 ≡ one → run_at at (byte_digits byte ++ cond one [] (codes "*" ++ decimal count)) ≡ record { at = at; byte = byte; count = count }
+    by : (one : Bool) → nat_eq count 1 ≡ one
+        → run_at at (byte_digits byte ++ cond one [] (codes "*" ++ decimal count)) ≡ record { at = at; byte = byte; count = count }
     by true e =
         let is : count ≡ 1 = grind (arith, nat_tests) in
         ap₂ (λ (b n : ℕ). record { at = at; byte = b; count = n }) (byte_back byte p) (sym is)
@@ -173,7 +180,8 @@ change_read made next area end c goes f small = by (nat_eq c.at end) (nat_eq end
           let same = append_assoc (place_text area c.at) (codes "=") value in (
             refl,
             ap (λ l. read (reading made next) ((0x20 ∷ l) ++ rest)) same
-                ∙ named_read made (with_run area c made) (Some (area, c.at + c.count)) (place_text area c.at) value (place_plain area c.at at) (run_plain c.byte c.count)
+                ∙ named_read made (with_run area c made) (Some (area, c.at + c.count)) (place_text area c.at) value (place_plain area c.at at)
+                (run_plain c.byte c.count)
                 (rw (place_named area c.at at, run_back c.at c.byte c.count f.byte count) refl) next rest ends,
           );
     }
@@ -201,16 +209,21 @@ with_runs Video cs made = record made { others = record made.others { video = ma
 with_runs Registers cs made = record made { others = record made.others { registers = made.others.registers ++ cs } }
 
 one_more : (area : Area) (c : Change) (cs : List Change) (made : MemoryChanges) → with_runs area cs (with_run area c made) ≡ with_runs area (c ∷ cs) made
-one_more Scratchpad c cs made = ap (λ (l : List Change). record made { others = record made.others { scratchpad = l } }) (append_assoc made.others.scratchpad (c ∷ []) cs)
-one_more LowExpansion c cs made = ap (λ (l : List Change). record made { others = record made.others { low_expansion = l } }) (append_assoc made.others.low_expansion (c ∷ []) cs)
-one_more HighExpansion c cs made = ap (λ (l : List Change). record made { others = record made.others { high_expansion = l } }) (append_assoc made.others.high_expansion (c ∷ []) cs)
+one_more Scratchpad c cs made = ap (λ (l : List Change). record made { others = record made.others { scratchpad = l } })
+    (append_assoc made.others.scratchpad (c ∷ []) cs)
+one_more LowExpansion c cs made = ap (λ (l : List Change). record made { others = record made.others { low_expansion = l } })
+    (append_assoc made.others.low_expansion (c ∷ []) cs)
+one_more HighExpansion c cs made = ap (λ (l : List Change). record made { others = record made.others { high_expansion = l } })
+    (append_assoc made.others.high_expansion (c ∷ []) cs)
 one_more Video c cs made = ap (λ (l : List Change). record made { others = record made.others { video = l } }) (append_assoc made.others.video (c ∷ []) cs)
-one_more Registers c cs made = ap (λ (l : List Change). record made { others = record made.others { registers = l } }) (append_assoc made.others.registers (c ∷ []) cs)
+one_more Registers c cs made = ap (λ (l : List Change). record made { others = record made.others { registers = l } })
+    (append_assoc made.others.registers (c ∷ []) cs)
 
 none_more : (area : Area) (made : MemoryChanges) → with_runs area [] made ≡ made
 none_more Scratchpad made = ap (λ (l : List Change). record made { others = record made.others { scratchpad = l } }) (append-nil made.others.scratchpad)
 none_more LowExpansion made = ap (λ (l : List Change). record made { others = record made.others { low_expansion = l } }) (append-nil made.others.low_expansion)
-none_more HighExpansion made = ap (λ (l : List Change). record made { others = record made.others { high_expansion = l } }) (append-nil made.others.high_expansion)
+none_more HighExpansion made = ap (λ (l : List Change). record made { others = record made.others { high_expansion = l } })
+    (append-nil made.others.high_expansion)
 none_more Video made = ap (λ (l : List Change). record made { others = record made.others { video = l } }) (append-nil made.others.video)
 none_more Registers made = ap (λ (l : List Change). record made { others = record made.others { registers = l } }) (append-nil made.others.registers)
 
@@ -227,7 +240,10 @@ record ReadsFrom (made : MemoryChanges) (next : Option (Area × ℕ)) (text : Li
 
 changes_read : (area : Area) (cs : List Change) (made : MemoryChanges) (next : Option (Area × ℕ)) (end : ℕ)
     → ((end == 0) ≡ false → next ≡ Some (area, end)) → AllInside (size_of area) cs → ReadsFrom made next (change_texts area end cs) (with_runs area cs made)
-changes_read area [] made next end goes all = record { by = λ rest ends. (ends, next, ap (λ (m : MemoryChanges). read (reading m next) rest) (sym (none_more area made))) }
+changes_read area [] made next end goes all = record {
+  by = λ rest ends.
+      (ends, next, ap (λ (m : MemoryChanges). read (reading m next) rest) (sym (none_more area made)));
+}
 changes_read area (c ∷ cs) made next end goes all =
     let text = change_text area end c in
     let others = change_texts area (c.at + c.count) cs in
@@ -236,10 +252,10 @@ changes_read area (c ∷ cs) made next end goes all =
     subst (λ (m : MemoryChanges). ReadsFrom made next (text ++ others) m) (one_more area c cs made)
     (record {
       by = λ rest ends.
-          let behind = after.by rest ends in
-          let ahead = first.by (others ++ rest) behind.0 in
+          let later = after.by rest ends in
+          let ahead = first.by (others ++ rest) later.0 in
           let same = append_assoc text others rest in
-          (ap (λ l. (cut l).0) same ∙ ahead.0, behind.1, ap (read (reading made next)) same ∙ ahead.1 ∙ behind.2);
+          (ap (λ l. (cut l).0) same ∙ ahead.0, later.1, ap (read (reading made next)) same ∙ ahead.1 ∙ later.2);
     })
 
 area_read : (area : Area) (cs : List Change) (made : MemoryChanges) → AllInside (size_of area) cs → Reads made (area_text area cs) (with_runs area cs made)
@@ -273,18 +289,22 @@ unfolding byte_digits
 held_back h lt = rw (not_true _ (digit_passes (λ byte. not (byte == 0x2D)) (h / 16) refl)) (ap Some (byte_back h lt))
 
 module _ (made : MemoryChanges) where
-  address_read : (a : Option ℕ) → FitsBelow 65536 a → Reads (latched made None None None None None None) (latch_text (codes "VA") word_digits a) (latched made a None None None None None)
+  address_read : (a : Option ℕ) → FitsBelow 65536 a → Reads (latched made None None None None None None) (latch_text (codes "VA") word_digits a)
+      (latched made a None None None None None)
   address_read None fits = reads_none _
   address_read (Some a) fits = one_named _ _ None (codes "VA") (word_digits a) refl (word_digits_pass plain a refl) (rw (word_back a fits) refl)
 
-  fetched_read : (a f : Option ℕ) → FitsBelow 256 f → Reads (latched made a None None None None None) (latch_text (codes "VF") byte_digits f) (latched made a f None None None None)
+  fetched_read : (a f : Option ℕ) → FitsBelow 256 f → Reads (latched made a None None None None None) (latch_text (codes "VF") byte_digits f)
+      (latched made a f None None None None)
   fetched_read a None fits = reads_none _
   fetched_read a (Some f) fits = one_named _ _ None (codes "VF") (byte_digits f) refl (byte_digits_pass plain f refl) (rw (byte_back f fits) refl)
 
-  held_read : (a f : Option ℕ) (h : Option (Option ℕ)) → HeldFits h → Reads (latched made a f None None None None) (latch_text (codes "VH") held_text h) (latched made a f h None None None)
+  held_read : (a f : Option ℕ) (h : Option (Option ℕ)) → HeldFits h → Reads (latched made a f None None None None) (latch_text (codes "VH") held_text h)
+      (latched made a f h None None None)
   held_read a f None fits = reads_none _
   held_read a f (Some None) fits = one_named _ _ None (codes "VH") (codes "-") refl refl refl
-  held_read a f (Some (Some h)) fits = one_named _ _ None (codes "VH") (byte_digits h) refl (byte_digits_pass plain h refl) (ap (λ (o : Option ℕ). reading (latched made a f (Some o) None None None) None) (held_back h fits))
+  held_read a f (Some (Some h)) fits = one_named _ _ None (codes "VH") (byte_digits h) refl (byte_digits_pass plain h refl)
+      (ap (λ (o : Option ℕ). reading (latched made a f (Some o) None None None) None) (held_back h fits))
 
   counter_read : (a f : Option ℕ) (h : Option (Option ℕ)) (c : Option ℕ) → FitsBelow 65536 c
       → Reads (latched made a f h None None None) (latch_text (codes "GA") word_digits c) (latched made a f h c None None)
@@ -339,7 +359,8 @@ changes_text_read made fit =
     reads_then _ (of_all w [] [] [] [] [] z) _ _ _ (registers_read no_changes w fit.workspace)
     (reads_then _ (of_all w o.scratchpad o.low_expansion o.high_expansion [] [] z) _ _ _
     (reads_then _ (of_all w o.scratchpad [] [] [] [] z) _ _ _ (area_read Scratchpad o.scratchpad (of_all w [] [] [] [] [] z) fit.scratchpad)
-    (reads_then _ (of_all w o.scratchpad o.low_expansion [] [] [] z) _ _ _ (area_read LowExpansion o.low_expansion (of_all w o.scratchpad [] [] [] [] z) fit.low_expansion)
+    (reads_then _ (of_all w o.scratchpad o.low_expansion [] [] [] z) _ _ _
+    (area_read LowExpansion o.low_expansion (of_all w o.scratchpad [] [] [] [] z) fit.low_expansion)
     (area_read HighExpansion o.high_expansion (of_all w o.scratchpad o.low_expansion [] [] [] z) fit.high_expansion)))
     (reads_then _ (of_all w o.scratchpad o.low_expansion o.high_expansion o.video [] z) _ _ _
     (area_read Video o.video (of_all w o.scratchpad o.low_expansion o.high_expansion [] [] z) fit.video)

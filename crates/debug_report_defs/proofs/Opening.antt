@@ -52,7 +52,8 @@ placed_opens place c others e = by (nat_eq c.at 0)
     new : Opens (((codes " " ++ (place ++ codes "=")) ++ value) ++ others)
     new rest b =
         subst (λ l. Begins (0x20 ∷ l))
-        (sym (ap (λ l. (l ++ others) ++ rest) (append_assoc place (codes "=") value) ∙ ap (λ l. l ++ rest) (append_assoc place (0x3D ∷ value) others) ∙ append_assoc place (0x3D ∷ (value ++ others)) rest))
+        (sym (ap (λ l. (l ++ others) ++ rest) (append_assoc place (codes "=") value) ∙ ap (λ l. l ++ rest) (append_assoc place (0x3D ∷ value) others)
+        ∙ append_assoc place (0x3D ∷ (value ++ others)) rest))
         (begins_name place ((value ++ others) ++ rest) (is_in_word place e))
 
     by : (same : Bool) → Opens ((cond (same && false) (codes ",") (codes " " ++ (place ++ codes "=")) ++ value) ++ others)

@@ -47,7 +47,14 @@ new_memory_is m v image h new zeros =
 
 placed_fits : (m : Memory) → IsMemory m → (r : Region) (w : ℕ) → w < 65536 → IsMemory (word_placed_in r m w)
 placed_fits m is (Rom at) w lt =
-    record { scratchpad = is.scratchpad; low_expansion = is.low_expansion; high_expansion = is.high_expansion; rom = word_set 8192 m.rom at w lt is.rom; vdp = is.vdp; grom = is.grom }
+    record {
+      scratchpad = is.scratchpad;
+      low_expansion = is.low_expansion;
+      high_expansion = is.high_expansion;
+      rom = word_set 8192 m.rom at w lt is.rom;
+      vdp = is.vdp;
+      grom = is.grom;
+    }
 placed_fits m is (LowExpansion at) w lt = with_low m is _ (word_set 8192 m.low_expansion at w lt is.low_expansion)
 placed_fits m is (HighExpansion at) w lt = with_high m is _ (word_set 24576 m.high_expansion at w lt is.high_expansion)
 placed_fits m is (Scratchpad at) w lt = is
@@ -68,5 +75,6 @@ starts_are_machines input linked x is start =
     let fit = linked_fits input linked is in
     let loaded = start.machine.memory in
     let empty = new_memory_is loaded.empty loaded.vdp start.image loaded.new_memory loaded.new_vdp start.zeros in
-    let memory = subst IsMemory (sym loaded.loaded) (words_fit (entries linked.words) (with_first_word 0 loaded.empty) (first_fits loaded.empty empty) fit.words) in
+    let memory = subst IsMemory (sym loaded.loaded) (words_fit (entries linked.words) (with_first_word 0 loaded.empty)
+    (first_fits loaded.empty empty) fit.words) in
     subst IsMachine (sym start.machine.machine) (new_machine_is x.cpu.memory 0x83E0 linked.entry memory (omega arith) fit.entry)

@@ -52,7 +52,8 @@ use Rattle.machine_change_defs.proofs.Keeping.{Holds, holds}
 none : {X : Type 0} {Q : X → Type 0} → Holds Q NoInstruction
 none = record { by = λ x e. absurd (cc) }
 
-holds_then : {X Y : Type 0} {Q : X → Type 0} {R : Y → Type 0} (a : Answer X) (f : X → Answer Y) → Holds Q a → ((x : X) → Q x → Holds R (f x)) → Holds R (a >>= f)
+holds_then : {X Y : Type 0} {Q : X → Type 0} {R : Y → Type 0} (a : Answer X) (f : X → Answer Y) → Holds Q a → ((x : X) → Q x → Holds R (f x)) → Holds R
+    (a >>= f)
 holds_then (Gives x) f h k = k x (h.by x refl)
 holds_then (AtPort p) f h k = record { by = λ x e. absurd (cc) }
 holds_then NoInstruction f h k = none

@@ -27,5 +27,6 @@ pub step_begins : (made : StepChanges) → FitSteps made → Begins (step_text m
 unfolding step_text
 step_begins made fit =
     opens_then (part_text Cells made.cells) (part_text Video made.vdp ++ part_text Registers made.registers) (part_opens Cells made.cells fit.cells)
-    (opens_then (part_text Video made.vdp) (part_text Registers made.registers) (part_opens Video made.vdp fit.vdp) (part_opens Registers made.registers fit.registers))
+    (opens_then (part_text Video made.vdp) (part_text Registers made.registers) (part_opens Video made.vdp fit.vdp)
+    (part_opens Registers made.registers fit.registers))
     (codes "\n") begins_feed

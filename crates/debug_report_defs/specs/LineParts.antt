@@ -2,7 +2,7 @@
 -- no front has an equals sign or a line feed, and each word of the changes has an equals sign.
 use Rattle.std.specs.Prelude.{ℕ, Bool, true, false, ◌==◌, ◌&&◌, ◌||◌, if◌then◌else◌, List, [], ◌∷◌}
 
--- an equals sign stands before the next blank
+-- there is an equals sign before the next blank
 abbrev pub has_equals : List ℕ → Bool
 has_equals [] = false
 has_equals (byte ∷ bytes) = if byte == 0x3D then true else if byte == 0x20 then false else has_equals bytes
