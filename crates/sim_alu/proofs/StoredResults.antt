@@ -69,7 +69,7 @@ module _ (op : GplOperation) (x y z : MachineState) (t u w : ℕ) (f : is_alu (S
       let a2 = comes_on 3 45 a1 (d c (row_width s) place m.number a1.holds) refl in
       subst P (sym m.is) (comes_as 50 (SeesFinished (with_value (row_width s) place m.number c)) a2 (omega arith) (λ q h. h)))
       (λ (m : Flagged op s place source (result_piece op v)). let pc = e.stands.pc in let to = m.to in absurd (omega arith))
-      (Making.made v (is_view x stands.machine) s place source a op f o operands)
+      (MadeResults.made v (is_view x stands.machine) s place source a op f o operands)
 
   pub by_store : (y.cpu.pc ≡ STO → ⊥) → StoresWithStatus y z u w → RunsRow op most_of_alu_row x z t w
   by_store away d s place source o a operands =
@@ -83,4 +83,4 @@ module _ (op : GplOperation) (x y z : MachineState) (t u w : ℕ) (f : is_alu (S
       let r12 : (view y).r.r12 ≡ join m.status 0 = ap (λ (q : View). q.r.r12) e.shows ∙ m.keeps in
       let a2 = comes_on 6 44 a1 (d c (row_width s) place m.number m.status a1.holds r12) refl in
       subst P (sym m.is) (comes_as 50 (SeesFinished (with_status m.status (with_value (row_width s) place m.number c))) a2 (omega arith) (λ q h. h)))
-      (Making.made v (is_view x stands.machine) s place source a op f o operands)
+      (MadeResults.made v (is_view x stands.machine) s place source a op f o operands)

@@ -7,7 +7,7 @@ use Rattle.gpl_watch.proofs.run.run_watched.Goals as goal
 
 pub loop-made-init : goal.loop-made-init
 loop-made-init g c =
-    Watching.begun c.args.session.now c.args.steps.now c.args.watched.now c.requires.running c.holds_match.ensures
+    WatchedRuns.begun c.args.session.now c.args.steps.now c.args.watched.now c.requires.running c.holds_match.ensures
     c.requires.kept
 
 pub next-requires : goal.next-requires
@@ -15,12 +15,12 @@ next-requires g c = record { running = c.loop-made.invariant.running }
 
 pub returns-in-Stopped-clause-found : goal.returns-in-Stopped-clause-found
 returns-in-Stopped-clause-found g c =
-    sym (Watching.stops_found c.next.new.self c.next.new.steps c.loop-made.invariant c.in-Stopped.is
+    sym (WatchedRuns.stops_found c.next.new.self c.next.new.steps c.loop-made.invariant c.in-Stopped.is
     c.next.ensures.turned c.next.ensures.ended c.args.limit c.loop-made-test.true)
 
 pub returns-in-Stopped-clause-runs : goal.returns-in-Stopped-clause-runs
 returns-in-Stopped-clause-runs g c =
-    Watching.stops_runs c.next.new.self c.next.new.steps c.loop-made.invariant c.in-Stopped.is c.next.ensures.turned
+    WatchedRuns.stops_runs c.next.new.self c.next.new.steps c.loop-made.invariant c.in-Stopped.is c.next.ensures.turned
     c.next.ensures.ended c.args.limit c.loop-made-test.true
 
 pub returns-in-Stopped-clause-items : goal.returns-in-Stopped-clause-items
@@ -28,20 +28,20 @@ returns-in-Stopped-clause-items g c = kept_items _ _ _ c.loop-made.invariant.kep
 
 pub returns-in-Stopped-clause-kept : goal.returns-in-Stopped-clause-kept
 returns-in-Stopped-clause-kept g c =
-    Watching.stops_kept c.next.new.self c.next.new.steps c.loop-made.invariant c.in-Stopped.is
+    WatchedRuns.stops_kept c.next.new.self c.next.new.steps c.loop-made.invariant c.in-Stopped.is
     c.next.ensures.turned c.next.ensures.ended
 
 pub returns-in-Some-clause-found : goal.returns-in-Some-clause-found
 returns-in-Some-clause-found g c =
     let place = c.in-Some.place in
     let at = slice_get-get_or c.loop-made.watched place c.index-watched-place.result c.in-Some.ensures.within in
-    let first = Watching.first_told c.next.new.self c.loop-made.watched c.pc-behind.ensures c.first_that_holds.ensures.first ∙ c.in-Some.is in
-    Watching.hit_found c.next.new.self c.next.new.steps c.loop-made.invariant c.in_default.is
+    let first = WatchedRuns.first_told c.next.new.self c.loop-made.watched c.pc-behind.ensures c.first_that_holds.ensures.first ∙ c.in-Some.is in
+    WatchedRuns.hit_found c.next.new.self c.next.new.steps c.loop-made.invariant c.in_default.is
     c.next.ensures.turned c.next.ensures.ended place c.args.limit first c.loop-made-test.true at c.hit-found.ensures c.pc-from.ensures c.change.ensures
 
 pub returns-in-Some-clause-runs : goal.returns-in-Some-clause-runs
 returns-in-Some-clause-runs g c =
-    Watching.hit_runs c.next.new.self c.next.new.steps c.loop-made.invariant c.in_default.is c.next.ensures.turned
+    WatchedRuns.hit_runs c.next.new.self c.next.new.steps c.loop-made.invariant c.in_default.is c.next.ensures.turned
     c.next.ensures.ended c.args.limit c.hit-found.ensures
 
 pub returns-in-Some-clause-items : goal.returns-in-Some-clause-items
@@ -56,19 +56,19 @@ returns-in-Some-clause-kept g c =
 
 pub loop-made-preserved : goal.loop-made-preserved
 loop-made-preserved g c =
-    Watching.goes_on c.next.new.self c.next.new.steps c.loop-made.invariant c.in_default.is
+    WatchedRuns.goes_on c.next.new.self c.next.new.steps c.loop-made.invariant c.in_default.is
     c.next.ensures.turned c.next.ensures.ended
-    (Watching.first_told c.next.new.self c.loop-made.watched c.pc-behind.ensures c.first_that_holds.ensures.first ∙ c.in_default-first_that_holds.is)
+    (WatchedRuns.first_told c.next.new.self c.loop-made.watched c.pc-behind.ensures c.first_that_holds.ensures.first ∙ c.in_default-first_that_holds.is)
 
 pub returns-clause-found : goal.returns-clause-found
 returns-clause-found g c =
     let all : c.loop-made.made ≡ c.args.limit = omega (arith, c.loop-made-test.false, c.loop-made.auto.made-end) in
-    sym (Watching.none_is_found all c.loop-made.invariant)
+    sym (WatchedRuns.none_is_found all c.loop-made.invariant)
 
 pub returns-clause-runs : goal.returns-clause-runs
 returns-clause-runs g c =
     let all : c.loop-made.made ≡ c.args.limit = omega (arith, c.loop-made-test.false, c.loop-made.auto.made-end) in
-    Watching.all_runs all c.loop-made.invariant
+    WatchedRuns.all_runs all c.loop-made.invariant
 
 pub returns-clause-items : goal.returns-clause-items
 returns-clause-items g c = kept_items _ _ _ c.loop-made.invariant.kept

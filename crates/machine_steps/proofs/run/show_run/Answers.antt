@@ -6,7 +6,7 @@ use Rattle.machine_steps.proofs.UnchangedParts.{stays_at}
 use Rattle.machine_steps.proofs.run.show_run.Goals as goal
 
 pub loop-made-init : goal.loop-made-init
-loop-made-init g c = Showing.begun c.args.limit c.args.machine.now (g.O.Sink.state c.args.out.now) c.args.seen.now c.requires.kept
+loop-made-init g c = ShownRuns.begun c.args.limit c.args.machine.now (g.O.Sink.state c.args.out.now) c.args.seen.now c.requires.kept
 
 pub returns-in_err-put_chunk-in-Done-clause-shows : goal.returns-in_err-put_chunk-in-Done-clause-shows
 returns-in_err-put_chunk-in-Done-clause-shows g c =
@@ -14,7 +14,7 @@ returns-in_err-put_chunk-in-Done-clause-shows g c =
     let p = err_from_is_err_and c.from_residual.result c.from_residual.ensures.1 in
     let ends = rw (c.bus.ensures, c.wp-wp.ensures.value, c.append.ensures, c.clear.ensures, c.as_slice.ensures.value, c.step_front.ensures) at c.append_changes.ensures.text in
     let missed = rw (c.bytes.ensures) at c.in_err-put_chunk-in-Done.ensures in
-    rw p.1 (Showing.breaks_off c.args.limit c.args.machine.now c.loop-made.machine c.loop-made.made (state c.args.out.now) (state c.loop-made.out) c.loop-made.seen c.loop-made.invariant
+    rw p.1 (ShownRuns.breaks_off c.args.limit c.args.machine.now c.loop-made.machine c.loop-made.made (state c.args.out.now) (state c.loop-made.out) c.loop-made.seen c.loop-made.invariant
     c.loop-made-test.true c.step.result c.step.new.self c.step.ensures.step c.in-Done.word c.in-Done.is c.append_changes.new.line (c.loop-made.made + 1) refl ends
     (state c.put_chunk.new.sink) missed)
 
@@ -24,7 +24,7 @@ returns-then-word-eq-SELF_JUMP-clause-shows g c =
     let ends = rw (c.bus.ensures, c.wp-wp.ensures.value, c.append.ensures, c.clear.ensures, c.as_slice.ensures.value, c.step_front.ensures) at c.append_changes.ensures.text in
     let wrote = rw (c.bytes.ensures) at c.in_ok-put_chunk-in-Done.ensures in
     let self : c.in-Done.word ≡ 0x10FF = let t = c.if-word-eq-SELF_JUMP.true in grind (arith, nat_tests) in
-    Showing.jumped c.args.limit c.args.machine.now c.loop-made.machine c.loop-made.made (state c.args.out.now) (state c.loop-made.out) c.loop-made.seen c.loop-made.invariant
+    ShownRuns.jumped c.args.limit c.args.machine.now c.loop-made.machine c.loop-made.made (state c.args.out.now) (state c.loop-made.out) c.loop-made.seen c.loop-made.invariant
     c.loop-made-test.true c.step.result c.step.new.self c.step.ensures.step c.in-Done.word c.in-Done.is c.append_changes.new.line (c.loop-made.made + 1) refl ends
     (state c.put_chunk.new.sink) wrote self
 
@@ -39,7 +39,7 @@ loop-made-preserved g c =
     let ends = rw (c.bus.ensures, c.wp-wp.ensures.value, c.append.ensures, c.clear.ensures, c.as_slice.ensures.value, c.step_front.ensures) at c.append_changes.ensures.text in
     let wrote = rw (c.bytes.ensures) at c.in_ok-put_chunk-in-Done.ensures in
     let kept = rw c.bus.ensures at c.append_changes.ensures.seen in
-    Showing.shown c.args.limit c.args.machine.now c.loop-made.machine c.loop-made.made (state c.args.out.now) (state c.loop-made.out) c.loop-made.seen c.loop-made.invariant
+    ShownRuns.shown c.args.limit c.args.machine.now c.loop-made.machine c.loop-made.made (state c.args.out.now) (state c.loop-made.out) c.loop-made.seen c.loop-made.invariant
     c.loop-made-test.true c.step.result c.step.new.self c.step.ensures.step c.in-Done.word c.in-Done.is c.append_changes.new.line (c.loop-made.made + 1) refl ends
     (state c.put_chunk.new.sink) c.append_changes.new.seen wrote (λ e. let t = c.if-word-eq-SELF_JUMP.false in grind (arith, nat_tests)) kept
 
@@ -47,4 +47,4 @@ pub returns-clause-shows : goal.returns-clause-shows
 returns-clause-shows g c =
     let state = g.O.Sink.state in
     let all : c.loop-made.made ≡ c.args.limit = let a = c.loop-made-test.false in let b = c.loop-made.auto.made-end in omega arith in
-    Showing.limited c.args.limit c.args.machine.now c.loop-made.machine c.loop-made.made (state c.args.out.now) (state c.loop-made.out) c.loop-made.seen c.loop-made.invariant all
+    ShownRuns.limited c.args.limit c.args.machine.now c.loop-made.machine c.loop-made.made (state c.args.out.now) (state c.loop-made.out) c.loop-made.seen c.loop-made.invariant all

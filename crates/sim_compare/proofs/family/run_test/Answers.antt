@@ -12,7 +12,7 @@ pub test_status-requires-clause-test : goal.test_status-requires-clause-test
 test_status-requires-clause-test g c = subst (λ (o : Option GplOperation). is_test o ≡ true) c.requires.told c.requires.at.family
 
 pub end_comparison-requires : goal.end_comparison-requires
-end_comparison-requires g c = Testing.test_told c.args.name c.requires.told c.requires.at c.test_status.ensures
+end_comparison-requires g c = StatusTests.test_told c.args.name c.requires.told c.requires.at c.test_status.ensures
 
 pub returns : goal.returns
-returns g c = Testing.test_turns c.args.name c.requires.told c.requires.at c.test_status.ensures c.end_comparison.ensures
+returns g c = StatusTests.test_turns c.args.name c.requires.told c.requires.at c.test_status.ensures c.end_comparison.ensures

@@ -34,6 +34,6 @@ returns g c =
     let q = c.requires in
     let l = c.run_load.ensures in
     let s = c.run_store.ensures in
-    Counting.copies q.at q.stands.pc q.left
+    CopiedBytes.copies q.at q.stands.pc q.left
     (Routines.goes q.at q.left c.next_byte.ensures l.value l.stream c.store_byte.ensures s.value s.register c.count_byte.ensures)
     (Routines.place_told q.at q.left c.next_byte.ensures l.value l.stream c.store_byte.ensures s.value s.register c.count_byte.ensures)

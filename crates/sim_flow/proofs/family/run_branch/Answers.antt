@@ -4,7 +4,7 @@ use Rattle.sim_flow.proofs.family.run_branch.Goals as goal
 
 pub read_branch_target-requires : goal.read_branch_target-requires
 read_branch_target-requires g c =
-    (Branching.at_target c.args._on c.requires.is c.requires.stands c.requires.dispatched c.test_branch.ensures
+    (Branches.at_target c.args._on c.requires.is c.requires.stands c.requires.dispatched c.test_branch.ensures
     (on c.pc.ensures.value c.if-pc-eq-BTARG.true)).stands
 
 pub take_jump-requires : goal.take_jump-requires
@@ -12,15 +12,15 @@ take_jump-requires g c = c.read_branch_target.ensures.stands
 
 pub clear_condition-requires : goal.clear_condition-requires
 clear_condition-requires g c =
-    (Branching.passed_by c.args._on c.requires.is c.requires.stands c.requires.dispatched c.test_branch.ensures
+    (Branches.passed_by c.args._on c.requires.is c.requires.stands c.requires.dispatched c.test_branch.ensures
     (off c.pc.ensures.value c.if-pc-eq-BTARG.false)).stands
 
 pub returns-then-pc-eq-BTARG : goal.returns-then-pc-eq-BTARG
 returns-then-pc-eq-BTARG g c =
-    Branching.takes c.args._on c.requires.is c.requires.stands c.requires.dispatched c.test_branch.ensures
+    Branches.takes c.args._on c.requires.is c.requires.stands c.requires.dispatched c.test_branch.ensures
     (on c.pc.ensures.value c.if-pc-eq-BTARG.true) c.read_branch_target.ensures c.take_jump.ensures
 
 pub returns-else-pc-eq-BTARG : goal.returns-else-pc-eq-BTARG
 returns-else-pc-eq-BTARG g c =
-    Branching.passes_on c.args._on c.requires.is c.requires.stands c.requires.dispatched c.test_branch.ensures
+    Branches.passes_on c.args._on c.requires.is c.requires.stands c.requires.dispatched c.test_branch.ensures
     (off c.pc.ensures.value c.if-pc-eq-BTARG.false) c.clear_condition.ensures

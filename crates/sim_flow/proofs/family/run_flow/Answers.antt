@@ -9,7 +9,7 @@ leave-requires g c = stands_at c.requires (is_exit c.requires (sym c.current_ope
 pub returns-in-Some-Plain : goal.returns-in-Some-Plain
 returns-in-Some-Plain g c =
     let is = is_exit c.requires (sym c.current_operation.ensures ∙ c.in-Some-Plain.is ∙ ap Some c.in-Some-Plain.field-0-is) in
-    Jumping.exits c.requires.dispatched is (stands_at c.requires is) c.leave.ensures
+    Jumps.exits c.requires.dispatched is (stands_at c.requires is) c.leave.ensures
 
 pub run_jump-requires-clause-stands : goal.run_jump-requires-clause-stands
 run_jump-requires-clause-stands g c =

@@ -7,4 +7,4 @@ jump-requires g c = c.read_target.ensures.stands
 
 pub returns : goal.returns
 returns g c =
-    Jumping.jumps _ _ c.requires.dispatched refl c.requires.is c.requires.stands c.read_target.ensures c.jump.ensures
+    Jumps.jumps _ _ c.requires.dispatched refl c.requires.is c.requires.stands c.read_target.ensures c.jump.ensures

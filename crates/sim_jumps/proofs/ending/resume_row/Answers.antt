@@ -5,7 +5,7 @@ pub end_row-requires-clause-stands : goal.end_row-requires-clause-stands
 end_row-requires-clause-stands g c = c.resume.ensures.stands
 
 pub end_row-requires-clause-idle : goal.end_row-requires-clause-idle
-end_row-requires-clause-idle g c = Going.idle_behind c.requires.stands c.resume.ensures c.requires.idle
+end_row-requires-clause-idle g c = Jumps.idle_behind c.requires.stands c.resume.ensures c.requires.idle
 
 pub returns : goal.returns
-returns g c = Going.resumes c.requires.stands c.resume.ensures c.end_row.ensures
+returns g c = Jumps.resumes c.requires.stands c.resume.ensures c.end_row.ensures

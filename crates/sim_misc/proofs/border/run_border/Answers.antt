@@ -6,4 +6,4 @@ pub set_border-requires : goal.set_border-requires
 set_border-requires g c = entered _ _ c.requires.border c.requires.stands
 
 pub returns : goal.returns
-returns g c = Bordering.borders c.requires.dispatched c.requires.border (entered _ _ c.requires.border c.requires.stands) c.set_border.ensures
+returns g c = Borders.borders c.requires.dispatched c.requires.border (entered _ _ c.requires.border c.requires.stands) c.set_border.ensures

@@ -10,4 +10,4 @@ draw_number-requires g c = c.draw_seed.ensures.stands
 
 pub returns : goal.returns
 returns g c =
-    Drawing.draws c.requires.dispatched c.requires.random (entered _ _ c.requires.random c.requires.stands) c.draw_seed.ensures c.draw_number.ensures
+    RandomNumbers.draws c.requires.dispatched c.requires.random (entered _ _ c.requires.random c.requires.stands) c.draw_seed.ensures c.draw_number.ensures

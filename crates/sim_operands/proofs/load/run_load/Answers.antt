@@ -6,15 +6,15 @@ pub returns-then-space-eq1-clause-value : goal.returns-then-space-eq1-clause-val
 returns-then-space-eq1-clause-value g c = λ small.
     let told = c.register-space.ensures in
     let test = c.if-space-eq1.true in
-    Carrying.load_video _ _ _ c.requires.stands c.requires.idle _ _ _ _ (omega arith) c.load_value.ensures c.load_video.ensures
+    TransferPieces.load_video _ _ _ c.requires.stands c.requires.idle _ _ _ _ (omega arith) c.load_value.ensures c.load_video.ensures
 
 pub returns-then-space-gt1-clause-stream : goal.returns-then-space-gt1-clause-stream
 returns-then-space-gt1-clause-stream g c = λ large fetched.
-    Carrying.load_stream _ _ _ c.requires.stands c.requires.idle _ _ _ _ large fetched c.load_value.ensures c.stream_value.ensures
+    TransferPieces.load_stream _ _ _ c.requires.stands c.requires.idle _ _ _ _ large fetched c.load_value.ensures c.stream_value.ensures
 
 pub returns-else-space-gt1-clause-value : goal.returns-else-space-gt1-clause-value
 returns-else-space-gt1-clause-value g c = λ small.
     let told = c.register-space.ensures in
     let one = c.if-space-eq1.false in
     let more = c.if-space-gt1.false in
-    Carrying.load_cells _ _ _ c.requires.stands c.requires.idle _ _ c.requires.visible (omega arith) c.load_value.ensures
+    TransferPieces.load_cells _ _ _ c.requires.stands c.requires.idle _ _ c.requires.visible (omega arith) c.load_value.ensures

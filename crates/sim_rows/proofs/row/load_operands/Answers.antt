@@ -14,15 +14,15 @@ module _ (g : Over) (c : After-load_destination g) (went : c.load_destination.re
   abbrev s : GplState
   s = state_at_dispatch (view c.args.machine.now)
 
-  begun : Telling.Begun s c.args.machine.now c.load_destination.new.machine c.args.steps.now c.load_destination.new.steps
+  begun : RowStart.Begun s c.args.machine.now c.load_destination.new.machine c.args.steps.now c.load_destination.new.steps
   begun =
-      Telling.begun s c.args.machine.now c.load_destination.new.machine c.args.steps.now c.load_destination.new.steps
+      RowStart.begun s c.args.machine.now c.load_destination.new.machine c.args.steps.now c.load_destination.new.steps
       (subst (λ (b : Bool). LoadsDestination s c.args.machine.now c.load_destination.new.machine c.args.steps.now c.load_destination.new.steps b (first_of s))
       went c.load_destination.ensures)
 
   two : c.load_destination.new.machine.cpu.pc ≡ OPSTWO →
-      Telling.TwoOperands s c.args.machine.now c.load_destination.new.machine c.args.steps.now c.load_destination.new.steps begun
-  two here = Telling.two s c.args.machine.now c.load_destination.new.machine c.args.steps.now c.load_destination.new.steps begun here
+      RowStart.TwoOperands s c.args.machine.now c.load_destination.new.machine c.args.steps.now c.load_destination.new.steps begun
+  two here = RowStart.two s c.args.machine.now c.load_destination.new.machine c.args.steps.now c.load_destination.new.steps begun here
 
 pub load_source-requires-clause-stands : goal.load_source-requires-clause-stands
 load_source-requires-clause-stands g c =
@@ -62,10 +62,10 @@ returns-then-pc-eq-OPSTWO g c =
     let k = begun g at c.if-not-load_destination.false in
     let o = two g at c.if-not-load_destination.false (on c.pc.ensures.value c.if-pc-eq-OPSTWO.true) in
     let s = state_at_dispatch (view c.args.machine.now) in
-    Telling.loaded s _ _ _ _ k o _ _ c.load_source.result (c.load_source.ensures s k.place o.has o.comes.holds)
+    RowStart.loaded s _ _ _ _ k o _ _ c.load_source.result (c.load_source.ensures s k.place o.has o.comes.holds)
 
 pub returns : goal.returns
 returns g c =
     let at = (goal.at.returns g c).After-load_destination in
-    Telling.one (state_at_dispatch (view c.args.machine.now)) _ _ _ _ (begun g at c.if-not-load_destination.false)
+    RowStart.one (state_at_dispatch (view c.args.machine.now)) _ _ _ _ (begun g at c.if-not-load_destination.false)
     (off c.pc.ensures.value c.if-pc-eq-OPSTWO.false)

@@ -12,9 +12,9 @@ module _ (g : Over) (c : After-load_operands g) (went : c.load_operands.result �
   abbrev s : GplState
   s = state_at_dispatch (view c.args.machine.now)
 
-  ready : Telling.Ready s c.args.machine.now c.load_operands.new.machine c.args.steps.now c.load_operands.new.steps
+  ready : RowStart.Ready s c.args.machine.now c.load_operands.new.machine c.args.steps.now c.load_operands.new.steps
   ready =
-      Telling.ready s c.args.machine.now c.load_operands.new.machine c.args.steps.now c.load_operands.new.steps
+      RowStart.ready s c.args.machine.now c.load_operands.new.machine c.args.steps.now c.load_operands.new.steps
       (subst (λ (b : Bool). LoadsOperands s c.args.machine.now c.load_operands.new.machine c.args.steps.now c.load_operands.new.steps b (operands_of s))
       went c.load_operands.ensures)
 
@@ -48,6 +48,6 @@ returns g c =
     let kept : (view c.args.machine.now).r.r0 ≡ code_byte (state_at_dispatch (view c.args.machine.now)) = c.requires.dispatched.code in
     let code : c.register-code.result ≡ code_byte (state_at_dispatch (view c.args.machine.now)) = let a = c.register-code.ensures in omega arith in
     record {
-      starts = Telling.starts (state_at_dispatch (view c.args.machine.now)) _ _ _ _ (ready g at c.if-not-load_operands.false) _ _ c.operation_at.result
+      starts = RowStart.starts (state_at_dispatch (view c.args.machine.now)) _ _ _ _ (ready g at c.if-not-load_operands.false) _ _ c.operation_at.result
           small c.requires.family c.go_to_row.ensures (c.operation_at.ensures ∙ ap operation_at code);
     }

@@ -27,10 +27,10 @@ end_row-requires-clause-idle g c =
     let small : (view c.store_result.new.machine).r.r8 < 2 = subst (λ (v : View). v.r.r8 < 2) (sym e.shows) c.requires.space in
     let idle = idle_again c.args.machine.now.cpu.memory c.store_result.new.machine.cpu.memory (ap (λ (v : View). v.vdp) e.shows)
     (ap (λ (v : View). v.grom) e.shows) c.requires.idle in
-    Storing.stored_idle c.store_result.new.machine c.run_store.new.machine c.store_result.new.steps c.run_store.new.steps idle (c.run_store.ensures.value small)
+    StoredResults.stored_idle c.store_result.new.machine c.run_store.new.machine c.store_result.new.steps c.run_store.new.steps idle (c.run_store.ensures.value small)
 
 pub returns : goal.returns
 returns g c =
     let e = c.store_result.ensures in
     let small : (view c.store_result.new.machine).r.r8 < 2 = subst (λ (v : View). v.r.r8 < 2) (sym e.shows) c.requires.space in
-    Storing.finishes e (c.run_store.ensures.value small) c.end_row.ensures
+    StoredResults.finishes e (c.run_store.ensures.value small) c.end_row.ensures

@@ -5,50 +5,50 @@ use Rattle.sim_shift.proofs.ShiftRows
 use Rattle.sim_shift.proofs.family.run_named.Goals as goal
 
 pub finish_row-requires-clause-idle : goal.finish_row-requires-clause-idle
-finish_row-requires-clause-idle g c = idle_kept (Rowing.keeps c.args.op c.ask_count.ensures c.take_count.ensures.exits) c.requires.idle
+finish_row-requires-clause-idle g c = idle_kept (ShiftRows.keeps c.args.op c.ask_count.ensures c.take_count.ensures.exits) c.requires.idle
 
 pub finish_row-requires-clause-space : goal.finish_row-requires-clause-space
 finish_row-requires-clause-space g c =
-    near_kept (view c.args.machine.now) (view c.take_count.new.machine) (Rowing.keeps c.args.op c.ask_count.ensures c.take_count.ensures.exits) c.requires.space
+    near_kept (view c.args.machine.now) (view c.take_count.new.machine) (ShiftRows.keeps c.args.op c.ask_count.ensures c.take_count.ensures.exits) c.requires.space
 
 pub finish_row-requires-clause-visible : goal.finish_row-requires-clause-visible
 finish_row-requires-clause-visible g c =
-    visible_kept (view c.args.machine.now) (view c.take_count.new.machine) (Rowing.keeps c.args.op c.ask_count.ensures c.take_count.ensures.exits)
+    visible_kept (view c.args.machine.now) (view c.take_count.new.machine) (ShiftRows.keeps c.args.op c.ask_count.ensures c.take_count.ensures.exits)
     c.requires.visible
 
 pub finish_row-requires-clause-stands : goal.finish_row-requires-clause-stands
 finish_row-requires-clause-stands g c =
-    Rowing.stands_none c.args.op c.ask_count.ensures c.take_count.ensures.exits (sym c.take_count.ensures.some ∙ c.if-not-take_count.true)
+    ShiftRows.stands_none c.args.op c.ask_count.ensures c.take_count.ensures.exits (sym c.take_count.ensures.some ∙ c.if-not-take_count.true)
 
 pub returns-then-not-take_count : goal.returns-then-not-take_count
 returns-then-not-take_count g c =
-    λ s place source known a both. Rowing.runs_none c.args.op c.ask_count.ensures c.take_count.ensures.exits s place source known a c.requires.stands.machine
+    λ s place source known a both. ShiftRows.runs_none c.args.op c.ask_count.ensures c.take_count.ensures.exits s place source known a c.requires.stands.machine
     c.finish_row.new.machine c.finish_row.new.steps (sym c.take_count.ensures.some ∙ c.if-not-take_count.true) c.finish_row.ensures
 
 pub shift_value-requires-clause-stands : goal.shift_value-requires-clause-stands
 shift_value-requires-clause-stands g c =
-    Rowing.stands_some c.args.op c.ask_count.ensures c.take_count.ensures.exits (sym c.take_count.ensures.some ∙ c.if-not-take_count.false)
+    ShiftRows.stands_some c.args.op c.ask_count.ensures c.take_count.ensures.exits (sym c.take_count.ensures.some ∙ c.if-not-take_count.false)
 
 pub shift_value-requires-clause-some : goal.shift_value-requires-clause-some
 shift_value-requires-clause-some g c =
-    Rowing.count_some c.args.op c.ask_count.ensures c.take_count.ensures.exits (sym c.take_count.ensures.some ∙ c.if-not-take_count.false)
+    ShiftRows.count_some c.args.op c.ask_count.ensures c.take_count.ensures.exits (sym c.take_count.ensures.some ∙ c.if-not-take_count.false)
 
 pub shift_value-requires-clause-few : goal.shift_value-requires-clause-few
-shift_value-requires-clause-few g c = Rowing.count_few c.args.op c.ask_count.ensures c.take_count.ensures.exits
+shift_value-requires-clause-few g c = ShiftRows.count_few c.args.op c.ask_count.ensures c.take_count.ensures.exits
 
 pub finish_row-requires-2-clause-idle : goal.finish_row-requires-2-clause-idle
 finish_row-requires-2-clause-idle g c =
-    idle_kept (Rowing.shifted c.args.op c.ask_count.ensures c.take_count.ensures.exits c.shift_value.ensures) c.requires.idle
+    idle_kept (ShiftRows.shifted c.args.op c.ask_count.ensures c.take_count.ensures.exits c.shift_value.ensures) c.requires.idle
 
 pub finish_row-requires-2-clause-space : goal.finish_row-requires-2-clause-space
 finish_row-requires-2-clause-space g c =
     near_kept (view c.args.machine.now) (view c.shift_value.new.machine)
-    (Rowing.shifted c.args.op c.ask_count.ensures c.take_count.ensures.exits c.shift_value.ensures) c.requires.space
+    (ShiftRows.shifted c.args.op c.ask_count.ensures c.take_count.ensures.exits c.shift_value.ensures) c.requires.space
 
 pub finish_row-requires-2-clause-visible : goal.finish_row-requires-2-clause-visible
 finish_row-requires-2-clause-visible g c =
     visible_kept (view c.args.machine.now) (view c.shift_value.new.machine)
-    (Rowing.shifted c.args.op c.ask_count.ensures c.take_count.ensures.exits c.shift_value.ensures) c.requires.visible
+    (ShiftRows.shifted c.args.op c.ask_count.ensures c.take_count.ensures.exits c.shift_value.ensures) c.requires.visible
 
 pub finish_row-requires-2-clause-stands : goal.finish_row-requires-2-clause-stands
 finish_row-requires-2-clause-stands g c =
@@ -56,6 +56,6 @@ finish_row-requires-2-clause-stands g c =
 
 pub returns : goal.returns
 returns g c =
-    λ s place source known a both. Rowing.runs_some c.args.op c.ask_count.ensures c.take_count.ensures.exits s place source known a c.requires.stands.machine
+    λ s place source known a both. ShiftRows.runs_some c.args.op c.ask_count.ensures c.take_count.ensures.exits s place source known a c.requires.stands.machine
     c.shift_value.new.machine c.finish_row-2.new.machine c.shift_value.new.steps c.finish_row-2.new.steps
     (sym c.take_count.ensures.some ∙ c.if-not-take_count.false) c.shift_value.ensures c.finish_row-2.ensures

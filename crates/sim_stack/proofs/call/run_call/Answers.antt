@@ -14,7 +14,7 @@ pub returns-then-pc-eq-GSTOP : goal.returns-then-pc-eq-GSTOP
 returns-then-pc-eq-GSTOP g c =
     let s = state_at_dispatch (view c.args.machine.now) in
     let q = c.requires in
-    Calling.stopped s q.stands q.dispatched q.family c.read_call_target.ensures (on c.pc.ensures.value c.if-pc-eq-GSTOP.true)
+    Calls.stopped s q.stands q.dispatched q.family c.read_call_target.ensures (on c.pc.ensures.value c.if-pc-eq-GSTOP.true)
 
 pub find_next-requires : goal.find_next-requires
 find_next-requires g c =
@@ -22,33 +22,33 @@ find_next-requires g c =
     let q = c.requires in
     let elsewhere : c.read_call_target.new.machine.cpu.pc ≡ GSTOP → ⊥ = λ here. let p = c.pc.ensures.value in let r = c.if-pc-eq-GSTOP.false in
     absurd (omega arith) in
-    Calling.stands_finding s q.stands q.dispatched q.family c.read_call_target.ensures elsewhere
+    Calls.stands_finding s q.stands q.dispatched q.family c.read_call_target.ensures elsewhere
 
 pub store_next-requires-clause-stands : goal.store_next-requires-clause-stands
 store_next-requires-clause-stands g c =
     let at = (goal.at.store_next-requires-clause-stands g c).After-find_next in
     let s = state_at_dispatch (view c.args.machine.now) in
     let q = c.requires in
-    Calling.stands_storing s q.stands q.dispatched q.family c.read_call_target.ensures (elsewhere g at) c.find_next.ensures
+    Calls.stands_storing s q.stands q.dispatched q.family c.read_call_target.ensures (elsewhere g at) c.find_next.ensures
 
 pub store_next-requires-clause-visible : goal.store_next-requires-clause-visible
 store_next-requires-clause-visible g c =
     let at = (goal.at.store_next-requires-clause-visible g c).After-find_next in
     let s = state_at_dispatch (view c.args.machine.now) in
     let q = c.requires in
-    Calling.visible_storing s q.stands q.dispatched q.family c.read_call_target.ensures (elsewhere g at) c.find_next.ensures
+    Calls.visible_storing s q.stands q.dispatched q.family c.read_call_target.ensures (elsewhere g at) c.find_next.ensures
 
 pub end_row-requires-clause-idle : goal.end_row-requires-clause-idle
 end_row-requires-clause-idle g c =
     let at = (goal.at.end_row-requires-clause-idle g c).After-find_next in
     let s = state_at_dispatch (view c.args.machine.now) in
     let q = c.requires in
-    Calling.idle_ending s q.stands q.dispatched q.family c.read_call_target.ensures (elsewhere g at) c.find_next.ensures c.store_next.ensures
+    Calls.idle_ending s q.stands q.dispatched q.family c.read_call_target.ensures (elsewhere g at) c.find_next.ensures c.store_next.ensures
 
 pub returns : goal.returns
 returns g c =
     let at = (goal.at.returns g c).After-find_next in
     let s = state_at_dispatch (view c.args.machine.now) in
     let q = c.requires in
-    Calling.turned s q.stands q.dispatched q.family c.read_call_target.ensures (elsewhere g at) c.find_next.ensures c.store_next.ensures
+    Calls.turned s q.stands q.dispatched q.family c.read_call_target.ensures (elsewhere g at) c.find_next.ensures c.store_next.ensures
     _ _ c.end_row.ensures

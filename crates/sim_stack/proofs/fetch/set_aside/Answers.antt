@@ -5,5 +5,5 @@ use Rattle.sim_stack.proofs.fetch.set_aside.Goals as goal
 
 pub returns : goal.returns
 returns g c =
-    Locating.sets_aside c.keep_back.new.machine c.seek_address.new.machine c.keep_back.new.steps c.seek_address.new.steps FETCHN refl refl c.requires.link
+    NextAddress.sets_aside c.keep_back.new.machine c.seek_address.new.machine c.keep_back.new.steps c.seek_address.new.steps FETCHN refl refl c.requires.link
     c.where_next.ensures c.keep_back.ensures c.seek_address.ensures

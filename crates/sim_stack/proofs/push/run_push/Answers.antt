@@ -3,14 +3,14 @@ use Rattle.sim_stack.proofs.Pushes
 use Rattle.sim_stack.proofs.push.run_push.Goals as goal
 
 pub returns-then-pc-eq-GSTOP : goal.returns-then-pc-eq-GSTOP
-returns-then-pc-eq-GSTOP g c = Pushing.stopped c.requires.stands c.push_pointer.ensures (on c.pc.ensures.value c.if-pc-eq-GSTOP.true)
+returns-then-pc-eq-GSTOP g c = Pushes.stopped c.requires.stands c.push_pointer.ensures (on c.pc.ensures.value c.if-pc-eq-GSTOP.true)
 
 pub finish_row-requires-clause-idle : goal.finish_row-requires-clause-idle
 finish_row-requires-clause-idle g c =
     let q = c.requires in
-    Pushing.idle_pushed q.stands c.push_pointer.ensures (off c.pc.ensures.value c.if-pc-eq-GSTOP.false) q.idle
+    Pushes.idle_pushed q.stands c.push_pointer.ensures (off c.pc.ensures.value c.if-pc-eq-GSTOP.false) q.idle
 
 pub returns : goal.returns
 returns g c =
     let q = c.requires in
-    Pushing.pushes q.stands c.push_pointer.ensures (off c.pc.ensures.value c.if-pc-eq-GSTOP.false) _ _ q.byte c.finish_row.ensures
+    Pushes.pushes q.stands c.push_pointer.ensures (off c.pc.ensures.value c.if-pc-eq-GSTOP.false) _ _ q.byte c.finish_row.ensures

@@ -6,13 +6,13 @@ pub returns-then-pc-eq-GSTOP : goal.returns-then-pc-eq-GSTOP
 returns-then-pc-eq-GSTOP g c =
     let s = state_at_dispatch (view c.args.machine.now) in
     let q = c.requires in
-    Returning.stopped s q.stands q.dispatched q.family c.take_return.ensures (on c.pc.ensures.value c.if-pc-eq-GSTOP.true)
+    Returns.stopped s q.stands q.dispatched q.family c.take_return.ensures (on c.pc.ensures.value c.if-pc-eq-GSTOP.true)
 
 pub returns-then-pc-eq-TAKE : goal.returns-then-pc-eq-TAKE
 returns-then-pc-eq-TAKE g c =
     let s = state_at_dispatch (view c.args.machine.now) in
     let q = c.requires in
-    Returning.turned_rtn s q.stands q.dispatched q.family c.take_return.ensures (off c.pc.ensures.value c.if-pc-eq-GSTOP.false) _ _
+    Returns.turned_rtn s q.stands q.dispatched q.family c.take_return.ensures (off c.pc.ensures.value c.if-pc-eq-GSTOP.false) _ _
     (on c.pc-2.ensures.value c.if-pc-eq-TAKE.true)
     c.take_jump.ensures
 
@@ -20,5 +20,5 @@ pub returns : goal.returns
 returns g c =
     let s = state_at_dispatch (view c.args.machine.now) in
     let q = c.requires in
-    Returning.turned_rtnc s q.stands q.dispatched q.family c.take_return.ensures (off c.pc.ensures.value c.if-pc-eq-GSTOP.false) _ _
+    Returns.turned_rtnc s q.stands q.dispatched q.family c.take_return.ensures (off c.pc.ensures.value c.if-pc-eq-GSTOP.false) _ _
     (off c.pc-2.ensures.value c.if-pc-eq-TAKE.false) c.jump.ensures

@@ -9,16 +9,16 @@ current_operation-requires-clause-wp g c = c.begin_step.ensures.stands.wp
 
 pub current_operation-requires-clause-dispatched : goal.current_operation-requires-clause-dispatched
 current_operation-requires-clause-dispatched g c =
-    Turning.dispatched (shown_by c.args.machine.now.cpu.memory) c.args.machine.now c.begin_step.new.machine c.args.steps.now c.begin_step.new.steps
+    Turns.dispatched (shown_by c.args.machine.now.cpu.memory) c.args.machine.now c.begin_step.new.machine c.args.steps.now c.begin_step.new.steps
     c.begin_step.ensures
 
 pub run_family-requires : goal.run_family-requires
 run_family-requires g c =
-    Turning.at_dispatch (shown_by c.args.machine.now.cpu.memory) c.args.machine.now c.begin_step.new.machine c.args.steps.now c.begin_step.new.steps
+    Turns.at_dispatch (shown_by c.args.machine.now.cpu.memory) c.args.machine.now c.begin_step.new.machine c.args.steps.now c.begin_step.new.steps
     c.begin_step.ensures (belongs c.family_of.result)
     (subst (λ (o : Option GplOperation). belongs c.family_of.result o ≡ true) c.current_operation.ensures c.family_of.ensures.belongs)
 
 pub returns : goal.returns
 returns g c =
-    Turning.turned (shown_by c.args.machine.now.cpu.memory) c.args.machine.now c.begin_step.new.machine c.args.steps.now c.begin_step.new.steps
+    Turns.turned (shown_by c.args.machine.now.cpu.memory) c.args.machine.now c.begin_step.new.machine c.args.steps.now c.begin_step.new.steps
     c.begin_step.ensures c.run_family.new.machine c.run_family.new.steps c.run_family.result c.run_family.ensures

@@ -5,7 +5,7 @@ use Rattle.trace_dump.proofs.steps.play.Goals as goal
 
 pub loop-made-init : goal.loop-made-init
 loop-made-init g c =
-    Playing.begun g.T.StepLine.shows c.args.session.now c.args.steps.now (g.O.Sink.state c.args.out.now) c.args.seen.now c.requires.running c.holds_match.ensures c.requires.kept
+    ShownPrograms.begun g.T.StepLine.shows c.args.session.now c.args.steps.now (g.O.Sink.state c.args.out.now) c.args.seen.now c.requires.running c.holds_match.ensures c.requires.kept
 
 pub trace_line-requires-clause-running : goal.trace_line-requires-clause-running
 trace_line-requires-clause-running g c = c.loop-made.invariant.running
@@ -16,14 +16,14 @@ next-requires g c = record { running = c.loop-made.invariant.running }
 pub returns-in-Stopped-clause-plays : goal.returns-in-Stopped-clause-plays
 returns-in-Stopped-clause-plays g c =
     let state = g.O.Sink.state in
-    Playing.stops_whole g.T.StepLine.shows c.args.session.now c.loop-made.session c.next.new.self c.args.steps.now c.loop-made.steps c.next.new.steps c.loop-made.made
+    ShownPrograms.stops_whole g.T.StepLine.shows c.args.session.now c.loop-made.session c.next.new.self c.args.steps.now c.loop-made.steps c.next.new.steps c.loop-made.made
     (state c.args.out.now) (state c.loop-made.out) c.loop-made.seen c.loop-made.invariant
     c.next.result c.in-Stopped.field-0 c.in-Stopped.is c.next.ensures.turned c.next.ensures.ended c.args.limit c.loop-made-test.true
 
 pub returns-in-Stopped-clause-kept : goal.returns-in-Stopped-clause-kept
 returns-in-Stopped-clause-kept g c =
     let state = g.O.Sink.state in
-    Playing.stops_kept g.T.StepLine.shows c.args.session.now c.loop-made.session c.next.new.self c.args.steps.now c.loop-made.steps c.next.new.steps c.loop-made.made
+    ShownPrograms.stops_kept g.T.StepLine.shows c.args.session.now c.loop-made.session c.next.new.self c.args.steps.now c.loop-made.steps c.next.new.steps c.loop-made.made
     (state c.args.out.now) (state c.loop-made.out) c.loop-made.seen c.loop-made.invariant
     c.next.result c.in-Stopped.field-0 c.in-Stopped.is c.next.ensures.turned c.next.ensures.ended
 
@@ -34,7 +34,7 @@ returns-in_err-put_chunk-clause-plays g c =
     let line = g.T.StepLine.bytes c.end.new.self in
     let ends = rw (c.machine.ensures, c.begin.ensures) at c.end.ensures.text in
     let missed = rw (c.as_bytes.ensures) at c.in_err-put_chunk.ensures in
-    rw p.1 (Playing.breaks_off g.T.StepLine.shows c.args.session.now c.loop-made.session c.next.new.self c.args.steps.now c.loop-made.steps c.next.new.steps c.loop-made.made
+    rw p.1 (ShownPrograms.breaks_off g.T.StepLine.shows c.args.session.now c.loop-made.session c.next.new.self c.args.steps.now c.loop-made.steps c.next.new.steps c.loop-made.made
     (state c.args.out.now) (state c.loop-made.out) c.loop-made.seen c.loop-made.invariant
     c.next.result c.in_default.is c.next.ensures.turned c.next.ensures.ended
     c.trace_line.result.bytes line (c.loop-made.made + 1) c.trace_line.ensures.text refl ends
@@ -47,7 +47,7 @@ loop-made-preserved g c =
     let ends = rw (c.machine.ensures, c.begin.ensures) at c.end.ensures.text in
     let kept = rw c.machine.ensures at c.end.ensures.seen in
     let wrote = rw (c.as_bytes.ensures) at c.in_ok-put_chunk.ensures in
-    Playing.shown g.T.StepLine.shows c.args.session.now c.loop-made.session c.next.new.self c.args.steps.now c.loop-made.steps c.next.new.steps c.loop-made.made
+    ShownPrograms.shown g.T.StepLine.shows c.args.session.now c.loop-made.session c.next.new.self c.args.steps.now c.loop-made.steps c.next.new.steps c.loop-made.made
     (state c.args.out.now) (state c.loop-made.out) c.loop-made.seen c.loop-made.invariant
     c.next.result c.in_default.is c.next.ensures.turned c.next.ensures.ended
     c.trace_line.result.bytes line (c.loop-made.made + 1) c.trace_line.ensures.text refl ends
@@ -57,7 +57,7 @@ pub returns-clause-plays : goal.returns-clause-plays
 returns-clause-plays g c =
     let state = g.O.Sink.state in
     let all : c.loop-made.made ≡ c.args.limit = let a = c.loop-made-test.false in let b = c.loop-made.auto.made-end in omega arith in
-    Playing.plays_whole g.T.StepLine.shows c.args.limit c.loop-made.made c.args.session.now c.loop-made.session c.args.steps.now c.loop-made.steps
+    ShownPrograms.plays_whole g.T.StepLine.shows c.args.limit c.loop-made.made c.args.session.now c.loop-made.session c.args.steps.now c.loop-made.steps
     (state c.args.out.now) (state c.loop-made.out) c.loop-made.seen all c.loop-made.invariant
 
 pub returns-clause-kept : goal.returns-clause-kept
