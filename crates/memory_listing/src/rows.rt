@@ -19,7 +19,7 @@ const MORE_WORDS: usize = 7;
 /// Writes the words in rows: up to eight whose addresses follow each other.
 pub(crate) fn put_words<O: Sink>(linked: &Linked, out: &mut O) -> Result<(), Failed>
     ensures { Written result (O.state out.old) (O.state out.new)
-        (spec.rows_from 0 (entries (defined_linked linked.now).words)) }
+        (spec.word_rows (entries (defined_linked linked.now).words)) }
 {
     let mut belonging = 0;
     for index in 0..linked.len() {

@@ -1,5 +1,6 @@
 -- The listing of linked memory.
-use Rattle.std.specs.Prelude.{ℕ, zero, suc, ◌+◌, ◌==◌, if◌then◌else◌, List, [], ◌∷◌, ◌++◌, take, map, codes}
+use Rattle.std.specs.Prelude.{ℕ, zero, suc, ◌+◌, ◌==◌, if◌then◌else◌, List, [], ◌∷◌, ◌++◌, length, take}
+use Rattle.std.specs.Prelude.{drop, map, codes}
 use Rattle.std.specs.List.{flat_map}
 use Rattle.std.specs.FinMap.{entries}
 use Rattle.source_defs.specs.Digits.{word_digits, hex_word}
@@ -28,14 +29,19 @@ words_line [] = []
 words_line (word ∷ words) = hex_word word.0 ++ (flat_map word_text (word ∷ words) ++ codes "\n")
 
 -- Profile: then stand the words in order of address, up to eight a row; a new row begins where eight stand or the next
--- address does not follow. The first of the words may belong to the row before them, and have none of their own.
+-- address does not follow. These are at most a number of rows: that of the words in front, and then those of the words
+-- after them.
 abbrev pub rows_from : ℕ → List (ℕ × ℕ) → List (List ℕ)
-rows_from belonging [] = []
-rows_from (suc belonging) (word ∷ words) = rows_from belonging words
-rows_from zero (word ∷ words) =
+rows_from zero words = []
+rows_from (suc most) [] = []
+rows_from (suc most) (word ∷ words) =
     let more = following 7 (word.0 + 2) words in
-    words_line (word ∷ take more words) ∷ rows_from more words
+    words_line (word ∷ take more words) ∷ rows_from most (drop more words)
+
+-- the rows of words
+abbrev pub word_rows : List (ℕ × ℕ) → List (List ℕ)
+word_rows words = rows_from (length words) words
 
 unfoldable pub linked_lines : LinkedMemory → List (List ℕ)
 linked_lines linked =
-    entry_line linked.entry ∷ (map name_line linked.names ++ rows_from 0 (entries linked.words))
+    entry_line linked.entry ∷ (map name_line linked.names ++ word_rows (entries linked.words))
