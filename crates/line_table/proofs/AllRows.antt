@@ -1,5 +1,5 @@
 -- The rows of the table in one list, in the order of the source's lines.
-use Rattle.std.proofs.Common.{ℕ, if◌then◌else◌, List, [], ◌∷◌, ◌++◌, map}
+use Rattle.std.proofs.Common.{if◌then◌else◌, List, ◌++◌, map}
 use Rattle.std.specs.Prelude.{nat_eq}
 use Rattle.asm_defs.specs.declared.location.Location.{Location}
 use Rattle.asm_defs.specs.declared.location.Part.TheVariants as part

@@ -1,6 +1,6 @@
 pub mod Paths
 pub mod Room
-pub mod Returns
+pub mod ReturnRows
 pub mod NextAddress
 pub mod Calls
 pub mod Pushes

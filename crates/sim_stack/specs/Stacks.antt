@@ -1,6 +1,6 @@
 -- Parts of FETCH, for all states that may be there.
 use Rattle.std.specs.Prelude.{ℕ, ◌<◌, ◌≡◌, List, slice_index}
-use Rattle.sim_rows.specs.Prelude.{ShowsChanges, Changes, ReachesWithin, FETCHA, FETCHB, FETCHP, FETCHS, GplState, grom_at}
+use Rattle.sim_rows.specs.Prelude.{ShowsChanges, ReachesWithin, FETCHA, FETCHB, FETCHP, FETCHS, GplState, grom_at}
 use Rattle.sim_rows.specs.Prelude.{GSTEP, join, Loaded, MachineState, next_in_grom, number_of_space, Place}
 use Rattle.sim_rows.specs.Prelude.{SeesFinished, unchanged, View, view, WHERE, with_byte}
 use Rattle.sim_rows.specs.Prelude.{with_pc, with_word, word_in}

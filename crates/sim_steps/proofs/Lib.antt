@@ -3,5 +3,5 @@ pub mod Families
 pub mod RefusedCodes
 pub mod Turns
 pub mod Boots
-pub mod Start
+pub mod FirstState
 pub mod TurnRuns
