@@ -1,5 +1,5 @@
 use Rattle.std.proofs.Common.{◌≡◌, ℕ, List, [], ◌∷◌, map, IfOk, ◌∙◌, subst}
-use Rattle.object_defs.specs.Writing.{Group, Placed, header_text, definition_text, reference_text, entry_items, items_of, written_lines, written}
+use Rattle.object_defs.specs.Writing.{Group, Placed, header_text, definition_text, reference_text, entry_items, items_of, written_lines}
 use Rattle.object_tags.specs.declared.parts.Def.{Def}
 use Rattle.object_tags.specs.declared.parts.Ref.{Ref}
 use Rattle.object_tags.specs.Seen.{defined_def, defined_ref, defined_module}
