@@ -93,12 +93,12 @@ port_region None = Unmapped
 
 -- The region of an address, by whether it lies below >2000, >4000, >8000, >8400 and >A000.
 abbrev pub region_by : Bool → Bool → Bool → Bool → Bool → ℕ → Region
-region_by true _ _ _ _ address = Rom address
-region_by false true _ _ _ address = LowExpansion (address - 0x2000)
-region_by false false true _ _ address = Unmapped
-region_by false false false true _ address = Scratchpad (address % 256)
-region_by false false false false true address = port_region (port_at address)
-region_by false false false false false address = HighExpansion (address - 0xA000)
+region_by true _ _ _ _ address = Rom address  -- >0000 to >1FFF
+region_by false true _ _ _ address = LowExpansion (address - 0x2000)  -- >2000 to >3FFF
+region_by false false true _ _ address = Unmapped  -- >4000 to >7FFF
+region_by false false false true _ address = Scratchpad (address % 256)  -- >8000 to >83FF
+region_by false false false false true address = port_region (port_at address)  -- >8400 to >9FFF
+region_by false false false false false address = HighExpansion (address - 0xA000)  -- from >A000 on
 
 -- Console ROM at >0000, low expansion at >2000, the scratchpad at >8300, the ports from >8800 on, high expansion at
 -- >A000. Editor/Assembler manual, on the memory of the computer.
