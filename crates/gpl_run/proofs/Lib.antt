@@ -1,2 +1,3 @@
+pub mod SessionEnds
 pub mod Built
 pub mod FurtherLines
