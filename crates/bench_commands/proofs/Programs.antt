@@ -80,7 +80,7 @@ module _ (limit : ℕ) (image : Image) (entry : Option ℕ) (loaded : LoadedProg
     of_image = l.of_image;
     left = t.machine;
     runs = begun.runs;
-    is = ends_alike [] run_is t begun.ended begun.memory begun.runs.runs.ends;
+    is = ends_alike [] run_is t begun.ended begun.memory begun.runs.ends;
   }
 
   pub reports_demo : (number : ℕ) (summary : Summary) → summary ≡ summary_of number loaded.image_size (ran_of made t) t.machine →
@@ -92,5 +92,5 @@ module _ (limit : ℕ) (image : Image) (entry : Option ℕ) (loaded : LoadedProg
     runs = begun.runs;
     is =
         ap (λ (s : Summary). Whole (program_status s.ended) (summary_lines s)) is
-        ∙ summaries_alike number loaded.image_size (length (written_bytes image)) made run_is t l.size begun.made_is begun.ended begun.runs.runs.ends;
+        ∙ summaries_alike number loaded.image_size (length (written_bytes image)) made run_is t l.size begun.made_is begun.ended begun.runs.ends;
   }
