@@ -1,70 +1,28 @@
-//! Runs that are written as text, and whether each ends as it says.
+//! Runs in which a call fails, written as text, and whether each ends as it says. Runs in which none fails are in
+//! `tests/rows`.
 //!
 //! A row begins with `%` and what it shows. Each line after that begins with its mark:
 //!
-//! - `#`: a remark;
 //! - `$`: the words, of which `''` is the empty one;
 //! - `<`: a line of the input;
 //! - `@`: the name of a file of the shelf; `+`: a line of that file;
 //! - `!`: `take`, `put` or `shelf`, and the number of its call that fails;
-//! - `?`: the status, where it is not `Done`;
-//! - `>`: a line of the standard output; `.`: more follows these lines; `~`: a part that the output has;
-//! - `e`: a line of the error output.
+//! - `?`: the status, `ReadFault` or `WriteFault`;
+//! - `>`: a line of the standard output. The error output must have nothing.
 //!
-//! After the mark stands a blank, or `-` where no line feed ends the line; `\n` and `\xNN` are single bytes.
+//! After the mark stands a blank, or `-` where no line feed ends the line.
 
 use super::run::run_with;
 use bench_shelf::{FileName, MemShelf};
 use report_defs::Status;
 use std::alloc::{AllocError, Global};
 
-/// The statuses by their names.
-const STATUSES: &[(&str, Status)] = &[
-    ("Refused", Status::Refused),
-    ("Usage", Status::Usage),
-    ("ReadFault", Status::ReadFault),
-    ("WriteFault", Status::WriteFault),
-    ("Stopped", Status::Stopped),
-];
-
-/// The byte of two hexadecimal digits; 0 where they are none.
-fn byte_of(digits: &str) -> u8 {
-    u8::from_str_radix(digits, 16).unwrap_or(0)
-}
-
-/// Appends what stands after a backslash: the byte of its sign, and the text after that.
-fn push_escaped(to: &mut Vec<u8>, text: &str) -> Result<(), AllocError> {
-    if let Some(text) = text.strip_prefix('x')
-        && let Some((digits, rest)) = text.split_at_checked(2)
-    {
-        to.push(byte_of(digits))?;
-        return to.extend_from_slice(rest.as_bytes());
-    }
-    if let Some(rest) = text.strip_prefix('n') {
-        to.push(b'\n')?;
-        return to.extend_from_slice(rest.as_bytes());
-    }
-    Ok(())
-}
-
-/// Appends a text with its signs for bytes.
-fn push_text(to: &mut Vec<u8>, text: &str) -> Result<(), AllocError> {
-    for (before, piece) in text.split('\\').enumerate() {
-        if before == 0 {
-            to.extend_from_slice(piece.as_bytes())?;
-        } else {
-            push_escaped(to, piece)?;
-        }
-    }
-    Ok(())
-}
-
 /// Appends a line, by what stands after its mark.
 fn push_line(to: &mut Vec<u8>, rest: &str) -> Result<(), AllocError> {
     if let Some(text) = rest.strip_prefix('-') {
-        return push_text(to, text);
+        return to.extend_from_slice(text.as_bytes());
     }
-    push_text(to, rest.strip_prefix(' ').unwrap_or(rest))?;
+    to.extend_from_slice(rest.strip_prefix(' ').unwrap_or(rest).as_bytes())?;
     to.push(b'\n')?;
     Ok(())
 }
@@ -136,41 +94,10 @@ fn shelf_of(alloc: Global, row: &str) -> Result<MemShelf, AllocError> {
 
 /// The status of a row.
 fn status_of(row: &str) -> Status {
-    let name = first_of(row, "? ");
-    for &(known, status) in STATUSES {
-        if known == name {
-            return status;
-        }
-    }
-    Status::Done
-}
-
-/// Whether bytes have this part.
-fn has_part(bytes: &[u8], part: &[u8]) -> bool {
-    !part.is_empty() && bytes.windows(part.len()).any(|window| window == part)
-}
-
-/// Whether an output has each part that a row names.
-fn has_parts(alloc: Global, out: &[u8], row: &str) -> Result<bool, AllocError> {
-    for line in row.lines() {
-        if let Some(text) = line.strip_prefix("~ ") {
-            let mut part = Vec::new(alloc);
-            push_text(&mut part, text)?;
-            if !has_part(out, part.as_slice()) {
-                return Ok(false);
-            }
-        }
-    }
-    Ok(true)
-}
-
-/// Whether an output is the lines of a row, or begins with them where more may follow.
-fn is_output(alloc: Global, out: &[u8], row: &str) -> Result<bool, AllocError> {
-    let lines = lines_of(alloc, row, ">")?;
-    if row.contains("\n...") {
-        Ok(out.starts_with(lines.as_slice()) && has_parts(alloc, out, row)?)
+    if first_of(row, "? ") == "ReadFault" {
+        Status::ReadFault
     } else {
-        Ok(out == lines.as_slice())
+        Status::WriteFault
     }
 }
 
@@ -189,11 +116,11 @@ fn holds(alloc: Global, row: &str) -> Result<bool, AllocError> {
         take.as_slice(),
         put.as_slice(),
     )?;
-    let err = lines_of(alloc, row, "e")?;
+    let out = lines_of(alloc, row, ">")?;
     Ok(
         ended.status == status_of(row)
-            && is_output(alloc, ended.out.bytes(), row)?
-            && ended.err.bytes() == err.as_slice(),
+            && ended.out.bytes() == out.as_slice()
+            && ended.err.bytes().is_empty(),
     )
 }
 
