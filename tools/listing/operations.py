@@ -21,7 +21,7 @@ HEAD = '''<!-- Written by tools/interpreter from the interpreter's source, the d
 
 Each operation of GPL at one place: its code bytes, its definition, where the interpreter runs it, the words of its
 own, the pieces that the proofs go over with their bounds, the function whose contract is that the words do what the
-definition says, and some of the wrong bodies that are refused. How the pieces work together is told in
+definition says, and some of the wrong bodies that are refused. How the pieces work together is explained in
 [INTERPRETER.md](INTERPRETER.md), what the operations mean in [GPL_STEP.md](GPL_STEP.md).
 
 *Most* is the number of instructions of a piece along its longest way, *Ways* how many ways it has. An end with a label

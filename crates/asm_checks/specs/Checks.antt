@@ -6,8 +6,8 @@ use Rattle.asm_defs.specs.declared.causes.AsmCause.{AsmCause}
 use Rattle.asm_defs.specs.declared.causes.AsmCause.TheVariants.{DuplicateLabel}
 use Rattle.asm_defs.specs.Locations.{is_in_part}
 use Rattle.asm_defs.specs.FirstChecks as spec
-use Rattle.asm_checks.specs.Defined.{defined_statement, KeepsSkeleton, NamesOnly}
-use Rattle.asm_checks.specs.Moves.{defined_move, MovesLittle}
+use Rattle.asm_checks.specs.Defined.{model_of_statement, KeepsSkeleton, NamesOnly}
+use Rattle.asm_checks.specs.Moves.{model_of_move, MovesLittle}
 use Rattle.asm_defs.specs.Statements.{upper_names, as_text, statement_in}
 use Rattle.source_defs.specs.Operands.{operand_texts}
 use Rattle.asm_checks.specs.declared.statement.Statement.{Statement}
@@ -16,8 +16,8 @@ use Rattle.asm_checks.specs.declared.first_checks.EarlierLines.{EarlierLines}
 use Rattle.asm_checks.specs.declared.first_checks.ParsedLine.{ParsedLine}
 use Rattle.asm_checks.specs.declared.first_checks.Checked.{Checked}
 
-abbrev pub defined_earlier_lines : EarlierLines → spec.EarlierLines
-defined_earlier_lines before =
+abbrev pub model_of_earlier_lines : EarlierLines → spec.EarlierLines
+model_of_earlier_lines before =
     record {
       names = before.symbols.now;
       location = before.location;
@@ -26,15 +26,15 @@ defined_earlier_lines before =
       refs = before.refs.now;
     }
 
-abbrev pub defined_said : ParsedLine → spec.ParsedLine
-defined_said parsed = record { label = parsed.label; statement = defined_statement parsed.statement }
+abbrev pub model_of_parsed : ParsedLine → spec.ParsedLine
+model_of_parsed parsed = record { label = parsed.label; statement = model_of_statement parsed.statement }
 
-abbrev pub defined_checked : Checked → spec.Checked
-defined_checked checked =
+abbrev pub model_of_checked : Checked → spec.Checked
+model_of_checked checked =
     record {
       label = checked.parsed.label;
-      statement = defined_statement checked.parsed.statement;
-      move = defined_move checked.moved;
+      statement = model_of_statement checked.parsed.statement;
+      move = model_of_move checked.moved;
     }
 
 -- the names that DEF or REF lists

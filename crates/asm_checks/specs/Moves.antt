@@ -1,14 +1,14 @@
 -- What a line of the code does to the location, as the definitions have it.
 use Rattle.std.specs.Prelude.{◌+◌, ◌≤◌, ⊤, length, IfSome}
-use Rattle.asm_text.specs.GivenValues.{defined_value}
+use Rattle.asm_text.specs.GivenValues.{model_of_value}
 use Rattle.asm_defs.specs.FirstChecks as spec
 use Rattle.asm_checks.specs.declared.statement.Statement.{Statement}
 use Rattle.asm_checks.specs.declared.statement.Statement.TheVariants.{Data, Byte, Text}
 use Rattle.asm_checks.specs.declared.moves.LocationChange.{LocationChange}
 
-abbrev pub defined_move : LocationChange → spec.LocationChange
-defined_move move =
-    record { origin = move.origin; gap = move.gap; size = move.size; label = defined_value move.label }
+abbrev pub model_of_move : LocationChange → spec.LocationChange
+model_of_move move =
+    record { origin = move.origin; gap = move.gap; size = move.size; label = model_of_value move.label }
 
 -- what a line of at most 256 bytes says is as short
 abbrev pub MovesLittle : Statement → Type 0

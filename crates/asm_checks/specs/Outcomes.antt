@@ -8,9 +8,9 @@ use Rattle.asm_defs.specs.Statements.{as_form}
 use Rattle.std.specs.Option.{option_map}
 use Rattle.object_defs.specs.declared.spot.Spot.{Spot}
 use Rattle.asm_text.specs.declared.values.Value.{Value as CodeValue}
-use Rattle.asm_text.specs.GivenValues.{defined_value}
+use Rattle.asm_text.specs.GivenValues.{model_of_value}
 use Rattle.asm_defs.specs.Modules.{spot_of}
-use Rattle.asm_forms.specs.Placed.{defined_words, words_in}
+use Rattle.asm_forms.specs.Placed.{model_of_words, words_in}
 use Rattle.asm_defs.specs.declared.causes.AsmCause.{AsmCause}
 use Rattle.asm_defs.specs.declared.causes.AsmCause.TheVariants.{Form}
 use Rattle.asm_defs.specs.FirstChecks.{as_expr}
@@ -18,12 +18,12 @@ use Rattle.asm_defs.specs.SecondChecks as spec
 use Rattle.asm_checks.specs.declared.second_checks.Outcome.{Outcome}
 use Rattle.asm_checks.specs.declared.second_checks.Outcome.TheVariants.{Nothing, Instruction, Words, Bytes, Entry}
 
-abbrev pub defined_outcome : Outcome → spec.Outcome
-defined_outcome Nothing = spec.Nothing
-defined_outcome (Instruction placed) = spec.Words (words_in placed)
-defined_outcome (Words words) = spec.Words (defined_words words.items)
-defined_outcome (Bytes bytes) = spec.Bytes bytes.items
-defined_outcome (Entry entry) = spec.Entry entry
+abbrev pub model_of_outcome : Outcome → spec.Outcome
+model_of_outcome Nothing = spec.Nothing
+model_of_outcome (Instruction placed) = spec.Words (words_in placed)
+model_of_outcome (Words words) = spec.Words (model_of_words words.items)
+model_of_outcome (Bytes bytes) = spec.Bytes bytes.items
+model_of_outcome (Entry entry) = spec.Entry entry
 
 -- what the words of an instruction are for its line
 abbrev pub words_by : Result (List Value) FormError → Result spec.Outcome AsmCause
@@ -38,5 +38,5 @@ abbrev pub known_answer : Option Value → Result spec.Outcome AsmCause
 known_answer found = as_expr (known_value found) >>= λ value. spec.defined_here value >>= λ value. Ok spec.Nothing
 
 -- the spot that a name stands for
-abbrev pub defined_spot : Option CodeValue → Spot
-defined_spot found = spot_of (option_map defined_value found)
+abbrev pub model_of_spot : Option CodeValue → Spot
+model_of_spot found = spot_of (option_map model_of_value found)

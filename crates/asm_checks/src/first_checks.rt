@@ -5,9 +5,10 @@ ghost use Rattle.source_defs.specs.Fields as lines;
 ghost use Rattle.asm_defs.specs.Locations as places;
 ghost use Rattle.asm_defs.specs.FirstChecks as spec;
 ghost use Rattle.asm_checks.specs.Answers.{Fails, Gives};
-ghost use Rattle.asm_checks.specs.Defined.{defined_statement, NamesOnly};
-ghost use Rattle.asm_checks.specs.Moves.{defined_move, MovesLittle};
-ghost use Rattle.asm_checks.specs.Checks.{defined_earlier_lines, defined_said, defined_checked, IsParsed, KnowsPlaces};
+ghost use Rattle.asm_checks.specs.Defined.{model_of_statement, NamesOnly};
+ghost use Rattle.asm_checks.specs.Moves.{model_of_move, MovesLittle};
+ghost use Rattle.asm_checks.specs.Checks.{model_of_earlier_lines, model_of_parsed, model_of_checked, IsParsed};
+ghost use Rattle.asm_checks.specs.Checks.{KnowsPlaces};
 ghost use Rattle.asm_checks.specs.Checks.{ListsNames, listed_in, parsed_as_new, checked_as_new};
 ghost use Rattle.asm_checks.specs.Moves.{MovesWithin};
 
@@ -18,7 +19,7 @@ use crate::statement::{Statement, statement_in};
 use crate::titles::title_in;
 use crate::values::Scope;
 use asm_defs::{AsmCause, Location, Part};
-use asm_text::{Name, Symbols, fields, is_quoted};
+use asm_text::{Name, SplitLine, Symbols, is_quoted};
 use object_tags::MOST_NAMES;
 use std::alloc::{AllocError, Global};
 
@@ -61,44 +62,47 @@ pub struct Checked<'a> {
 
 impl EarlierLines<'_> {
     /// A line by the first checks, but for whether its label is new, which is checked where the label is defined.
-    pub fn checked<'b>(&self, text: &'b [u8]) -> Result<Checked<'b>, Failure>
+    pub fn checked<'b>(&self, line: &SplitLine<'b>) -> Result<Checked<'b>, Failure>
         requires { KnowsPlaces self.now }
-        ensures checked { Gives defined_checked result (checked_as_new (defined_earlier_lines self.now) text.now) }
+        ensures checked { Gives model_of_checked result
+            (checked_as_new (model_of_earlier_lines self.now) line.now.text.now) }
         ensures line { IfOk result (λ checked. IsParsed checked.parsed) }
         ensures listed { IfOk result (λ checked. ListsNames checked.parsed) }
         ensures within { IfOk result (λ checked. MovesWithin checked.moved) }
     {
-        let parsed = self.parsed(text)?;
+        let parsed = self.parsed(line)?;
         let moved = self.moved(&parsed)?;
         Ok(Checked { parsed, moved })
     }
 
     /// Why the first checks refuse a line that they refuse with any label: a label that stands for something already
     /// comes before another reason.
-    pub fn failure_of(&self, text: &[u8], failure: Failure) -> Failure
-        requires { Fails failure (checked_as_new (defined_earlier_lines self.now) text.now) }
-        ensures { Fails result (spec.checked (defined_earlier_lines self.now) text.now) }
+    pub fn failure_of(&self, line: &SplitLine<'_>, failure: Failure) -> Failure
+        requires { Fails failure (checked_as_new (model_of_earlier_lines self.now) line.now.text.now) }
+        ensures { Fails result (spec.checked (model_of_earlier_lines self.now) line.now.text.now) }
     {
-        match fields(text) {
-            Ok(found) if self.knows_label(&found.label) => {
-                Failure::Refused(AsmCause::DuplicateLabel)
-            }
-            _ => failure,
+        let Ok(found) = line.fields else {
+            return failure;
+        };
+        if self.knows_label(&found.label) {
+            return Failure::Refused(AsmCause::DuplicateLabel);
         }
+        failure
     }
 
     /// What a line says, whose names of REF are new.
     #[tactic(auto, unfolding(crate::specs::Checks::parsed_as_new))]
-    fn parsed<'b>(&self, text: &'b [u8]) -> Result<ParsedLine<'b>, Failure>
-        ensures parsed { Gives defined_said result (parsed_as_new (defined_earlier_lines self.now) text.now) }
+    fn parsed<'b>(&self, line: &SplitLine<'b>) -> Result<ParsedLine<'b>, Failure>
+        ensures parsed { Gives model_of_parsed result
+            (parsed_as_new (model_of_earlier_lines self.now) line.now.text.now) }
         ensures line { IfOk result IsParsed }
         ensures listed { IfOk result ListsNames }
     {
-        let found = match fields(text) {
+        let found = match line.fields {
             Ok(found) => found,
             Err(error) => return Err(Failure::Refused(AsmCause::Text(error))),
         };
-        let statement = statement_in(text, &found)?;
+        let statement = statement_in(line.text, &found)?;
         let listed = listed_names(self.alloc, &statement)?;
         if self.takes_known(found.label, &statement, listed.as_slice()) {
             return Err(Failure::Refused(AsmCause::DuplicateLabel));
@@ -120,7 +124,7 @@ impl EarlierLines<'_> {
     /// Whether a name of REF stands for something already.
     fn takes_known(&self, label: Option<Name>, statement: &Statement<'_>, listed: &[Name]) -> bool
         requires { listed.now ≡ listed_in statement.now }
-        ensures { result ≡ spec.is_taken self.now.symbols.now label (spec.refs_in (defined_statement statement.now)) }
+        ensures { result ≡ spec.is_taken self.now.symbols.now label (spec.refs_in (model_of_statement statement.now)) }
     {
         match statement {
             Statement::Ref(_) => is_taken(self.symbols, label, listed),
@@ -134,8 +138,8 @@ impl EarlierLines<'_> {
         requires places { KnowsPlaces self.now }
         requires listed { ListsNames parsed.now }
         requires little { MovesLittle parsed.now.statement }
-        ensures checked { Gives (λ moved. defined_checked (record { parsed = parsed.now; moved = moved })) result
-            (spec.moved (defined_earlier_lines self.now) (defined_said parsed.now)) }
+        ensures checked { Gives (λ moved. model_of_checked (record { parsed = parsed.now; moved = moved })) result
+            (spec.moved (model_of_earlier_lines self.now) (model_of_parsed parsed.now)) }
         ensures within { IfOk result MovesWithin }
     {
         let scope = Scope {
@@ -158,8 +162,8 @@ impl EarlierLines<'_> {
         requires places { KnowsPlaces self.now }
         requires within { MovesWithin moved.now }
         requires listed { ListsNames parsed.now }
-        ensures { result ≡ spec.is_too_far (defined_earlier_lines self.now) (defined_statement parsed.now.statement)
-            (defined_move moved.now) }
+        ensures { result ≡ spec.is_too_far (model_of_earlier_lines self.now) (model_of_statement parsed.now.statement)
+            (model_of_move moved.now) }
     {
         !is_in_part(location_behind(self.location, moved)) || self.lists_too_many(parsed)
     }
@@ -167,7 +171,8 @@ impl EarlierLines<'_> {
     /// Whether DEF or REF lists more names than a module may have.
     fn lists_too_many(&self, parsed: &ParsedLine<'_>) -> bool
         requires { ListsNames parsed.now }
-        ensures { result ≡ spec.lists_too_many (defined_earlier_lines self.now) (defined_statement parsed.now.statement) }
+        ensures { result
+            ≡ spec.lists_too_many (model_of_earlier_lines self.now) (model_of_statement parsed.now.statement) }
     {
         match parsed.statement {
             Statement::Def(_) => self.defs.len() + parsed.listed.len() > MOST_NAMES,
@@ -180,7 +185,7 @@ impl EarlierLines<'_> {
     fn is_bad(&self, parsed: &ParsedLine<'_>) -> bool
         requires { ListsNames parsed.now }
         ensures { result
-            ≡ spec.is_bad (defined_earlier_lines self.now) parsed.now.label (defined_statement parsed.now.statement) }
+            ≡ spec.is_bad (model_of_earlier_lines self.now) parsed.now.label (model_of_statement parsed.now.statement) }
     {
         match parsed.statement {
             Statement::Equ(_) => parsed.label.is_none(),
@@ -207,7 +212,7 @@ fn listed_names(alloc: Global, statement: &Statement<'_>) -> Result<Vec<Name>, A
 pub fn location_behind(here: Location, moved: &LocationChange) -> Location
     requires here { here.number ≤ 65536 }
     requires within { MovesWithin moved.now }
-    ensures { result ≡ spec.location_behind here (defined_move moved.now) }
+    ensures { result ≡ spec.location_behind here (model_of_move moved.now) }
 {
     let from = match moved.origin {
         Some(origin) => origin,

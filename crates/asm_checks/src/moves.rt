@@ -4,11 +4,11 @@ ghost use Rattle.std.specs.Prelude.{◌≡◌, ◌≤◌, ◌<◌, ◌+◌, ◌^
 ghost use Rattle.asm_defs.specs.Locations as places;
 ghost use Rattle.asm_defs.specs.FirstChecks as spec;
 ghost use Rattle.asm_defs.specs.Growing.{declared_size};
-ghost use Rattle.asm_text.specs.GivenValues.{defined_value};
-ghost use Rattle.source_defs.specs.Refusals.{seen};
+ghost use Rattle.asm_text.specs.GivenValues.{model_of_value};
+ghost use Rattle.source_defs.specs.Refusals.{map_ok};
 ghost use Rattle.asm_text.specs.Yielded.{Yields};
-ghost use Rattle.asm_checks.specs.Defined.{defined_statement};
-ghost use Rattle.asm_checks.specs.Moves.{defined_move, MovesLittle, MovesWithin};
+ghost use Rattle.asm_checks.specs.Defined.{model_of_statement};
+ghost use Rattle.asm_checks.specs.Moves.{model_of_move, MovesLittle, MovesWithin};
 
 use crate::statement::Statement;
 use crate::values::{Scope, value_at};
@@ -38,8 +38,8 @@ impl Scope<'_> {
         requires here { self.now.at.number ≤ 65536 }
         requires reached { reached ≤ 65535 }
         requires field { MovesLittle statement.now }
-        ensures moved { Yields defined_move result
-            (spec.move self.now.symbols.now self.now.at reached (defined_statement statement.now)) }
+        ensures moved { Yields model_of_move result
+            (spec.move self.now.symbols.now self.now.at reached (model_of_statement statement.now)) }
         ensures within { IfOk result MovesWithin }
     {
         match statement {
@@ -74,7 +74,7 @@ impl Scope<'_> {
 #[inline(always)]
 pub fn declared_size(statement: &Statement<'_>) -> u32
     requires { MovesLittle statement.now }
-    ensures size { result ≡ declared_size (defined_statement statement.now) }
+    ensures size { result ≡ declared_size (model_of_statement statement.now) }
     ensures most { result ≤ 65535 }
 {
     match statement {
@@ -100,7 +100,7 @@ pub fn behind(at: Location, bytes: u32) -> Location
 /// A line that takes some bytes from the location on.
 fn stays_at(here: Location, size: u32) -> LocationChange
     requires { size ≤ 65535 }
-    ensures moved { defined_move result ≡ spec.stays_at here size }
+    ensures moved { model_of_move result ≡ spec.stays_at here size }
     ensures within { MovesWithin result }
 {
     LocationChange {
@@ -115,7 +115,7 @@ fn stays_at(here: Location, size: u32) -> LocationChange
 fn stays_even(here: Location, size: u32) -> LocationChange
     requires here { here.number ≤ 65536 }
     requires size { size ≤ 65535 }
-    ensures moved { defined_move result ≡ spec.stays_even here size }
+    ensures moved { model_of_move result ≡ spec.stays_even here size }
     ensures within { MovesWithin result }
 {
     let gap = here.number % 2;
@@ -131,7 +131,7 @@ fn stays_even(here: Location, size: u32) -> LocationChange
 fn ends_block(here: Location, size: u32) -> LocationChange
     requires here { here.number ≤ 65536 }
     requires size { size ≤ 65535 }
-    ensures moved { defined_move result ≡ spec.ends_block here size }
+    ensures moved { model_of_move result ≡ spec.ends_block here size }
     ensures within { MovesWithin result }
 {
     LocationChange {
@@ -145,7 +145,7 @@ fn ends_block(here: Location, size: u32) -> LocationChange
 /// A line that sets the location.
 fn set_to(part: Part, number: u32) -> LocationChange
     requires { number ≤ 65535 }
-    ensures moved { defined_move result ≡ spec.set_to (record { part = part; number = number }) }
+    ensures moved { model_of_move result ≡ spec.set_to (record { part = part; number = number }) }
     ensures within { MovesWithin result }
 {
     let location = Location { part, number };
@@ -159,7 +159,7 @@ fn set_to(part: Part, number: u32) -> LocationChange
 
 /// A line that says what its label stands for.
 fn equals(value: Value) -> LocationChange
-    ensures moved { defined_move result ≡ spec.equals (defined_value value) }
+    ensures moved { model_of_move result ≡ spec.equals (model_of_value value) }
     ensures within { MovesWithin result }
 {
     LocationChange {
@@ -172,7 +172,7 @@ fn equals(value: Value) -> LocationChange
 
 /// The number of a value that is not external.
 fn non_external_number(value: Value) -> Result<u16, ExprError>
-    ensures { result ≡ spec.non_external_number (defined_value value) }
+    ensures { result ≡ spec.non_external_number (model_of_value value) }
 {
     match value {
         Value::Absolute(number) | Value::Relocatable(number) => Ok(number),
@@ -182,7 +182,7 @@ fn non_external_number(value: Value) -> Result<u16, ExprError>
 
 /// A value that is not external.
 fn non_external(value: Value) -> Result<Value, ExprError>
-    ensures { seen defined_value result ≡ spec.non_external (defined_value value) }
+    ensures { map_ok model_of_value result ≡ spec.non_external (model_of_value value) }
 {
     match value {
         Value::Absolute(_) | Value::Relocatable(_) => Ok(value),

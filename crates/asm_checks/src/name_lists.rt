@@ -1,7 +1,7 @@
 //! The names of DEF and REF.
 
 ghost use Rattle.std.specs.Prelude.{◌≡◌, true, IfOk, IsTrue};
-ghost use Rattle.source_defs.specs.Refusals.{seen};
+ghost use Rattle.source_defs.specs.Refusals.{map_ok};
 ghost use Rattle.source_defs.specs.Operands.{operand_texts};
 ghost use Rattle.asm_defs.specs.Statements as spec;
 
@@ -9,7 +9,7 @@ use asm_text::{OperandError, is_name, operands};
 
 /// A field of one name or more.
 pub(crate) fn names_of(field: &[u8]) -> Result<&[u8], OperandError>
-    ensures names { seen (λ found. spec.upper_names (operand_texts found.now)) result
+    ensures names { map_ok (λ found. spec.upper_names (operand_texts found.now)) result
         ≡ spec.names_in (operand_texts field.now) }
     ensures all { IfOk result (λ found. IsTrue (spec.all_names (operand_texts found.now))) }
 {

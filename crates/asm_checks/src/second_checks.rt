@@ -2,23 +2,23 @@
 
 ghost use Rattle.std.specs.Prelude.{◌≡◌, ◌≤◌, map, IfOk, true, length, IsTrue};
 ghost use Rattle.source_defs.specs.Symbols.{look_up};
-ghost use Rattle.asm_text.specs.GivenValues.{defined_value};
+ghost use Rattle.asm_text.specs.GivenValues.{model_of_value};
 ghost use Rattle.source_defs.specs.Operands.{operand_texts};
 ghost use Rattle.instruction_defs.specs.SecondChecks.{second_checks};
-ghost use Rattle.asm_forms.specs.Placed.{defined_word, defined_words, words_in};
-ghost use Rattle.asm_forms.specs.Skeletons.{defined_skeleton, IsOfField};
+ghost use Rattle.asm_forms.specs.Placed.{model_of_word, model_of_words, words_in};
+ghost use Rattle.asm_forms.specs.Skeletons.{model_of_skeleton, IsOfField};
 ghost use Rattle.asm_defs.specs.Locations as places;
 ghost use Rattle.asm_defs.specs.Statements as parsed;
 ghost use Rattle.asm_defs.specs.FirstChecks as first;
 ghost use Rattle.asm_defs.specs.SecondChecks as spec;
 ghost use Rattle.asm_defs.specs.Growing as growing;
 ghost use Rattle.std.specs.List.{list_all};
-ghost use Rattle.source_defs.specs.Refusals.{seen};
+ghost use Rattle.source_defs.specs.Refusals.{map_ok};
 ghost use Rattle.asm_text.specs.Yielded.{Yields};
 ghost use Rattle.asm_checks.specs.Answers.{Gives};
-ghost use Rattle.asm_checks.specs.Defined.{defined_statement, KeepsSkeleton, NamesOnly};
+ghost use Rattle.asm_checks.specs.Defined.{model_of_statement, KeepsSkeleton, NamesOnly};
 ghost use Rattle.asm_checks.specs.Moves.{MovesLittle};
-ghost use Rattle.asm_checks.specs.Outcomes.{defined_outcome, byte_answer, known_answer, words_by};
+ghost use Rattle.asm_checks.specs.Outcomes.{model_of_outcome, byte_answer, known_answer, words_by};
 
 use crate::failure::Failure;
 use crate::moves::behind;
@@ -49,7 +49,7 @@ pub enum Outcome {
 impl Outcome {
     /// Whether a line that comes to this stands as it is, whatever names are still to come.
     pub fn stands(&self) -> bool
-        ensures { result ≡ growing.stands (defined_outcome self.now) }
+        ensures { result ≡ growing.stands (model_of_outcome self.now) }
     {
         match self {
             Outcome::Instruction(placed) => all_own(placed.words.as_slice()),
@@ -68,8 +68,8 @@ impl Scope<'_> {
         requires names { NamesOnly statement.now }
         requires little { MovesLittle statement.now }
         requires at { self.now.at.number ≤ 65536 }
-        ensures { Gives defined_outcome result
-            (spec.outcome (look_up self.now.symbols.now) self.now.at (defined_statement statement.now)) }
+        ensures { Gives model_of_outcome result
+            (spec.outcome (look_up self.now.symbols.now) self.now.at (model_of_statement statement.now)) }
     {
         match statement {
             Statement::Instruction(line) => self.instruction_outcome(line),
@@ -102,9 +102,9 @@ impl Scope<'_> {
     #[tactic(auto, using(crate::proofs::Failures::form_fails))]
     fn instruction_outcome(&self, line: &InstructionLine<'_>) -> Result<Outcome, Failure>
         requires { IsOfField line.now.field.now line.now.skeleton }
-        ensures { Gives defined_outcome result
+        ensures { Gives model_of_outcome result
             (words_by (second_checks (look_up self.now.symbols.now) (places.value_of self.now.at)
-            (defined_skeleton line.now.field.now line.now.skeleton))) }
+            (model_of_skeleton line.now.field.now line.now.skeleton))) }
     {
         let here = value_at(self.at);
         let placed = words_of(self.alloc, line.field, &line.skeleton, self.symbols, here)?;
@@ -116,7 +116,7 @@ impl Scope<'_> {
     fn data_words(&self, field: &[u8]) -> Result<Vec<Word>, ExprError>
         requires at { self.now.at.number ≤ 65536 }
         requires field { length field.now ≤ 256 }
-        ensures { Yields (λ words. defined_words words.items) result
+        ensures { Yields (λ words. model_of_words words.items) result
             (spec.data_values (look_up self.now.symbols.now) self.now.at self.now.at (operand_texts field.now)) }
     {
         let mut words = Vec::new(self.alloc);
@@ -133,7 +133,7 @@ impl Scope<'_> {
 
     /// A value of DATA, whose word stands at a place.
     fn word_in(&self, place: &Location, text: &[u8]) -> Result<Word, ExprError>
-        ensures { Yields defined_word result
+        ensures { Yields model_of_word result
             (spec.word_in (look_up self.now.symbols.now) self.now.at place.now text.now) }
     {
         let value = self.value_of(text)?;
@@ -210,7 +210,7 @@ impl Scope<'_> {
 
 /// Whether none of some words is a use of a name that others define.
 fn all_own(words: &[Word]) -> bool
-    ensures { result ≡ list_all growing.is_own (defined_words words.now) }
+    ensures { result ≡ list_all growing.is_own (model_of_words words.now) }
 {
     for word in words {
         if matches!(word, Word::External(_)) {
@@ -233,7 +233,7 @@ fn def_known(symbols: &Symbols, name: &Name) -> Result<(), Failure>
 
 /// A word at a place, which is no use of an external name at absolute place 0.
 fn used_at(place: &Location, value: &Value) -> Result<Word, ExprError>
-    ensures { seen defined_word result ≡ spec.used_at place.now (defined_value value.now) }
+    ensures { map_ok model_of_word result ≡ spec.used_at place.now (model_of_value value.now) }
 {
     match value {
         Value::Absolute(number) => Ok(Word::Plain(*number)),

@@ -2,12 +2,12 @@
 
 ghost use Rattle.std.specs.Prelude.{◌≤◌, length, IfOk, ◌≡◌, Ok, Some};
 ghost use Rattle.source_defs.specs.Fields as lines;
-ghost use Rattle.asm_text.specs.GivenFields.{defined_fields, FieldsLieInside};
+ghost use Rattle.asm_text.specs.GivenFields.{model_of_fields, FieldsLieInside};
 ghost use Rattle.source_defs.specs.Operands.{operand_texts};
 ghost use Rattle.asm_defs.specs.Statements as spec;
-ghost use Rattle.source_defs.specs.Refusals.{seen};
+ghost use Rattle.source_defs.specs.Refusals.{map_ok};
 ghost use Rattle.asm_checks.specs.Answers.{Gives};
-ghost use Rattle.asm_checks.specs.Defined.{defined_statement, KeepsSkeleton, NamesOnly};
+ghost use Rattle.asm_checks.specs.Defined.{model_of_statement, KeepsSkeleton, NamesOnly};
 ghost use Rattle.asm_checks.specs.Moves.{MovesLittle};
 
 use crate::directives::directive;
@@ -73,10 +73,10 @@ pub enum Statement<'a> {
 /// What a line with its fields says, and what the first checks leave of it where it is an instruction.
 #[tactic(auto, using(crate::proofs::Failures::form_fails), unfolding(asm_defs::specs::Statements::statement_in))]
 pub fn statement_in<'a>(line: &'a [u8], fields: &Fields) -> Result<Statement<'a>, Failure>
-    requires read { lines.fields line.now ≡ Ok (defined_fields fields.now) }
+    requires read { lines.fields line.now ≡ Ok (model_of_fields fields.now) }
     requires inside { FieldsLieInside line.now fields.now }
     requires length { length line.now ≤ 256 }
-    ensures parsed { Gives defined_statement result (spec.statement_in line.now (defined_fields fields.now)) }
+    ensures parsed { Gives model_of_statement result (spec.statement_in line.now (model_of_fields fields.now)) }
     ensures little { IfOk result MovesLittle }
     ensures names { IfOk result NamesOnly }
     ensures skeleton { IfOk result KeepsSkeleton }
@@ -99,7 +99,7 @@ fn instruction_statement<'a>(
     field: &'a [u8],
 ) -> Result<Statement<'a>, FormError>
     requires { length field.now ≤ 256 }
-    ensures parsed { seen defined_statement result ≡ spec.instruction_statement operation.now field.now }
+    ensures parsed { map_ok model_of_statement result ≡ spec.instruction_statement operation.now field.now }
     ensures skeleton { IfOk result KeepsSkeleton }
     ensures little { IfOk result MovesLittle }
     ensures names { IfOk result NamesOnly }
@@ -117,7 +117,7 @@ fn instruction_statement<'a>(
 /// A directive with its operands.
 fn directive_statement(found: Directive, field: &[u8]) -> Result<Statement<'_>, OperandError>
     requires { length field.now ≤ 256 }
-    ensures parsed { seen defined_statement result ≡ spec.directive_statement found (operand_texts field.now) }
+    ensures parsed { map_ok model_of_statement result ≡ spec.directive_statement found (operand_texts field.now) }
     ensures little { IfOk result MovesLittle }
     ensures names { IfOk result NamesOnly }
     ensures skeleton { IfOk result KeepsSkeleton }

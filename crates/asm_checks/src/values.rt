@@ -1,7 +1,7 @@
 //! The values of a line.
 
 ghost use Rattle.std.specs.Prelude.{◌≡◌};
-ghost use Rattle.asm_text.specs.GivenValues.{defined_value, IsNotExternal};
+ghost use Rattle.asm_text.specs.GivenValues.{model_of_value, IsNotExternal};
 ghost use Rattle.asm_defs.specs.FirstChecks.{value, absolute_in};
 ghost use Rattle.asm_defs.specs.Locations as spec;
 ghost use Rattle.asm_text.specs.Yielded.{Yields};
@@ -24,7 +24,7 @@ pub struct Scope<'a> {
 impl Scope<'_> {
     /// The value of an expression.
     pub fn value_of(&self, text: &[u8]) -> Result<Value, ExprError>
-        ensures { Yields defined_value result (value self.now.symbols.now self.now.at text.now) }
+        ensures { Yields model_of_value result (value self.now.symbols.now self.now.at text.now) }
     {
         expression_value(self.alloc, text, self.symbols, value_at(self.at))
     }
@@ -42,7 +42,7 @@ impl Scope<'_> {
 
 /// What a label at a place stands for.
 pub(crate) fn value_at(at: Location) -> Value
-    ensures value { defined_value result ≡ spec.value_of at }
+    ensures value { model_of_value result ≡ spec.value_of at }
     ensures known { IsNotExternal result }
 {
     let number = (at.number % 0x10000) as u16;

@@ -10,7 +10,7 @@ use Rattle.asm_defs.specs.declared.content.Content.{Content}
 use Rattle.asm_defs.specs.Memory.{bytes_in, contents_by}
 use Rattle.asm_defs.specs.Growing.{declared_size}
 use Rattle.asm_defs.proofs.OutcomeSizes.{IsSized, outcome_size}
-use Rattle.asm_checks.specs.Defined.{defined_statement, KeepsSkeleton}
+use Rattle.asm_checks.specs.Defined.{model_of_statement, KeepsSkeleton}
 use Rattle.asm_checks.specs.declared.statement.Statement.{Statement}
 use Rattle.asm_checks.specs.declared.statement.Statement.TheVariants.{
   Nothing,
@@ -38,7 +38,7 @@ use Rattle.asm_core.specs.Held.{has_room, has_room_by}
 use Rattle.asm_core.specs.Assembling.{GivesBytes}
 
 -- an instruction has the size that the first checks find
-pub sized : (statement : Statement) → KeepsSkeleton statement → IsSized (defined_statement statement)
+pub sized : (statement : Statement) → KeepsSkeleton statement → IsSized (model_of_statement statement)
 sized (Instruction line) is =
     ap (λ skeleton. skeleton >>= λ skeleton. Ok (size_of skeleton)) is.checked ∙ ap Ok is.sized
 sized Nothing is = tt
@@ -59,8 +59,8 @@ sized (Titl text) is = tt
 sized (End text) is = tt
 
 pub comes_within : (look : List ℕ → Option Value) (at : Location) (statement : Statement) (found : Outcome) → KeepsSkeleton statement
-    → outcome look at (defined_statement statement) ≡ Ok found → bytes_in found ≡ declared_size (defined_statement statement)
-comes_within look at statement found is e = outcome_size look at (defined_statement statement) found (sized statement is) e
+    → outcome look at (model_of_statement statement) ≡ Ok found → bytes_in found ≡ declared_size (model_of_statement statement)
+comes_within look at statement found is e = outcome_size look at (model_of_statement statement) found (sized statement is) e
 
 pub gives : (at : Location) (found : Outcome) (given : List Content) → at.number + bytes_in found ≤ 65536 → given ≡ contents_by at [] found
     → GivesBytes at found given

@@ -1,10 +1,10 @@
 -- A builder behind one line more.
 use Rattle.std.proofs.Common.{◌≡◌, ℕ, ◌+◌, List, [], ◌∷◌, ◌++◌, Some, None, refl, ap, arith}
-use Rattle.std.specs.Prelude.{Option}
+use Rattle.std.specs.Prelude.{Option, is_some, if◌then◌else◌}
 use Rattle.std.specs.FinMap.{insert}
 use Rattle.source_defs.specs.Expression.{Value}
 use Rattle.source_defs.specs.Symbols.{Names}
-use Rattle.source_defs.specs.Layout.{with_names, set_or, none_or, origin, since}
+use Rattle.source_defs.specs.Layout.{with_names, set_or, origin, since_origin, bytes_of}
 use Rattle.asm_defs.specs.declared.location.Location.{Location}
 use Rattle.asm_defs.specs.Locations.{Line, start, behind, location}
 use Rattle.asm_defs.specs.FirstChecks.{Checked, names, known_of, line_of, location_behind, label_entry, external_entries, refs_in}
@@ -13,16 +13,18 @@ use Rattle.asm_core.specs.Keeping.{known_in}
 use Rattle.asm_core.specs.Building.{IsBehind}
 
 -- the location behind a line
-location_by : (set : Option Location) (from : Location) (bytes more : ℕ)
-    → behind (set_or set from) (none_or set bytes + more) ≡ behind (set_or set (behind from bytes)) more
-location_by (Some origin) from bytes more = ap (λ number. record { part = origin.part; number = origin.number + number }) (omega arith)
-location_by None from bytes more =
+location_by : (set : Option Location) (from : Location) (lines : List Line) (more : ℕ)
+    → behind (set_or set from) (bytes_of (if is_some set then [] else since_origin lines) + more)
+    ≡ behind (set_or set (behind from (bytes_of (since_origin lines)))) more
+location_by (Some origin) from lines more = ap (λ number. record { part = origin.part; number = origin.number + number }) (omega arith)
+location_by None from lines more =
+    let bytes = bytes_of (since_origin lines) in
     let same : from.number + (bytes + more) ≡ from.number + bytes + more = omega arith in
     ap (λ number. record { part = from.part; number = number }) same
 
 pub location_more : (number : ℕ) (found : Checked) (lines : List Line) → location (line_of number found ∷ lines) ≡ location_behind (location lines) found.move
 location_more number found lines =
-    location_by found.move.origin (origin start behind lines) (since start behind lines) (found.move.gap + found.move.size)
+    location_by found.move.origin (origin start behind lines) lines (found.move.gap + found.move.size)
 
 with_more : (first second : List (List ℕ × Value)) (known : Names) → with_names known (first ++ second) ≡ with_names (with_names known first) second
 with_more [] second known = refl

@@ -2,12 +2,13 @@
 use Rattle.std.proofs.Common.{◌≡◌, ◌+◌, ◌≤◌, Bool, true, false, List, [], Some, None, Ok, Err, length, refl, sym, ap, subst, ◌∙◌, arith}
 use Rattle.std.specs.Prelude.{Option, Result, map, OnOk, OnErr, if◌then◌else◌}
 use Rattle.object_defs.specs.Modules.{Reference}
-use Rattle.object_tags.specs.Seen.{defined_ref}
+use Rattle.object_tags.specs.Seen.{model_of_ref}
 use Rattle.asm_defs.specs.declared.content.Content.{Content}
 use Rattle.asm_defs.specs.declared.location.Part.TheVariants as part
 use Rattle.asm_defs.specs.declared.location.Location.{Location}
 use Rattle.asm_defs.specs.SecondChecks.{Outcome, Nothing, Words, Bytes, Entry}
-use Rattle.asm_defs.specs.Memory.{Settled, bytes_in, same_part, is_placed_in, contents_by, references_of, behind_by, behind_words}
+use Rattle.asm_defs.specs.Memory.{Settled, bytes_in, same_part, is_placed_in, contents_by, references_of, behind_by}
+use Rattle.asm_defs.proofs.PlacedWords.{behind_words}
 use Rattle.module_image.specs.Images.{IsEmpty, IsImage, IsLaid}
 use Rattle.module_image.specs.declared.image.Image.{Image}
 use Rattle.module_image.proofs.HoldingLaws.{contents_length}
@@ -43,12 +44,12 @@ module _ (unused : List Reference) (at : Location) (found : Outcome) (within : a
         references = holds.references ∙ sym (dummy_uses at (references_of unused done) found dummy);
       }
 
-  pub bytes_filled : (old new : Output) (given : List Content) → given ≡ contents_by at (map defined_ref old.references.items) found
-      → map defined_ref new.references.items ≡ behind_by at (map defined_ref old.references.items) found → IsLaid at given old.image new.image
+  pub bytes_filled : (old new : Output) (given : List Content) → given ≡ contents_by at (map model_of_ref old.references.items) found
+      → map model_of_ref new.references.items ≡ behind_by at (map model_of_ref old.references.items) found → IsLaid at given old.image new.image
       → FillsBytes unused at found old new
   bytes_filled old new given contents uses laid = λ done others held stand fills holds.
       let line : Settled = record { at = at; outcome = found } in
-      let size : length given ≡ bytes_in found = ap length contents ∙ contents_length at (map defined_ref old.references.items) found in
+      let size : length given ≡ bytes_in found = ap length contents ∙ contents_length at (map model_of_ref old.references.items) found in
       record {
         image = image_filled unused done held line fills others stand given
             (λ placed. contents ∙ ap (λ references. contents_by at references found) holds.references)

@@ -26,7 +26,8 @@ use Rattle.asm_defs.specs.FirstChecks.{check, names, checked, known_of, line_of,
 use Rattle.asm_defs.specs.SecondChecks.{Outcome, Words, Bytes, Entry, outcome}
 use Rattle.asm_defs.specs.SecondChecks as second
 use Rattle.asm_defs.specs.Memory.{Settled, spot_by, joined, pieces_at, pieces_from, pieces_in, content_at, has_word, words_in, word_count, count_from}
-use Rattle.asm_defs.specs.Memory.{part_words, with_use, behind_word, behind_words, behind_by, references_of, is_placed_in, is_placed, overlaps}
+use Rattle.asm_defs.specs.Memory.{part_words, with_use, behind_word, behind_by, references_of, is_placed_in, is_placed, overlaps}
+use Rattle.asm_defs.proofs.PlacedWords.{behind_words}
 use Rattle.asm_defs.specs.Modules.{settle, module_by, module_of, definition_in, unused}
 use Rattle.asm_defs.proofs.CheckLaws.{bound, checked_few}
 use Rattle.module_image.proofs.TableLaws.{count_same, count_none}

@@ -13,7 +13,7 @@ use Rattle.asm_defs.specs.declared.location.Location.{Location}
 use Rattle.asm_defs.specs.Locations.{Line, behind}
 use Rattle.asm_defs.specs.Memory.{Settled}
 use Rattle.module_image.specs.declared.image.Image.{Image}
-use Rattle.asm_checks.specs.Defined.{defined_statement}
+use Rattle.asm_checks.specs.Defined.{model_of_statement}
 use Rattle.asm_checks.specs.declared.first_checks.Checked.{Checked}
 use Rattle.asm_core.specs.declared.first_pass.Emitted.{Emitted}
 use Rattle.asm_core.specs.declared.pending.Refused.{Refused}
@@ -131,12 +131,12 @@ going_is lines names image waiting (Some refused) none is = cc none
 pub worked : (old ready kept new : AsmLines) (text : List ℕ) (checked : Checked) (waiting : Option Pending) (emitted : Emitted) (at : Location)
     → is_some old.refused ≡ false
     → SameLines old ready → ((founds : List Settled) → ImageOf founds old.image → ImageOf founds ready.image) → at ≡ behind ready.location checked.moved.gap
-    → AssemblesBy ready.symbols (ready.taken + 1) at text (defined_statement checked.parsed.statement) waiting emitted → Keeps ready waiting checked kept
+    → AssemblesBy ready.symbols (ready.taken + 1) at text (model_of_statement checked.parsed.statement) waiting emitted → Keeps ready waiting checked kept
     → SameWork ready kept
     → StandsStill ready kept → SameKnown kept new → Emits kept at emitted (is_some waiting) new → Adds old text checked new
 worked old ready kept new text checked waiting emitted at none same made is_at assembles keeps work still known emits = record {
-  defs = known.names.defs ∙ (keeps.defs ∙ ap (λ (names : List (List ℕ)). names ++ defs_in (defined_statement checked.parsed.statement)) same.known.names.defs);
-  refs = known.names.refs ∙ (keeps.refs ∙ ap (λ (names : List (List ℕ)). names ++ refs_in (defined_statement checked.parsed.statement)) same.known.names.refs);
+  defs = known.names.defs ∙ (keeps.defs ∙ ap (λ (names : List (List ℕ)). names ++ defs_in (model_of_statement checked.parsed.statement)) same.known.names.defs);
+  refs = known.names.refs ∙ (keeps.refs ∙ ap (λ (names : List (List ℕ)). names ++ refs_in (model_of_statement checked.parsed.statement)) same.known.names.refs);
   names = known.names.symbols ∙ (keeps.names ∙ ap (λ (names : Names). names_with names checked) same.known.names.symbols);
   worked = λ lines line next works.
       let going = going_is lines old.symbols old.image old.waiting.items old.refused none works in
@@ -147,6 +147,6 @@ worked old ready kept new text checked waiting emitted at none same made is_at a
       begun
       kept new at text (is_at ∙ (ap (λ (from : Location). behind from checked.moved.gap) same.known.still.location ∙ next.at)) next.parsed
       (ap (λ taken. taken + 1) (still.taken ∙ same.known.still.taken) ∙ next.number) work.image (work.refused ∙ (same.refused ∙ none_is old.refused none))
-      (defined_statement checked.parsed.statement) next.statement (ready.taken + 1) (ap (λ taken. taken + 1) same.known.still.taken ∙ next.number)
+      (model_of_statement checked.parsed.statement) next.statement (ready.taken + 1) (ap (λ taken. taken + 1) same.known.still.taken ∙ next.number)
       waiting emitted assembles keeps.waits emits;
 }

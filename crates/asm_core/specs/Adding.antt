@@ -4,7 +4,7 @@ use Rattle.asm_defs.specs.Locations.{Line, place, behind}
 use Rattle.asm_defs.specs.Statements.{parse_line}
 use Rattle.asm_defs.specs.FirstChecks.{defs_in, refs_in}
 use Rattle.asm_defs.specs.Memory.{Settled}
-use Rattle.asm_checks.specs.Defined.{defined_statement}
+use Rattle.asm_checks.specs.Defined.{model_of_statement}
 use Rattle.asm_checks.specs.declared.first_checks.Checked.{Checked}
 use Rattle.asm_core.specs.declared.lines.AsmLines.{AsmLines}
 use Rattle.asm_core.specs.Keeping.{names_with, SameNames}
@@ -16,15 +16,15 @@ pub record IsNext (builder : AsmLines) (text : List ℕ) (checked : Checked) (li
   pub at : behind builder.location checked.moved.gap ≡ place lines line
   pub number : builder.taken + 1 ≡ line.number
   pub parsed : parse_line text ≡ Ok line.statement
-  pub statement : defined_statement checked.parsed.statement ≡ line.statement
+  pub statement : model_of_statement checked.parsed.statement ≡ line.statement
 
 abbrev pub WorksIn : List Line → AsmLines → Type 0
 WorksIn lines builder = IsWorked lines builder.symbols builder.image builder.waiting.items builder.refused
 
 -- its names are kept, and what is known of it is done
 pub record Adds (old : AsmLines) (text : List ℕ) (checked : Checked) (new : AsmLines) : Type 0 where
-  pub defs : new.defs.items ≡ old.defs.items ++ defs_in (defined_statement checked.parsed.statement)
-  pub refs : new.refs.items ≡ old.refs.items ++ refs_in (defined_statement checked.parsed.statement)
+  pub defs : new.defs.items ≡ old.defs.items ++ defs_in (model_of_statement checked.parsed.statement)
+  pub refs : new.refs.items ≡ old.refs.items ++ refs_in (model_of_statement checked.parsed.statement)
   pub names : new.symbols ≡ names_with old.symbols checked
   pub worked : (lines : List Line) (line : Line) → IsNext old text checked lines line → WorksIn lines old
       → WorksIn (line ∷ lines) new

@@ -1,7 +1,7 @@
 -- What a builder emits of a line.
 use Rattle.std.specs.Prelude.{◌≡◌, ◌+◌, Bool, true, false, List, [], ◌∷◌, ◌++◌, Option, Some, None, Result, Ok, Err}
 use Rattle.std.specs.Prelude.{IsTrue}
-use Rattle.source_defs.specs.Refusals.{seen}
+use Rattle.source_defs.specs.Refusals.{map_ok}
 use Rattle.object_defs.specs.Modules.{Reference}
 use Rattle.asm_defs.specs.declared.causes.AsmCause.{AsmCause}
 use Rattle.asm_defs.specs.declared.content.Content.{Content}
@@ -36,7 +36,7 @@ AreContents at given earlier line =
 -- a line is placed after others, and whether it has room
 pub record Places {A : Type 0} (earlier : List Settled) (line : Settled) (result : Result A AsmCause)
     (image : Option Image) : Type 0 where
-  pub room : seen (λ _. line) result ≡ with_room earlier line
+  pub room : map_ok (λ _. line) result ≡ with_room earlier line
   pub placed : ImageOf (line ∷ earlier) image
 
 -- the next line is refused; where it waits, it is the last that does

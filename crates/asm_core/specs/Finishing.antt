@@ -8,7 +8,7 @@ use Rattle.source_defs.specs.declared.causes.ExprError.TheVariants as expr
 use Rattle.instruction_defs.specs.declared.causes.FormError.TheVariants as form
 use Rattle.object_defs.specs.Modules as object
 use Rattle.object_defs.specs.Modules.{Reference}
-use Rattle.object_tags.specs.Seen.{defined_module}
+use Rattle.object_tags.specs.Seen.{model_of_module}
 use Rattle.object_tags.specs.declared.parts.Module.{Module}
 use Rattle.asm_defs.specs.declared.causes.AsmCause.{AsmCause}
 use Rattle.asm_defs.specs.declared.causes.AsmCause.TheVariants as cause
@@ -69,7 +69,7 @@ pub record SameEnd (old new : AsmLines) : Type 0 where
 
 -- the module that is defined, or the refused line; if memory ran out, nothing is said
 abbrev pub GivesModule : Result Module AsmError → Result object.Module (Refusal AsmCause) → Type 0
-GivesModule (Ok found) defined = defined ≡ Ok (defined_module found)
+GivesModule (Ok found) defined = defined ≡ Ok (model_of_module found)
 GivesModule (Err error) defined = RefusesAt error defined
 
 -- a line was taken after others, or the first checks refuse it there

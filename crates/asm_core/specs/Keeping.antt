@@ -3,10 +3,10 @@ use Rattle.std.specs.Prelude.{◌≡◌, ⊤, ℕ, List, ◌++◌, length, take,
 use Rattle.source_defs.specs.Growing.{Grows}
 use Rattle.source_defs.specs.Symbols.{Names}
 use Rattle.source_defs.specs.Layout.{with_names}
-use Rattle.asm_text.specs.GivenValues.{defined_value}
+use Rattle.asm_text.specs.GivenValues.{model_of_value}
 use Rattle.asm_defs.specs.declared.causes.AsmCause.TheVariants.{DuplicateLabel}
 use Rattle.asm_defs.specs.FirstChecks.{EarlierLines, any_known, label_in, label_entry, external_entries, defs_in, refs_in}
-use Rattle.asm_checks.specs.Defined.{defined_statement}
+use Rattle.asm_checks.specs.Defined.{model_of_statement}
 use Rattle.asm_checks.specs.declared.first_checks.Checked.{Checked}
 use Rattle.asm_checks.specs.declared.failure.Failure.{Failure}
 use Rattle.asm_checks.specs.declared.failure.Failure.TheVariants.{Refused, Memory}
@@ -27,8 +27,8 @@ known_in builder =
 -- names with the names of a line
 abbrev pub names_with : Names → Checked → Names
 names_with names checked =
-    with_names (with_names names (label_entry checked.parsed.label (defined_value checked.moved.label)))
-    (external_entries (refs_in (defined_statement checked.parsed.statement)))
+    with_names (with_names names (label_entry checked.parsed.label (model_of_value checked.moved.label)))
+    (external_entries (refs_in (model_of_statement checked.parsed.statement)))
 
 -- a label stands for something already, or memory was wanting
 abbrev pub KnowsLabel : Names → Option (List ℕ) → Failure → Type 0
@@ -38,8 +38,8 @@ KnowsLabel names label (Refused cause) = (cause ≡ DuplicateLabel) × IsTrue (a
 -- the line is kept with its names
 pub record Keeps (old : AsmLines) (waiting : Option Pending) (checked : Checked) (new : AsmLines) : Type 0 where
   pub waits : new.waiting.items ≡ old.waiting.items ++ option_to_list waiting
-  pub defs : new.defs.items ≡ old.defs.items ++ defs_in (defined_statement checked.parsed.statement)
-  pub refs : new.refs.items ≡ old.refs.items ++ refs_in (defined_statement checked.parsed.statement)
+  pub defs : new.defs.items ≡ old.defs.items ++ defs_in (model_of_statement checked.parsed.statement)
+  pub refs : new.refs.items ≡ old.refs.items ++ refs_in (model_of_statement checked.parsed.statement)
   pub names : new.symbols ≡ names_with old.symbols checked
   pub grows : Grows old.symbols new.symbols
 

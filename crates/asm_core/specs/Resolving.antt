@@ -4,7 +4,7 @@ use Rattle.source_defs.specs.Orders.{onto}
 use Rattle.source_defs.specs.Refusals.{◌>>=◌}
 use Rattle.source_defs.specs.Symbols.{Names, look_up}
 use Rattle.object_defs.specs.Modules.{Reference}
-use Rattle.object_tags.specs.Seen.{defined_ref}
+use Rattle.object_tags.specs.Seen.{model_of_ref}
 use Rattle.asm_defs.specs.declared.causes.AsmCause.{AsmCause}
 use Rattle.asm_defs.specs.declared.location.Location.{Location}
 use Rattle.asm_defs.specs.Statements.{Statement, parse_line}
@@ -22,7 +22,7 @@ use Rattle.asm_core.specs.declared.pending.Pending.{Pending}
 -- the bytes of lines, of which some are done and others stand after them; and the last uses in those that are done
 pub record HoldsBytes (unused : List Reference) (done others : List Settled) (output : Output) : Type 0 where
   pub image : IsImage unused (onto done others) output.image
-  pub references : map defined_ref output.references.items ≡ references_of unused done
+  pub references : map model_of_ref output.references.items ≡ references_of unused done
 
 -- and the entry
 pub record IsOutput (unused : List Reference) (done others : List Settled) (output : Output) : Type 0 where

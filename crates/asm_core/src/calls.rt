@@ -14,7 +14,7 @@ use crate::error::AsmError;
 use crate::finished::Finished;
 use crate::lines::AsmLines;
 use asm_defs::{Location, Part};
-use asm_text::Symbols;
+use asm_text::{SplitLine, Symbols, split_line};
 use object_tags::{Module, ModuleName};
 use std::alloc::Global;
 
@@ -55,6 +55,16 @@ impl AsmLines {
         requires count { CanCount self.old }
         ensures { (texts : List (List ℕ)) → HasAccepted texts self.old
             → AcceptsText texts line.now result self.new }
+    {
+        self.split_line(&split_line(line))
+    }
+
+    /// Takes a line that is split into its fields already, as [`AsmLines::line`] takes it.
+    pub fn split_line(&mut self, line: &SplitLine<'_>) -> Result<(), AsmError>
+        requires open { IsOpen self.old }
+        requires count { CanCount self.old }
+        ensures { (texts : List (List ℕ)) → HasAccepted texts self.old
+            → AcceptsText texts line.now.text.now result self.new }
     {
         self.take(line)
     }

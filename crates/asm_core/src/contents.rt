@@ -1,11 +1,12 @@
 //! The bytes of what a line comes to.
 
 ghost use Rattle.std.specs.Prelude.{◌≡◌, ◌≤◌, ◌+◌, ◌*◌, map, length, IfOk, OnOk, IsTrue};
-ghost use Rattle.object_tags.specs.Seen.{defined_ref};
-ghost use Rattle.asm_forms.specs.Placed.{defined_word, defined_words};
+ghost use Rattle.object_tags.specs.Seen.{model_of_ref};
+ghost use Rattle.asm_forms.specs.Placed.{model_of_word, model_of_words};
 ghost use Rattle.asm_defs.specs.Memory as spec;
+ghost use Rattle.asm_defs.specs.SecondChecks.{Words};
 ghost use Rattle.asm_defs.specs.declared.content.Content.TheVariants.{Byte};
-ghost use Rattle.asm_checks.specs.Outcomes.{defined_outcome};
+ghost use Rattle.asm_checks.specs.Outcomes.{model_of_outcome};
 
 use crate::references::use_name;
 use asm_checks::Outcome;
@@ -24,11 +25,11 @@ pub(crate) fn contents(
     outcome: &Outcome,
 ) -> Result<Vec<Content>, AllocError>
     requires placed { IsTrue (spec.is_placed_in at.part) }
-    requires within { at.number + spec.bytes_in (defined_outcome outcome.now) ≤ 65536 }
+    requires within { at.number + spec.bytes_in (model_of_outcome outcome.now) ≤ 65536 }
     ensures contents { OnOk result (IfOk result (λ contents. contents.items
-        ≡ spec.contents_by at (map defined_ref references.old.items) (defined_outcome outcome.now))) }
-    ensures uses { OnOk result (map defined_ref references.new.items
-        ≡ spec.behind_by at (map defined_ref references.old.items) (defined_outcome outcome.now)) }
+        ≡ spec.contents_by at (map model_of_ref references.old.items) (model_of_outcome outcome.now))) }
+    ensures uses { OnOk result (map model_of_ref references.new.items
+        ≡ spec.behind_by at (map model_of_ref references.old.items) (model_of_outcome outcome.now)) }
 {
     match outcome {
         Outcome::Instruction(placed) => {
@@ -62,9 +63,9 @@ fn word_contents(
 ) -> Result<Vec<Content>, AllocError>
     requires { at.number + 2 * length words.now ≤ 65536 }
     ensures contents { OnOk result (IfOk result (λ contents. contents.items
-        ≡ spec.word_contents at.part (map defined_ref references.old.items) at.number (defined_words words.now))) }
-    ensures uses { OnOk result (map defined_ref references.new.items
-        ≡ spec.behind_words at.part (map defined_ref references.old.items) at.number (defined_words words.now)) }
+        ≡ spec.contents_by at (map model_of_ref references.old.items) (Words (model_of_words words.now)))) }
+    ensures uses { OnOk result (map model_of_ref references.new.items
+        ≡ (spec.words_at at.part (map model_of_ref references.old.items) at.number (model_of_words words.now)).1) }
 {
     let mut contents = Vec::new(alloc);
     let mut place = at.number;
@@ -81,9 +82,9 @@ fn word_contents(
 
 /// What stands in a word at a place.
 fn spot_of(references: &mut Vec<Ref>, at: Spot, word: &Word) -> Spot
-    ensures spot { result ≡ spec.word_of (map defined_ref references.old.items) (defined_word word.now) }
-    ensures uses { map defined_ref references.new.items
-        ≡ spec.behind_word (map defined_ref references.old.items) at (defined_word word.now) }
+    ensures spot { result ≡ spec.word_of (map model_of_ref references.old.items) (model_of_word word.now) }
+    ensures uses { map model_of_ref references.new.items
+        ≡ spec.behind_word (map model_of_ref references.old.items) at (model_of_word word.now) }
 {
     match word {
         Word::Plain(number) => Spot::Absolute(*number),

@@ -7,7 +7,7 @@ ghost use Rattle.std.specs.Cmp.Lexicographic.{slice_cmp};
 ghost use Rattle.source_defs.specs.Symbols.{registers};
 ghost use Rattle.source_defs.specs.Growing.{Grows};
 ghost use Rattle.source_defs.specs.Layout.{with_names};
-ghost use Rattle.asm_text.specs.GivenValues.{defined_value};
+ghost use Rattle.asm_text.specs.GivenValues.{model_of_value};
 ghost use Rattle.asm_defs.specs.FirstChecks.{any_known, label_in, label_entry, external_entries};
 ghost use Rattle.asm_core.specs.Keeping.{KnowsLabel};
 
@@ -28,7 +28,7 @@ pub(crate) fn define_line(
     ensures fresh { OnOk result (IsFalse (any_known symbols.old (label_in label))) }
     ensures known { IfErr result (KnowsLabel symbols.old label) }
     ensures defined { OnOk result (symbols.new
-        ≡ with_names (with_names symbols.old (label_entry label (defined_value value))) (external_entries refs.now)) }
+        ≡ with_names (with_names symbols.old (label_entry label (model_of_value value))) (external_entries refs.now)) }
     ensures grows { OnOk result (Grows symbols.old symbols.new) }
     ensures unchanged { OnErr result (symbols.new ≡ symbols.old) }
 {
@@ -70,7 +70,7 @@ fn define_refs(symbols: &mut Symbols, refs: &[Name]) -> Result<(), AllocError>
 /// Defines a name, where it stands for nothing yet.
 #[tactic(auto, using(crate::proofs::NameLaws::grown))]
 fn define(symbols: &mut Symbols, name: Name, value: Value) -> Result<(), Failure>
-    ensures defined { OnOk result (symbols.new ≡ insert symbols.old name (defined_value value)) }
+    ensures defined { OnOk result (symbols.new ≡ insert symbols.old name (model_of_value value)) }
     ensures fresh { OnOk result (get symbols.old name ≡ None) }
     ensures known { IfErr result (KnowsLabel symbols.old (Some name)) }
     ensures grows { OnOk result (Grows symbols.old symbols.new) }

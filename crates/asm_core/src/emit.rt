@@ -3,7 +3,7 @@
 ghost use Rattle.std.specs.Prelude.{◌≡◌, ◌<◌, ◌≤◌, ◌+◌, ◌-◌, ◌^◌, List, length, IsSome, IfOk, OnOk, IsTrue};
 ghost use Rattle.asm_defs.specs.Locations as places;
 ghost use Rattle.asm_defs.specs.Memory.{Settled};
-ghost use Rattle.asm_checks.specs.Defined.{defined_statement};
+ghost use Rattle.asm_checks.specs.Defined.{model_of_statement};
 ghost use Rattle.asm_checks.specs.Moves.{MovesWithin};
 ghost use Rattle.asm_checks.specs.Checks.{IsParsed};
 ghost use Rattle.asm_core.specs.Assembling.{Assembles, HasRoom, EmittedFits};
@@ -42,10 +42,10 @@ impl AsmLines {
         requires line { IsParsed checked.now.parsed }
         requires within { MovesWithin checked.now.moved }
         requires room { HasRoom (places.behind self.now.location checked.now.moved.gap) text.now
-            (defined_statement checked.now.parsed.statement) }
+            (model_of_statement checked.now.parsed.statement) }
         ensures { IfOk result (Assembles self.now.symbols (self.now.taken + 1)
             (places.behind self.now.location checked.now.moved.gap)
-            text.now (defined_statement checked.now.parsed.statement)) }
+            text.now (model_of_statement checked.now.parsed.statement)) }
     {
         let first_pass = FirstPass {
             alloc: self.alloc,

@@ -3,12 +3,12 @@
 ghost use Rattle.std.specs.Prelude.{◌≡◌, List, [], map, IfOk};
 ghost use Rattle.source_defs.specs.Orders.{onto};
 ghost use Rattle.object_defs.specs.Modules.{Reference};
-ghost use Rattle.object_tags.specs.Seen.{defined_def, defined_ref, defined_module};
+ghost use Rattle.object_tags.specs.Seen.{model_of_def, model_of_ref, model_of_module};
 ghost use Rattle.asm_defs.specs.Locations.{Line};
 ghost use Rattle.asm_defs.specs.FirstChecks as first;
 ghost use Rattle.asm_defs.specs.Memory.{Settled};
 ghost use Rattle.asm_defs.specs.Modules.{unused, module_by, module_behind, definition_in};
-ghost use Rattle.asm_checks.specs.Outcomes.{defined_spot};
+ghost use Rattle.asm_checks.specs.Outcomes.{model_of_spot};
 ghost use Rattle.asm_core.specs.declared.pending.Pending.{Pending};
 ghost use Rattle.module_image.specs.Standing.{AllStand};
 ghost use Rattle.asm_core.specs.Building.{AreKnown, ImageOf, IsStopped, IsBehind, refusal_at, error_of};
@@ -79,7 +79,7 @@ impl AsmLines {
     fn module_of(&self, output: &Output) -> Result<Module, AllocError>
         ensures { (lines : List Line) (settled : List Settled) → Knows lines self.now →
             IsOutput (map unused (first.refs lines)) settled [] output.now →
-            IfOk result (λ found. defined_module found ≡ module_by lines settled) }
+            IfOk result (λ found. model_of_module found ≡ module_by lines settled) }
     {
         Ok(Module {
             name: self.title,
@@ -130,7 +130,7 @@ fn refusal(line: u32, failure: Failure) -> AsmError
 
 /// The names of DEF with what they stand for.
 fn defs(alloc: Global, symbols: &Symbols, names: &[Name]) -> Result<Defs, AllocError>
-    ensures { IfOk result (λ found. map defined_def found ≡ map (definition_in symbols.now) names.now) }
+    ensures { IfOk result (λ found. map model_of_def found ≡ map (definition_in symbols.now) names.now) }
 {
     let mut found = Defs::new(alloc);
     for name in names {
@@ -144,7 +144,7 @@ fn defs(alloc: Global, symbols: &Symbols, names: &[Name]) -> Result<Defs, AllocE
 
 /// The spot that a name stands for.
 fn spot_of(value: Option<Value>) -> Spot
-    ensures { result ≡ defined_spot value }
+    ensures { result ≡ model_of_spot value }
 {
     match value {
         Some(Value::Absolute(number)) => Spot::Absolute(number),
@@ -155,7 +155,7 @@ fn spot_of(value: Option<Value>) -> Spot
 
 /// The names of REF with their last uses.
 fn refs(alloc: Global, references: &[Ref]) -> Result<Refs, AllocError>
-    ensures { IfOk result (λ found. map defined_ref found ≡ map defined_ref references.now) }
+    ensures { IfOk result (λ found. map model_of_ref found ≡ map model_of_ref references.now) }
 {
     let mut found = Refs::new(alloc);
     for reference in references {

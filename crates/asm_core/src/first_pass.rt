@@ -3,9 +3,9 @@
 ghost use Rattle.std.specs.Prelude.{◌≡◌, ◌≤◌, ◌+◌, IfOk, not, IsTrue};
 ghost use Rattle.asm_defs.specs.Memory as memory;
 ghost use Rattle.asm_defs.specs.Growing.{declared_size, held_place};
-ghost use Rattle.asm_checks.specs.Defined.{defined_statement};
+ghost use Rattle.asm_checks.specs.Defined.{model_of_statement};
 ghost use Rattle.asm_checks.specs.Moves.{MovesLittle};
-ghost use Rattle.asm_checks.specs.Outcomes.{defined_outcome};
+ghost use Rattle.asm_checks.specs.Outcomes.{model_of_outcome};
 ghost use Rattle.asm_checks.specs.Checks.{IsParsed};
 ghost use Rattle.asm_core.specs.Held.{has_room};
 ghost use Rattle.asm_core.specs.Assembling.{Assembles, HasRoom, GivesBytes, IsPending};
@@ -52,10 +52,10 @@ impl FirstPass<'_> {
         parsed: &ParsedLine<'_>,
     ) -> Result<Assembled, AllocError>
         requires line { IsParsed parsed.now }
-        requires room { HasRoom self.now.at text.now (defined_statement parsed.now.statement) }
+        requires room { HasRoom self.now.at text.now (model_of_statement parsed.now.statement) }
         ensures { IfOk result
             (Assembles self.now.symbols.now self.now.number self.now.at text.now
-            (defined_statement parsed.now.statement)) }
+            (model_of_statement parsed.now.statement)) }
     {
         let scope = Scope {
             alloc: self.alloc,
@@ -105,17 +105,17 @@ impl FirstPass<'_> {
     /// Zeros that hold the places of a line.
     fn zeros(&self, parsed: &ParsedLine<'_>) -> Result<Vec<Content>, AllocError>
         requires little { MovesLittle parsed.now.statement }
-        requires fits { self.now.at.number + declared_size (defined_statement parsed.now.statement) ≤ 65536 }
+        requires fits { self.now.at.number + declared_size (model_of_statement parsed.now.statement) ≤ 65536 }
         ensures { IfOk result (λ zeros. GivesBytes self.now.at
-            (held_place self.now.at (defined_statement parsed.now.statement)).outcome zeros.items) }
+            (held_place self.now.at (model_of_statement parsed.now.statement)).outcome zeros.items) }
     {
         vec![in self.alloc; Content::Byte(0); declared_size(&parsed.statement) as usize]
     }
 
     /// The bytes of what a line comes to. There are none in the part of dummy lines.
     fn bytes_of(&self, outcome: &Outcome) -> Result<Vec<Content>, AllocError>
-        requires { self.now.at.number + memory.bytes_in (defined_outcome outcome.now) ≤ 65536 }
-        ensures { IfOk result (λ bytes. GivesBytes self.now.at (defined_outcome outcome.now) bytes.items) }
+        requires { self.now.at.number + memory.bytes_in (model_of_outcome outcome.now) ≤ 65536 }
+        ensures { IfOk result (λ bytes. GivesBytes self.now.at (model_of_outcome outcome.now) bytes.items) }
     {
         if is_dummy(self.at.part) {
             return Ok(Vec::new(self.alloc));

@@ -3,8 +3,8 @@
 ghost use Rattle.std.specs.Prelude.{◌≡◌, ◌++◌, OnOk, OnErr, IfErr, option_to_list, IsFalse};
 ghost use Rattle.source_defs.specs.Growing.{Grows};
 ghost use Rattle.asm_defs.specs.FirstChecks.{any_known, label_in, defs_in, refs_in};
-ghost use Rattle.asm_checks.specs.Defined.{defined_statement};
-ghost use Rattle.asm_checks.specs.Checks.{defined_earlier_lines, KnowsPlaces, ListsNames};
+ghost use Rattle.asm_checks.specs.Defined.{model_of_statement};
+ghost use Rattle.asm_checks.specs.Checks.{model_of_earlier_lines, KnowsPlaces, ListsNames};
 ghost use Rattle.asm_core.specs.Keeping.{known_in, names_with, KnowsLabel, Keeps, IsUnchanged, StartsAs, SameLists};
 ghost use Rattle.asm_core.specs.Keeping.{SameNames};
 ghost use Rattle.asm_core.specs.Keeping.{SameWork, StandsStill};
@@ -18,7 +18,7 @@ use std::alloc::AllocError;
 impl AsmLines {
     /// What is known of the lines that were taken.
     pub(crate) fn known(&self) -> EarlierLines<'_>
-        ensures known { defined_earlier_lines result ≡ known_in self.now }
+        ensures known { model_of_earlier_lines result ≡ known_in self.now }
         ensures places { KnowsPlaces result }
     {
         EarlierLines {
@@ -120,9 +120,9 @@ impl AsmLines {
     fn list_names(&mut self, checked: &Checked<'_>) -> Result<(), AllocError>
         requires { ListsNames checked.now.parsed }
         ensures defs { OnOk result
-            (self.new.defs.items ≡ self.old.defs.items ++ defs_in (defined_statement checked.now.parsed.statement)) }
+            (self.new.defs.items ≡ self.old.defs.items ++ defs_in (model_of_statement checked.now.parsed.statement)) }
         ensures refs { OnOk result
-            (self.new.refs.items ≡ self.old.refs.items ++ refs_in (defined_statement checked.now.parsed.statement)) }
+            (self.new.refs.items ≡ self.old.refs.items ++ refs_in (model_of_statement checked.now.parsed.statement)) }
         ensures unchanged { OnErr result
             ((self.new.defs.items ≡ self.old.defs.items) × (self.new.refs.items ≡ self.old.refs.items)) }
         ensures waiting { self.new.waiting ≡ self.old.waiting }

@@ -2,10 +2,10 @@
 
 ghost use Rattle.std.specs.Prelude.{◌≡◌, ◌≤◌, ◌+◌, List, OnOk, IfOk, map};
 ghost use Rattle.object_defs.specs.Modules.{Reference};
-ghost use Rattle.object_tags.specs.Seen.{defined_ref};
+ghost use Rattle.object_tags.specs.Seen.{model_of_ref};
 ghost use Rattle.asm_defs.specs.Memory as memory;
 ghost use Rattle.asm_defs.specs.Modules.{unused, entry_by};
-ghost use Rattle.asm_checks.specs.Outcomes.{defined_outcome};
+ghost use Rattle.asm_checks.specs.Outcomes.{model_of_outcome};
 ghost use Rattle.asm_core.specs.Resolving.{Fills, FillsBytes, Resolves};
 
 use crate::contents::contents;
@@ -52,9 +52,9 @@ impl Output {
 
     /// Puts what a line comes to into its places.
     fn fill(&mut self, at: Location, outcome: &Outcome) -> Result<(), AllocError>
-        requires { at.number + memory.bytes_in (defined_outcome outcome.now) ≤ 65536 }
+        requires { at.number + memory.bytes_in (model_of_outcome outcome.now) ≤ 65536 }
         ensures { OnOk result
-            ((unused : List Reference) → Fills unused at (defined_outcome outcome.now) self.old self.new) }
+            ((unused : List Reference) → Fills unused at (model_of_outcome outcome.now) self.old self.new) }
     {
         self.fill_bytes(at, outcome)?;
         self.note_entry(outcome);
@@ -63,9 +63,9 @@ impl Output {
 
     /// Puts the bytes of a line into its places. There are none in the part of dummy lines.
     fn fill_bytes(&mut self, at: Location, outcome: &Outcome) -> Result<(), AllocError>
-        requires { at.number + memory.bytes_in (defined_outcome outcome.now) ≤ 65536 }
+        requires { at.number + memory.bytes_in (model_of_outcome outcome.now) ≤ 65536 }
         ensures filled { OnOk result
-            ((unused : List Reference) → FillsBytes unused at (defined_outcome outcome.now) self.old self.new) }
+            ((unused : List Reference) → FillsBytes unused at (model_of_outcome outcome.now) self.old self.new) }
         ensures entry { self.new.entry ≡ self.old.entry }
     {
         if is_dummy(at.part) {
@@ -78,7 +78,7 @@ impl Output {
 
     /// Notes the entry that a line gives.
     fn note_entry(&mut self, outcome: &Outcome)
-        ensures entry { self.new.entry ≡ entry_by self.old.entry (defined_outcome outcome.now) }
+        ensures entry { self.new.entry ≡ entry_by self.old.entry (model_of_outcome outcome.now) }
         ensures image { self.new.image ≡ self.old.image }
         ensures references { self.new.references ≡ self.old.references }
     {
@@ -90,7 +90,7 @@ impl Output {
 
 /// The names of REF before their first use.
 pub(crate) fn unused_references(alloc: Global, refs: &[Name]) -> Result<Vec<Ref>, AllocError>
-    ensures { IfOk result (λ references. map defined_ref references.items ≡ map unused refs.now) }
+    ensures { IfOk result (λ references. map model_of_ref references.items ≡ map unused refs.now) }
 {
     let mut references = Vec::new(alloc);
     for name in refs {

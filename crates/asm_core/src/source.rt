@@ -6,7 +6,7 @@ ghost use Rattle.asm_core.specs.Finishing.{GivesModule};
 
 use crate::error::AsmError;
 use crate::lines::AsmLines;
-use asm_text::lines;
+use asm_text::{lines, split_line};
 use object_tags::Module;
 use std::alloc::Global;
 
@@ -21,7 +21,7 @@ pub fn assemble(alloc: Global, text: &[u8]) -> Result<Module, AsmError>
 {
     let mut builder = AsmLines::new(alloc);
     for line in lines(text) {
-        builder.take(&text[line.span.start..line.span.end])?;
+        builder.take(&split_line(&text[line.span.start..line.span.end]))?;
         if builder.ended {
             break;
         }

@@ -6,8 +6,8 @@ ghost use Rattle.asm_defs.specs.Locations as places;
 ghost use Rattle.asm_defs.specs.Modules.{title_by};
 ghost use Rattle.asm_defs.specs.FirstChecks as spec;
 ghost use Rattle.asm_defs.proofs.CheckLaws.{IsTitled};
-ghost use Rattle.asm_checks.specs.Defined.{defined_statement};
-ghost use Rattle.asm_checks.specs.Moves.{defined_move, MovesWithin};
+ghost use Rattle.asm_checks.specs.Defined.{model_of_statement};
+ghost use Rattle.asm_checks.specs.Moves.{model_of_move, MovesWithin};
 ghost use Rattle.asm_checks.specs.Checks.{IsParsed, ListsNames};
 ghost use Rattle.asm_core.specs.Assembling.{HasRoom};
 ghost use Rattle.asm_core.specs.Keeping.{KnowsLabel, IsUnchanged, SameWork, StandsStill};
@@ -19,24 +19,24 @@ use crate::first_pass::Assembled;
 use crate::lines::AsmLines;
 use asm_checks::{Checked, Failure, Statement, behind, location_behind, title_in};
 use asm_defs::{Location, Part};
-use asm_text::is_comment_line;
+use asm_text::SplitLine;
 use object_tags::ModuleName;
 use std::alloc::AllocError;
 
 impl AsmLines {
     /// Takes a line after those that were taken. A refused line leaves the builder as before.
-    pub(crate) fn take(&mut self, text: &[u8]) -> Result<(), AsmError>
+    pub(crate) fn take(&mut self, line: &SplitLine<'_>) -> Result<(), AsmError>
         requires { self.old.taken < 2 ^ 32 - 1 }
-        ensures { (lines : List places.Line) → IsBehind lines self.old → Takes lines text.now result self.new }
+        ensures { (lines : List places.Line) → IsBehind lines self.old → Takes lines line.now.text.now result self.new }
     {
-        if is_comment_line(text) {
+        if line.is_comment() {
             return Ok(self.count()?);
         }
-        let checked = match self.known().checked(text) {
+        let checked = match self.known().checked(line) {
             Ok(checked) => checked,
-            Err(failure) => return Err(self.refusal(self.known().failure_of(text, failure))),
+            Err(failure) => return Err(self.refusal(self.known().failure_of(line, failure))),
         };
-        match self.work(text, &checked) {
+        match self.work(line.text, &checked) {
             Ok(()) => {
                 self.advance(&checked);
                 Ok(())
@@ -65,9 +65,10 @@ impl AsmLines {
         requires listed { ListsNames checked.now.parsed }
         requires within { MovesWithin checked.now.moved }
         requires room { HasRoom (places.behind self.old.location checked.now.moved.gap) text.now
-            (defined_statement checked.now.parsed.statement) }
+            (model_of_statement checked.now.parsed.statement) }
         ensures added { OnOk result (Adds self.old text.now checked.now self.new) }
-        ensures fresh { OnOk result (IsFalse (spec.any_known self.old.symbols (spec.label_in checked.now.parsed.label))) }
+        ensures fresh { OnOk result
+            (IsFalse (spec.any_known self.old.symbols (spec.label_in checked.now.parsed.label))) }
         ensures known { IfErr result (KnowsLabel self.old.symbols checked.now.parsed.label) }
         ensures unchanged { OnErr result (IsAsBefore self.old self.new) }
         ensures still { StandsStill self.old self.new }
@@ -103,14 +104,15 @@ impl AsmLines {
         requires taken { self.old.taken < 2 ^ 32 - 1 }
         requires within { MovesWithin checked.now.moved }
         requires place { IsTrue
-            (places.is_in_part (spec.location_behind self.old.location (defined_move checked.now.moved))) }
-        requires titled { IsTitled (defined_statement checked.now.parsed.statement) }
-        ensures location { self.new.location ≡ spec.location_behind self.old.location (defined_move checked.now.moved) }
+            (places.is_in_part (spec.location_behind self.old.location (model_of_move checked.now.moved))) }
+        requires titled { IsTitled (model_of_statement checked.now.parsed.statement) }
+        ensures location { self.new.location
+            ≡ spec.location_behind self.old.location (model_of_move checked.now.moved) }
         ensures reached { self.new.reached ≡ max self.old.reached (places.relocatable self.new.location) }
-        ensures title { self.new.title ≡ title_by self.old.title (defined_statement checked.now.parsed.statement) }
+        ensures title { self.new.title ≡ title_by self.old.title (model_of_statement checked.now.parsed.statement) }
         ensures taken { self.new.taken ≡ self.old.taken + 1 }
         ensures ended { self.new.ended
-            ≡ (spec.is_end (defined_statement checked.now.parsed.statement) || self.old.ended) }
+            ≡ (spec.is_end (model_of_statement checked.now.parsed.statement) || self.old.ended) }
         ensures kept { IsUnchanged self.old self.new }
         ensures worked { SameWork self.old self.new }
     {
@@ -134,8 +136,8 @@ fn relocatable(location: Location) -> u32
 
 /// The module's name after a line.
 fn title_behind(title: ModuleName, statement: &Statement<'_>) -> ModuleName
-    requires { IsTitled (defined_statement statement.now) }
-    ensures { result ≡ title_by title (defined_statement statement.now) }
+    requires { IsTitled (model_of_statement statement.now) }
+    ensures { result ≡ title_by title (model_of_statement statement.now) }
 {
     match statement {
         Statement::Idt(text) => match title_in(text) {
@@ -148,7 +150,7 @@ fn title_behind(title: ModuleName, statement: &Statement<'_>) -> ModuleName
 
 /// Whether the source ends with a line.
 fn is_end(statement: &Statement<'_>) -> bool
-    ensures { result ≡ spec.is_end (defined_statement statement.now) }
+    ensures { result ≡ spec.is_end (model_of_statement statement.now) }
 {
     matches!(statement, Statement::End(_))
 }

@@ -95,22 +95,7 @@ module _ (before : EarlierLines) where
   titled_by : (label : Option (List ℕ)) (statement : Statement) → is_bad before label statement ≡ false → IsTitled statement
   titled_by None (Idt text) fine = both (is_quoted text) (is_title text) fine
   titled_by (Some name) (Idt text) fine = both (is_quoted text) (is_title text) fine
-  titled_by label Nothing fine = tt
-  titled_by label (Instruction size operation field) fine = tt
-  titled_by label (Aorg text) fine = tt
-  titled_by label (Rorg text) fine = tt
-  titled_by label (Dorg text) fine = tt
-  titled_by label (Bss text) fine = tt
-  titled_by label (Bes text) fine = tt
-  titled_by label Even fine = tt
-  titled_by label (Equ text) fine = tt
-  titled_by label (Data texts) fine = tt
-  titled_by label (Byte texts) fine = tt
-  titled_by label (Text quoted) fine = tt
-  titled_by label (Def names) fine = tt
-  titled_by label (Ref names) fine = tt
-  titled_by label (Titl text) fine = tt
-  titled_by label (End text) fine = tt
+  titled_by label _ fine = tt
 
   -- what the first checks let through is what the line says
   said_is : (text : List ℕ) (found : ParsedLine) → parsed before text ≡ Ok found → parse_line text ≡ Ok found.statement

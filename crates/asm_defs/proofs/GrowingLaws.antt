@@ -1,5 +1,5 @@
 -- A line whose names are known comes to what it comes to when more are known.
-use Rattle.std.proofs.Common.{◌≡◌, ℕ, List, [], ◌∷◌, Some, None, Ok, Err, ap}
+use Rattle.std.proofs.Common.{◌≡◌, ℕ, List, [], ◌∷◌, Some, Ok, Err, ap}
 use Rattle.std.specs.Prelude.{Option, Result}
 use Rattle.source_defs.specs.declared.causes.ExprError.{ExprError}
 use Rattle.source_defs.specs.Refusals.{◌>>=◌}
@@ -13,8 +13,7 @@ use Rattle.instruction_defs.specs.Growing as instructions
 use Rattle.instruction_defs.proofs.GrowingLaws.{words_stay}
 use Rattle.asm_defs.specs.declared.location.Location.{Location}
 use Rattle.asm_defs.specs.Locations.{behind, value_of}
-use Rattle.asm_defs.specs.Statements as parsed
-use Rattle.asm_defs.specs.Statements.{Statement, Instruction, Aorg, Rorg, Dorg, Bss, Bes, Even, Equ, Data, Byte, Text, Def, Ref, Idt, Titl, End, as_form}
+use Rattle.asm_defs.specs.Statements.{Statement, Instruction, Data, Byte, Def, End, as_form}
 use Rattle.asm_defs.specs.FirstChecks.{as_expr}
 use Rattle.asm_defs.specs.SecondChecks.{used_at, entry_at, value, word_in, data_values, absolute_in, byte_values, defined_here}
 use Rattle.asm_defs.specs.SecondChecks.{defs_known, entry_in, instruction_outcome, outcome}
@@ -93,16 +92,4 @@ module _ (look more : List ℕ → Option Value) (grows : (name : List ℕ) (val
   outcome_stays (End (Some text)) =
       stays_then is_unresolved (as_expr (entry_in look at text)) (as_expr (entry_in more at text)) _ _
       (expr_stays (entry_in look at text) (entry_in more at text) (entry_stays text)) (λ entry. stays_same is_unresolved _)
-  outcome_stays (End None) = stays_same is_unresolved _
-  outcome_stays (Text quoted) = stays_same is_unresolved _
-  outcome_stays parsed.Nothing = stays_same is_unresolved _
-  outcome_stays (Aorg text) = stays_same is_unresolved _
-  outcome_stays (Rorg text) = stays_same is_unresolved _
-  outcome_stays (Dorg text) = stays_same is_unresolved _
-  outcome_stays (Bss text) = stays_same is_unresolved _
-  outcome_stays (Bes text) = stays_same is_unresolved _
-  outcome_stays Even = stays_same is_unresolved _
-  outcome_stays (Equ text) = stays_same is_unresolved _
-  outcome_stays (Ref names) = stays_same is_unresolved _
-  outcome_stays (Idt text) = stays_same is_unresolved _
-  outcome_stays (Titl text) = stays_same is_unresolved _
+  outcome_stays _ = stays_same is_unresolved _

@@ -1,5 +1,5 @@
 -- What a line comes to fills the size that it says.
-use Rattle.std.proofs.Common.{◌≡◌, ℕ, ◌*◌, List, [], ◌∷◌, Some, None, Ok, Err, length, refl, ◌∙◌, arith}
+use Rattle.std.proofs.Common.{◌≡◌, ℕ, ◌*◌, List, [], ◌∷◌, Some, Ok, Err, length, refl, ◌∙◌, arith}
 use Rattle.std.specs.Prelude.{Option, Result, ⊤}
 use Rattle.source_defs.specs.Refusals.{◌>>=◌}
 use Rattle.source_defs.specs.declared.causes.ExprError.{ExprError}
@@ -8,8 +8,7 @@ use Rattle.instruction_defs.specs.declared.causes.FormError.{FormError}
 use Rattle.instruction_defs.specs.FirstChecks.{Skeleton, first_checks, line_size, size_of}
 use Rattle.instruction_defs.specs.SecondChecks.{second_checks}
 use Rattle.asm_defs.specs.declared.location.Location.{Location}
-use Rattle.asm_defs.specs.Statements as parsed
-use Rattle.asm_defs.specs.Statements.{Statement, Instruction, Aorg, Rorg, Dorg, Bss, Bes, Even, Equ, Data, Byte, Text, Def, Ref, Idt, Titl, End, as_form}
+use Rattle.asm_defs.specs.Statements.{Statement, Instruction, Data, Byte, Text, Def, End, as_form}
 use Rattle.asm_defs.specs.Locations.{behind, value_of}
 use Rattle.asm_defs.specs.FirstChecks.{as_expr}
 use Rattle.asm_defs.specs.SecondChecks.{Outcome, Nothing, Words, Bytes, Entry, byte_of, bytes_of, word_in, data_values, absolute_in, byte_values, defs_known}
@@ -89,15 +88,4 @@ module _ (look : List ℕ → Option Value) (at : Location) where
   outcome_size (Def names) found sized e = defs_size names found e
   outcome_size (End (Some text)) found sized e =
       given bytes_in 0 (as_expr (entry_in look at text)) _ found e (λ entry is f. is_ok bytes_in 0 (Entry entry) found f refl)
-  outcome_size (End None) found sized e = is_ok bytes_in 0 Nothing found e refl
-  outcome_size parsed.Nothing found sized e = is_ok bytes_in 0 Nothing found e refl
-  outcome_size (Aorg text) found sized e = is_ok bytes_in 0 Nothing found e refl
-  outcome_size (Rorg text) found sized e = is_ok bytes_in 0 Nothing found e refl
-  outcome_size (Dorg text) found sized e = is_ok bytes_in 0 Nothing found e refl
-  outcome_size (Bss text) found sized e = is_ok bytes_in 0 Nothing found e refl
-  outcome_size (Bes text) found sized e = is_ok bytes_in 0 Nothing found e refl
-  outcome_size Even found sized e = is_ok bytes_in 0 Nothing found e refl
-  outcome_size (Equ text) found sized e = is_ok bytes_in 0 Nothing found e refl
-  outcome_size (Ref names) found sized e = is_ok bytes_in 0 Nothing found e refl
-  outcome_size (Idt text) found sized e = is_ok bytes_in 0 Nothing found e refl
-  outcome_size (Titl text) found sized e = is_ok bytes_in 0 Nothing found e refl
+  outcome_size _ found sized e = is_ok bytes_in 0 Nothing found e refl

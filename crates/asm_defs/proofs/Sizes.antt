@@ -10,7 +10,7 @@ use Rattle.instruction_defs.specs.declared.operand_kind.OperandKind.TheVariants.
 use Rattle.instruction_defs.specs.Forms.{Form, Plain, Indirect, Increment, Symbolic, Indexed}
 use Rattle.instruction_defs.specs.Operands.{kinds_of}
 use Rattle.instruction_defs.specs.FirstChecks as first
-use Rattle.instruction_defs.specs.FirstChecks.{Skeleton, Word, Instruction, following, form_words}
+use Rattle.instruction_defs.specs.FirstChecks.{Skeleton, Word, Instruction, words_after, form_words}
 use Rattle.instruction_defs.specs.SecondChecks.{Operand, InRegister, ByRegister, AutoIncrement, AtAddress, AtIndexed, Number, Bit, To, Following, EncodedOperand, Located, Displaced}
 use Rattle.instruction_defs.specs.SecondChecks.{value_of, number_of, text_in, as_form_error, target_in, placed, valued, all_valued, ranged, all_ranged, below_sixteen}
 use Rattle.instruction_defs.specs.SecondChecks.{displaced, displacement_to, place_number, is_index, is_displacement, following_in, all_following, second_checks}
@@ -60,7 +60,7 @@ module _ (look : List ℕ → Option Value) (here : Value) where
       given operand_words 1 (value_of look here text) _ made e
       (λ value is f. given operand_words 1 (number_of look here index) _ made f (λ register was g. is_ok operand_words 1 _ made g refl))
 
-  valued_words : (kind : OperandKind) (form : Form) (made : Operand) → valued look here kind form ≡ Ok made → operand_words made ≡ following kind form
+  valued_words : (kind : OperandKind) (form : Form) (made : Operand) → valued look here kind form ≡ Ok made → operand_words made ≡ words_after kind form
   valued_words General form made e = placed_words form made e
   valued_words Register form made e = given operand_words 0 (number_of look here (text_in form)) _ made e (λ value is f. is_ok operand_words 0 _ made f refl)
   valued_words Count form made e = given operand_words 0 (number_of look here (text_in form)) _ made e (λ value is f. is_ok operand_words 0 _ made f refl)
@@ -71,15 +71,15 @@ module _ (look : List ℕ → Option Value) (here : Value) where
       (λ value is f. given operand_words 0 (as_form_error (target_in here value)) _ made f (λ target was g. is_ok operand_words 0 _ made g refl))
 
   all_valued_words : (kinds : List OperandKind) (forms : List Form) (made : List Operand) → all_valued look here kinds forms ≡ Ok made
-      → all_operand_words made ≡ first.all_following kinds forms
+      → all_operand_words made ≡ first.all_words_after kinds forms
   all_valued_words [] forms made e = is_ok all_operand_words 0 _ made e refl
   all_valued_words (kind ∷ kinds) [] made e = is_ok all_operand_words 0 _ made e refl
   all_valued_words (kind ∷ kinds) (form ∷ forms) made e =
-      given all_operand_words (following kind form + first.all_following kinds forms) (valued look here kind form) _ made e
+      given all_operand_words (words_after kind form + first.all_words_after kinds forms) (valued look here kind form) _ made e
       (λ operand is f.
-      given all_operand_words (following kind form + first.all_following kinds forms) (all_valued look here kinds forms) _ made f
+      given all_operand_words (words_after kind form + first.all_words_after kinds forms) (all_valued look here kinds forms) _ made f
       (λ operands are g.
-      is_ok all_operand_words (following kind form + first.all_following kinds forms) (operand ∷ operands) made g
+      is_ok all_operand_words (words_after kind form + first.all_words_after kinds forms) (operand ∷ operands) made g
       (omega (arith, valued_words kind form operand is, all_valued_words kinds forms operands are))))
 
   displaced_words : (disp : Option _) (made : EncodedOperand) → displaced disp ≡ Ok made → ready_words made ≡ 0

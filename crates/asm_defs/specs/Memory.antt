@@ -1,6 +1,7 @@
 -- What the lines place: bytes, and words of which some hold the chains of the uses of external names.
 use Rattle.std.specs.Prelude.{ℕ, ◌+◌, ◌-◌, ◌*◌, Bool, true, false, ◌&&◌, ◌||◌, nat_le, nat_lt, if◌then◌else◌, List}
 use Rattle.std.specs.Prelude.{[], ◌∷◌, ◌++◌, length, slice_get, map, Option, Some, None, zero, suc}
+use Rattle.std.specs.List.{flat_map}
 use Rattle.source_defs.specs.Expression.{Value, Absolute, Relocatable, External}
 use Rattle.object_defs.specs.declared.spot.Spot.{Spot}
 use Rattle.object_defs.specs.declared.spot.Spot.TheVariants as spot
@@ -110,28 +111,23 @@ behind_word references at (Absolute number) = references
 behind_word references at (Relocatable number) = references
 behind_word references at (External name) = with_use references name at
 
--- the bytes of words, of which the first stands at a place
-abbrev pub word_contents : Part → List Reference → ℕ → List Value → List Content
-word_contents part references at [] = []
-word_contents part references at (word ∷ words) =
-    content.First (word_of references word) ∷ content.Second
-    ∷ word_contents part (behind_word references (spot_by part at) word) (at + 2) words
-
--- the last uses after words
-abbrev pub behind_words : Part → List Reference → ℕ → List Value → List Reference
-behind_words part references at [] = references
-behind_words part references at (word ∷ words) =
-    behind_words part (behind_word references (spot_by part at) word) (at + 2) words
+-- what words hold, of which the first stands at a place, and the last uses after them
+abbrev pub words_at : Part → List Reference → ℕ → List Value → List Spot × List Reference
+words_at part uses at [] = ([], uses)
+words_at part uses at (word ∷ words) =
+    let others = words_at part (behind_word uses (spot_by part at) word) (at + 2) words in
+    (word_of uses word ∷ others.0, others.1)
 
 abbrev pub contents_by : Location → List Reference → Outcome → List Content
 contents_by at references Nothing = []
-contents_by at references (Words words) = word_contents at.part references at.number words
+contents_by at references (Words words) =
+    flat_map (λ word. content.First word ∷ content.Second ∷ []) (words_at at.part references at.number words).0
 contents_by at references (Bytes bytes) = map content.Byte bytes
 contents_by at references (Entry entry) = []
 
 abbrev pub behind_by : Location → List Reference → Outcome → List Reference
 behind_by at references (Words words) =
-    if is_placed_in at.part then behind_words at.part references at.number words else references
+    if is_placed_in at.part then (words_at at.part references at.number words).1 else references
 behind_by at references _ = references
 
 -- The last uses after lines. Profile: a word under DORG is no use.

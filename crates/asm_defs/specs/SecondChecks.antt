@@ -1,8 +1,8 @@
 -- The second checks of a line, and what it places. Profile: the values of its operands are asked from the left, and all
 -- of them before their ranges.
-use Rattle.std.specs.Prelude.{ℕ, ◌%◌, ◌==◌, Bool, false, nat_le, if◌then◌else◌, List, [], ◌∷◌, Option, Some, Result, Ok}
-use Rattle.std.specs.Prelude.{Err}
+use Rattle.std.specs.Prelude.{ℕ, ◌==◌, Bool, false, if◌then◌else◌, List, [], ◌∷◌, Option, Some, Result, Ok, Err}
 use Rattle.source_defs.specs.Refusals.{◌>>=◌}
+use Rattle.source_defs.specs.ByteValues.{number_as_byte, numbers_as_bytes}
 use Rattle.source_defs.specs.declared.causes.ExprError.{ExprError}
 use Rattle.source_defs.specs.declared.causes.ExprError.TheVariants.{BadRelocation}
 use Rattle.source_defs.specs.Expression.{Value, Absolute, Relocatable, External, absolute, expression, known_value}
@@ -28,17 +28,11 @@ pub data Outcome : Type 0 where
   Bytes : List ℕ → Outcome
   Entry : Spot → Outcome
 
--- Editor/Assembler manual, "Initialize Byte". Profile: a byte is from -128 to 255.
 abbrev pub byte_of : ℕ → Result ℕ AsmCause
-byte_of number =
-    if nat_le number 0xFF then Ok number else if nat_le 0xFF80 number then Ok (number % 256) else Err (Form BadOperand)
+byte_of = number_as_byte (Form BadOperand)
 
 abbrev pub bytes_of : List ℕ → Result (List ℕ) AsmCause
-bytes_of [] = Ok []
-bytes_of (number ∷ numbers) = do
-  byte ← byte_of number
-  bytes ← bytes_of numbers
-  Ok (byte ∷ bytes)
+bytes_of = numbers_as_bytes (Form BadOperand)
 
 -- absolute place 0
 abbrev pub is_first_by : Part → ℕ → Bool

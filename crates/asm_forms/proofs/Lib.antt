@@ -1,4 +1,3 @@
 pub mod Counted
 pub mod Refusals
 pub mod MnemonicKeys
-pub mod Short

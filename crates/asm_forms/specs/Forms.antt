@@ -35,8 +35,8 @@ HasRoom (Indexed place) count = place + 3 ≤ count
 abbrev pub operand_in : List ℕ → Form → List ℕ
 operand_in field form = slice_range field form.start form.end
 
-abbrev pub defined_form : List ℕ → Form → spec.Form
-defined_form field form = form_by form.mode (operand_in field form)
+abbrev pub model_of_form : List ℕ → Form → spec.Form
+model_of_form field form = form_by form.mode (operand_in field form)
 
 -- an operand lies inside a field
 pub record LiesIn (field : List ℕ) (form : Form) : Type 0 where
@@ -45,7 +45,7 @@ pub record LiesIn (field : List ℕ) (form : Form) : Type 0 where
   pub room : HasRoom form.mode (length (operand_in field form))
 
 abbrev pub form_answer : List ℕ → Result Form FormError → Result spec.Form FormError
-form_answer field (Ok form) = Ok (defined_form field form)
+form_answer field (Ok form) = Ok (model_of_form field form)
 form_answer field (Err cause) = Err cause
 
 -- how an operand is written, as its form

@@ -10,16 +10,16 @@ use Rattle.asm_forms.specs.declared.placed.Word.{Word}
 use Rattle.asm_forms.specs.declared.placed.Word.TheVariants.{Plain, Relocatable, External}
 use Rattle.asm_forms.specs.declared.placed.Placed.{Placed}
 
-abbrev pub defined_word : Word → expression.Value
-defined_word (Plain word) = expression.Absolute word
-defined_word (Relocatable place) = expression.Relocatable place
-defined_word (External name) = expression.External name
+abbrev pub model_of_word : Word → expression.Value
+model_of_word (Plain word) = expression.Absolute word
+model_of_word (Relocatable place) = expression.Relocatable place
+model_of_word (External name) = expression.External name
 
-abbrev pub defined_words : List Word → List expression.Value
-defined_words words = map defined_word words
+abbrev pub model_of_words : List Word → List expression.Value
+model_of_words words = map model_of_word words
 
 abbrev pub words_in : Placed → List expression.Value
-words_in placed = defined_words placed.words.items
+words_in placed = model_of_words placed.words.items
 
 abbrev pub words_of : Operation → List EncodedOperand → List expression.Value
 words_of operation readies = expression.Absolute (word_of (instruction_of operation readies)) ∷ all_following readies

@@ -6,9 +6,9 @@ ghost use Rattle.source_defs.specs.Operands.{operand_texts};
 ghost use Rattle.instruction_defs.specs.FirstChecks as spec;
 ghost use Rattle.asm_forms.specs.Forms.{form_by, form_answer, mode_answer, HasRoom, LiesIn};
 ghost use Rattle.asm_forms.specs.Forms.{just_one, just_two, both_forms};
-ghost use Rattle.asm_forms.specs.Forms.{defined_form};
+ghost use Rattle.asm_forms.specs.Forms.{model_of_form};
 ghost use Rattle.asm_forms.specs.UpToTwo.{items_of, kinds_in};
-ghost use Rattle.asm_forms.specs.Skeletons.{defined_skeleton, forms_answer, skeleton_answer, AllLieIn, IsOfField};
+ghost use Rattle.asm_forms.specs.Skeletons.{model_of_skeleton, forms_answer, skeleton_answer, AllLieIn, IsOfField};
 
 use crate::forms::{Form, Mode, mode_of};
 use crate::mnemonics::mnemonic;
@@ -160,35 +160,35 @@ fn is_mode_sign(byte: u8) -> bool
 
 /// How many bytes the words of a line take: 2, 4 or 6.
 pub fn size_in(skeleton: &Skeleton) -> u16
-    ensures { (field : List ℕ) → result ≡ spec.size_of (defined_skeleton field skeleton.now) }
+    ensures { (field : List ℕ) → result ≡ spec.size_of (model_of_skeleton field skeleton.now) }
 {
     match skeleton {
         Skeleton::Word(_) => 2,
         Skeleton::Instruction(operation, forms) => {
-            2 * (1 + all_following(kinds_of(*operation), forms))
+            2 * (1 + all_words_after(kinds_of(*operation), forms))
         }
     }
 }
 
 /// How many words follow for the operands of a line.
-fn all_following(kinds: UpToTwo<OperandKind>, forms: &UpToTwo<Form>) -> u16
+fn all_words_after(kinds: UpToTwo<OperandKind>, forms: &UpToTwo<Form>) -> u16
     ensures words { (field : List ℕ) →
-        result ≡ spec.all_following (kinds_in kinds) (items_of (defined_form field) forms.now) }
+        result ≡ spec.all_words_after (kinds_in kinds) (items_of (model_of_form field) forms.now) }
     ensures most { result ≤ 2 }
 {
     match (kinds, forms) {
         (UpToTwo::One(kind), UpToTwo::One(form) | UpToTwo::Two(form, _))
-        | (UpToTwo::Two(kind, _), UpToTwo::One(form)) => following(kind, form.mode),
+        | (UpToTwo::Two(kind, _), UpToTwo::One(form)) => words_after(kind, form.mode),
         (UpToTwo::Two(kind, other), UpToTwo::Two(form, next)) => {
-            following(kind, form.mode) + following(other, next.mode)
+            words_after(kind, form.mode) + words_after(other, next.mode)
         }
         (UpToTwo::None, _) | (_, UpToTwo::None) => 0,
     }
 }
 
 /// How many words follow for an operand.
-fn following(kind: OperandKind, mode: Mode) -> u16
-    ensures words { (text : List ℕ) → result ≡ spec.following kind (form_by mode text) }
+fn words_after(kind: OperandKind, mode: Mode) -> u16
+    ensures words { (text : List ℕ) → result ≡ spec.words_after kind (form_by mode text) }
     ensures most { result ≤ 1 }
 {
     match (kind, mode) {

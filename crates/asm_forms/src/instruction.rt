@@ -4,7 +4,7 @@ ghost use Rattle.std.specs.Prelude.{◌≡◌, ◌<◌};
 ghost use Rattle.tms_defs.specs.Instructions.{IsPlace, HasRoom};
 ghost use Rattle.instruction_defs.specs.SecondChecks as spec;
 ghost use Rattle.asm_forms.specs.UpToTwo.{items_of};
-ghost use Rattle.asm_forms.specs.Values.{defined_ready, IsReady, AllReady};
+ghost use Rattle.asm_forms.specs.Values.{model_of_ready, IsReady, AllReady};
 
 use crate::ranges::EncodedOperand;
 use crate::up_to_two::UpToTwo;
@@ -13,7 +13,7 @@ use tms_defs::{Instr, Operation, Place};
 /// The instruction of an operation with its operands, a source before its destination and a register before a count.
 pub(crate) fn instruction_of(operation: Operation, readies: &UpToTwo<EncodedOperand>) -> Instr
     requires { AllReady readies.now }
-    ensures instr { result ≡ spec.instruction_of operation (items_of defined_ready readies.now) }
+    ensures instr { result ≡ spec.instruction_of operation (items_of model_of_ready readies.now) }
     ensures room { HasRoom result }
 {
     match operation {
@@ -52,7 +52,7 @@ pub(crate) fn instruction_of(operation: Operation, readies: &UpToTwo<EncodedOper
 /// The place of the first operand.
 fn first_place(readies: &UpToTwo<EncodedOperand>) -> Place
     requires { AllReady readies.now }
-    ensures place { result ≡ spec.place_in (spec.first_of (items_of defined_ready readies.now)) }
+    ensures place { result ≡ spec.place_in (spec.first_of (items_of model_of_ready readies.now)) }
     ensures room { IsPlace result }
 {
     match readies {
@@ -64,7 +64,7 @@ fn first_place(readies: &UpToTwo<EncodedOperand>) -> Place
 /// The place of the second operand.
 fn second_place(readies: &UpToTwo<EncodedOperand>) -> Place
     requires { AllReady readies.now }
-    ensures place { result ≡ spec.place_in (spec.second_of (items_of defined_ready readies.now)) }
+    ensures place { result ≡ spec.place_in (spec.second_of (items_of model_of_ready readies.now)) }
     ensures room { IsPlace result }
 {
     match readies {
@@ -76,7 +76,7 @@ fn second_place(readies: &UpToTwo<EncodedOperand>) -> Place
 /// The register or count of the first operand.
 fn first_count(readies: &UpToTwo<EncodedOperand>) -> u8
     requires { AllReady readies.now }
-    ensures count { result ≡ spec.count_in (spec.first_of (items_of defined_ready readies.now)) }
+    ensures count { result ≡ spec.count_in (spec.first_of (items_of model_of_ready readies.now)) }
     ensures room { result < 16 }
 {
     match readies {
@@ -88,7 +88,7 @@ fn first_count(readies: &UpToTwo<EncodedOperand>) -> u8
 /// The register or count of the second operand.
 fn second_count(readies: &UpToTwo<EncodedOperand>) -> u8
     requires { AllReady readies.now }
-    ensures count { result ≡ spec.count_in (spec.second_of (items_of defined_ready readies.now)) }
+    ensures count { result ≡ spec.count_in (spec.second_of (items_of model_of_ready readies.now)) }
     ensures room { result < 16 }
 {
     match readies {
@@ -99,7 +99,7 @@ fn second_count(readies: &UpToTwo<EncodedOperand>) -> u8
 
 /// The displacement of the first operand.
 fn first_displacement(readies: &UpToTwo<EncodedOperand>) -> i8
-    ensures { result ≡ spec.displacement_in (spec.first_of (items_of defined_ready readies.now)) }
+    ensures { result ≡ spec.displacement_in (spec.first_of (items_of model_of_ready readies.now)) }
 {
     match readies {
         UpToTwo::One(EncodedOperand::Displaced(disp))
@@ -110,7 +110,7 @@ fn first_displacement(readies: &UpToTwo<EncodedOperand>) -> i8
 
 fn place_in(ready: &EncodedOperand) -> Place
     requires { IsReady ready.now }
-    ensures place { result ≡ spec.place_in (defined_ready ready.now) }
+    ensures place { result ≡ spec.place_in (model_of_ready ready.now) }
     ensures room { IsPlace result }
 {
     match ready {
@@ -122,7 +122,7 @@ fn place_in(ready: &EncodedOperand) -> Place
 
 fn count_in(ready: &EncodedOperand) -> u8
     requires { IsReady ready.now }
-    ensures count { result ≡ spec.count_in (defined_ready ready.now) }
+    ensures count { result ≡ spec.count_in (model_of_ready ready.now) }
     ensures room { result < 16 }
 {
     match ready {

@@ -3,14 +3,14 @@
 ghost use Rattle.std.specs.Prelude.{◌≡◌, ◌≤◌, length, Ok, IfOk, IsSome, IsOk};
 ghost use Rattle.source_defs.specs.Fields as lines;
 ghost use Rattle.source_defs.specs.Symbols.{look_up};
-ghost use Rattle.asm_text.specs.GivenFields.{defined_fields};
-ghost use Rattle.asm_text.specs.GivenValues.{defined_value, IsNotExternal};
+ghost use Rattle.asm_text.specs.GivenFields.{model_of_fields};
+ghost use Rattle.asm_text.specs.GivenValues.{model_of_value, IsNotExternal};
 ghost use Rattle.instruction_defs.specs.FirstChecks as first;
 ghost use Rattle.instruction_defs.specs.SecondChecks as second;
 ghost use Rattle.asm_forms.specs.Answers.{Gives};
 ghost use Rattle.asm_forms.specs.Lines.{operation_in, operands_in, line_words};
 ghost use Rattle.asm_forms.specs.Placed.{words_in};
-ghost use Rattle.asm_forms.specs.Skeletons.{defined_skeleton, skeleton_answer, IsOfField};
+ghost use Rattle.asm_forms.specs.Skeletons.{model_of_skeleton, skeleton_answer, IsOfField};
 
 use crate::first_checks::{Skeleton, size_in, skeleton_of};
 use crate::operand_kinds::kinds_of;
@@ -26,8 +26,8 @@ fn second_checks(scope: &Scope<'_>, skeleton: &Skeleton) -> Result<Placed, FormE
     requires here { IsNotExternal scope.now.here }
     requires inside { IsOfField scope.now.field.now skeleton.now }
     ensures { Gives words_in result
-        (second.second_checks (look_up scope.now.symbols.now) (defined_value scope.now.here)
-        (defined_skeleton scope.now.field.now skeleton.now)) }
+        (second.second_checks (look_up scope.now.symbols.now) (model_of_value scope.now.here)
+        (model_of_skeleton scope.now.field.now skeleton.now)) }
 {
     match skeleton {
         Skeleton::Word(word) => Ok(one_word(*word)),
@@ -45,7 +45,7 @@ fn second_checks(scope: &Scope<'_>, skeleton: &Skeleton) -> Result<Placed, FormE
 /// The first checks: `UnknownOperation`, then `OperandCount`, then `BadOperand` for the first operand that is empty or
 /// has a form that its place does not allow (Editor/Assembler manual, "Assembly Language Instructions").
 pub fn size_of(_alloc: Global, line: &[u8], fields: &Fields) -> Result<u16, FormError>
-    requires read { lines.fields line.now ≡ Ok (defined_fields fields.now) }
+    requires read { lines.fields line.now ≡ Ok (model_of_fields fields.now) }
     requires operation { IsSome fields.now.operation }
     ensures { result ≡ first.line_size (operation_in line.now fields.now) (operands_in line.now fields.now) }
 {
@@ -66,12 +66,12 @@ pub fn parse_instr(
     symbols: &Symbols,
     here: Value,
 ) -> Result<Placed, FormError>
-    requires read { lines.fields line.now ≡ Ok (defined_fields fields.now) }
+    requires read { lines.fields line.now ≡ Ok (model_of_fields fields.now) }
     requires operation { IsSome fields.now.operation }
     requires sized { IsOk (first.line_size (operation_in line.now fields.now) (operands_in line.now fields.now)) }
     requires here { IsNotExternal here }
     ensures { Gives words_in result
-        (line_words (look_up symbols.now) (defined_value here) (operation_in line.now fields.now)
+        (line_words (look_up symbols.now) (model_of_value here) (operation_in line.now fields.now)
         (operands_in line.now fields.now)) }
 {
     let skeleton = line_checks(line, fields)?;
@@ -92,7 +92,7 @@ pub fn words_of(
     requires here { IsNotExternal here }
     requires inside { IsOfField field.now skeleton.now }
     ensures { Gives words_in result
-        (second.second_checks (look_up symbols.now) (defined_value here) (defined_skeleton field.now skeleton.now)) }
+        (second.second_checks (look_up symbols.now) (model_of_value here) (model_of_skeleton field.now skeleton.now)) }
 {
     let scope = Scope {
         alloc,
@@ -105,7 +105,7 @@ pub fn words_of(
 
 /// The first checks of a line with an operation.
 fn line_checks(line: &[u8], fields: &Fields) -> Result<Skeleton, FormError>
-    requires read { lines.fields line.now ≡ Ok (defined_fields fields.now) }
+    requires read { lines.fields line.now ≡ Ok (model_of_fields fields.now) }
     requires operation { IsSome fields.now.operation }
     ensures skeleton { skeleton_answer (operands_in line.now fields.now) result
         ≡ first.first_checks (operation_in line.now fields.now) (operands_in line.now fields.now) }
@@ -117,7 +117,7 @@ fn line_checks(line: &[u8], fields: &Fields) -> Result<Skeleton, FormError>
 
 /// The operand field of a line.
 fn operand_field<'a>(line: &'a [u8], fields: &Fields) -> &'a [u8]
-    requires { lines.fields line.now ≡ Ok (defined_fields fields.now) }
+    requires { lines.fields line.now ≡ Ok (model_of_fields fields.now) }
     ensures field { result.now ≡ operands_in line.now fields.now }
     ensures short { length result.now ≤ 256 }
 {

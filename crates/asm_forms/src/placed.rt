@@ -4,11 +4,11 @@ ghost use Rattle.std.specs.Prelude.{◌≡◌, ◌≤◌, ◌+◌, ◌++◌, ◌
 ghost use Rattle.arrayvec.specs.ArrayVec.{array_vec_len};
 ghost use Rattle.tms_defs.specs.Instructions.{word_of as word_of_instr};
 ghost use Rattle.source_defs.specs.Expression.{Absolute};
-ghost use Rattle.asm_text.specs.GivenValues.{defined_value};
+ghost use Rattle.asm_text.specs.GivenValues.{model_of_value};
 ghost use Rattle.instruction_defs.specs.SecondChecks as spec;
-ghost use Rattle.asm_forms.specs.Placed.{defined_word, defined_words, words_in, words_of, placed_of, placed_answer};
+ghost use Rattle.asm_forms.specs.Placed.{model_of_word, model_of_words, words_in, words_of, placed_of, placed_answer};
 ghost use Rattle.asm_forms.specs.UpToTwo.{items_of};
-ghost use Rattle.asm_forms.specs.Values.{defined_operand, defined_ready, AllReady};
+ghost use Rattle.asm_forms.specs.Values.{model_of_operand, model_of_ready, AllReady};
 
 use crate::instruction::instruction_of;
 use crate::ranges::{EncodedOperand, all_ranged};
@@ -32,7 +32,7 @@ pub enum Word {
 }
 
 impl Default for Word {
-    ghost is_default = { λ word. defined_word word ≡ Absolute 0 };
+    ghost is_default = { λ word. model_of_word word ≡ Absolute 0 };
 
     /// The word 0.
     fn default() -> Self {
@@ -62,7 +62,8 @@ pub(crate) fn in_range_words(
     operation: Operation,
     operands: UpToTwo<Operand>,
 ) -> Result<Placed, FormError>
-    ensures { placed_answer result ≡ placed_of (defined_value here.now) operation (items_of defined_operand operands) }
+    ensures { placed_answer result
+        ≡ placed_of (model_of_value here.now) operation (items_of model_of_operand operands) }
 {
     let readies = all_ranged(here, operands)?;
     Ok(instruction_words(operation, &readies))
@@ -72,7 +73,7 @@ pub(crate) fn in_range_words(
 #[tactic(auto, using(std::proofs::Common::append_assoc))]
 fn instruction_words(operation: Operation, readies: &UpToTwo<EncodedOperand>) -> Placed
     requires { AllReady readies.now }
-    ensures { words_in result ≡ words_of operation (items_of defined_ready readies.now) }
+    ensures { words_in result ≡ words_of operation (items_of model_of_ready readies.now) }
 {
     let instr = instruction_of(operation, readies);
     let mut words = ArrayVec::new();
@@ -91,8 +92,8 @@ fn instruction_words(operation: Operation, readies: &UpToTwo<EncodedOperand>) ->
 /// Appends the word that follows for an operand, where one does.
 fn push_following(words: &mut ArrayVec<Word, 3>, ready: &EncodedOperand)
     requires { array_vec_len words.old + 1 ≤ 3 }
-    ensures words { defined_words words.new.items
-        ≡ defined_words words.old.items ++ spec.following_in (defined_ready ready.now) }
+    ensures words { model_of_words words.new.items
+        ≡ model_of_words words.old.items ++ spec.following_in (model_of_ready ready.now) }
     ensures size { array_vec_len words.new ≤ array_vec_len words.old + 1 }
 {
     match ready {
@@ -105,7 +106,7 @@ fn push_following(words: &mut ArrayVec<Word, 3>, ready: &EncodedOperand)
 
 /// The word of a value.
 fn word_of(value: &Value) -> Word
-    ensures { defined_word result ≡ defined_value value.now }
+    ensures { model_of_word result ≡ model_of_value value.now }
 {
     match value {
         Value::Absolute(number) => Word::Plain(*number),

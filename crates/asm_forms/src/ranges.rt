@@ -1,10 +1,10 @@
 //! The operands of a line, held against their ranges.
 
 ghost use Rattle.std.specs.Prelude.{◌≡◌, ◌<◌, ◌+◌, IfOk};
-ghost use Rattle.asm_text.specs.GivenValues.{defined_value};
+ghost use Rattle.asm_text.specs.GivenValues.{model_of_value};
 ghost use Rattle.instruction_defs.specs.SecondChecks as spec;
 ghost use Rattle.asm_forms.specs.UpToTwo.{items_of};
-ghost use Rattle.asm_forms.specs.Values.{defined_operand, ready_answer, readies_answer, IsReady, AllReady};
+ghost use Rattle.asm_forms.specs.Values.{model_of_operand, ready_answer, readies_answer, IsReady, AllReady};
 
 use crate::up_to_two::UpToTwo;
 use crate::values::Operand;
@@ -33,7 +33,7 @@ pub(crate) fn all_ranged(
     operands: UpToTwo<Operand>,
 ) -> Result<UpToTwo<EncodedOperand>, FormError>
     ensures value { readies_answer result
-        ≡ spec.all_ranged (defined_value here.now) (items_of defined_operand operands) }
+        ≡ spec.all_ranged (model_of_value here.now) (items_of model_of_operand operands) }
     ensures ready { IfOk result AllReady }
 {
     match operands {
@@ -53,7 +53,7 @@ pub(crate) fn all_ranged(
 /// An operand of a line at a place, held against its range.
 #[inline(always)]
 fn ranged(here: &Value, operand: Operand) -> Result<EncodedOperand, FormError>
-    ensures value { ready_answer result ≡ spec.ranged (defined_value here.now) (defined_operand operand) }
+    ensures value { ready_answer result ≡ spec.ranged (model_of_value here.now) (model_of_operand operand) }
     ensures ready { IfOk result IsReady }
 {
     match operand {
@@ -97,7 +97,7 @@ fn below_sixteen(number: u16) -> Result<u8, FormError>
 
 /// An address with an index register, which is not register 0.
 fn indexed(value: Value, number: u16) -> Result<EncodedOperand, FormError>
-    ensures value { ready_answer result ≡ spec.indexed (defined_value value) number }
+    ensures value { ready_answer result ≡ spec.indexed (model_of_value value) number }
     ensures ready { IfOk result IsReady }
 {
     if 0 < number && number < 16 {
@@ -165,7 +165,7 @@ fn backward(bytes: u32) -> Option<i8>
 
 /// The number of a value that is no external name, without its kind.
 fn place_number(value: &Value) -> u16
-    ensures { result ≡ spec.place_number (defined_value value.now) }
+    ensures { result ≡ spec.place_number (model_of_value value.now) }
 {
     match value {
         Value::Absolute(number) | Value::Relocatable(number) => *number,

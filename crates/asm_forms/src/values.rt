@@ -3,14 +3,14 @@
 ghost use Rattle.std.specs.Prelude.{◌≡◌, ◌≢◌, length, Err, IfErr};
 ghost use Rattle.source_defs.specs.Expression.{expression};
 ghost use Rattle.source_defs.specs.Symbols.{look_up};
-ghost use Rattle.asm_text.specs.GivenValues.{defined_value, IsNotExternal};
+ghost use Rattle.asm_text.specs.GivenValues.{model_of_value, IsNotExternal};
 ghost use Rattle.instruction_defs.specs.SecondChecks as spec;
 ghost use Rattle.asm_forms.specs.Answers.{Gives};
 ghost use Rattle.asm_forms.specs.Answers.{refused as refused_as};
-ghost use Rattle.asm_forms.specs.Forms.{defined_form, form_by, HasRoom, LiesIn};
+ghost use Rattle.asm_forms.specs.Forms.{model_of_form, form_by, HasRoom, LiesIn};
 ghost use Rattle.asm_forms.specs.Skeletons.{AllLieIn};
 ghost use Rattle.asm_forms.specs.UpToTwo.{items_of, kinds_in};
-ghost use Rattle.asm_forms.specs.Values.{defined_operand};
+ghost use Rattle.asm_forms.specs.Values.{model_of_operand};
 
 use crate::forms::{Form, Mode, first_text, index_text, operand_text};
 use crate::up_to_two::UpToTwo;
@@ -59,9 +59,9 @@ impl Scope<'_> {
     ) -> Result<UpToTwo<Operand>, FormError>
         requires here { IsNotExternal self.now.here }
         requires inside { AllLieIn self.now.field.now forms.now }
-        ensures { Gives (items_of defined_operand) result
-            (spec.all_valued (look_up self.now.symbols.now) (defined_value self.now.here) (kinds_in kinds)
-            (items_of (defined_form self.now.field.now) forms.now)) }
+        ensures { Gives (items_of model_of_operand) result
+            (spec.all_valued (look_up self.now.symbols.now) (model_of_value self.now.here) (kinds_in kinds)
+            (items_of (model_of_form self.now.field.now) forms.now)) }
     {
         match (kinds, forms) {
             (UpToTwo::One(kind), UpToTwo::One(form) | UpToTwo::Two(form, _))
@@ -82,9 +82,9 @@ impl Scope<'_> {
     fn valued(&self, kind: OperandKind, form: &Form) -> Result<Operand, FormError>
         requires here { IsNotExternal self.now.here }
         requires inside { LiesIn self.now.field.now form.now }
-        ensures { Gives defined_operand result
-            (spec.valued (look_up self.now.symbols.now) (defined_value self.now.here) kind
-            (defined_form self.now.field.now form.now)) }
+        ensures { Gives model_of_operand result
+            (spec.valued (look_up self.now.symbols.now) (model_of_value self.now.here) kind
+            (model_of_form self.now.field.now form.now)) }
     {
         let mode = form.mode;
         let text = operand_text(self.field, form);
@@ -114,8 +114,8 @@ impl Scope<'_> {
     fn placed(&self, mode: Mode, text: &[u8]) -> Result<Operand, FormError>
         requires here { IsNotExternal self.now.here }
         requires room { HasRoom mode (length text.now) }
-        ensures { Gives defined_operand result
-            (spec.placed (look_up self.now.symbols.now) (defined_value self.now.here) (form_by mode text.now)) }
+        ensures { Gives model_of_operand result
+            (spec.placed (look_up self.now.symbols.now) (model_of_value self.now.here) (form_by mode text.now)) }
     {
         let first = first_text(mode, text);
         match mode {
@@ -147,7 +147,7 @@ impl Scope<'_> {
     fn number_of(&self, text: &[u8]) -> Result<u16, FormError>
         requires { IsNotExternal self.now.here }
         ensures { Gives (λ number. number) result
-            (spec.number_of (look_up self.now.symbols.now) (defined_value self.now.here) text.now) }
+            (spec.number_of (look_up self.now.symbols.now) (model_of_value self.now.here) text.now) }
     {
         match self.value_of(text)? {
             Value::Absolute(number) => Ok(number),
@@ -161,8 +161,8 @@ impl Scope<'_> {
     #[tactic(auto, using(crate::proofs::Refusals::expr_refuses))]
     fn value_of(&self, text: &[u8]) -> Result<Value, FormError>
         requires { IsNotExternal self.now.here }
-        ensures { Gives defined_value result
-            (spec.value_of (look_up self.now.symbols.now) (defined_value self.now.here) text.now) }
+        ensures { Gives model_of_value result
+            (spec.value_of (look_up self.now.symbols.now) (model_of_value self.now.here) text.now) }
     {
         match expression_value(self.alloc, text, self.symbols, self.here) {
             Ok(value) => Ok(value),
@@ -173,7 +173,7 @@ impl Scope<'_> {
 
 /// The target of a jump, which is of the kind of the jump's place.
 fn target_in(here: Value, target: Value) -> Result<u16, FormError>
-    ensures { result ≡ spec.as_form_error (spec.target_in (defined_value here) (defined_value target)) }
+    ensures { result ≡ spec.as_form_error (spec.target_in (model_of_value here) (model_of_value target)) }
 {
     match (here, target) {
         (Value::Absolute(_), Value::Absolute(target))

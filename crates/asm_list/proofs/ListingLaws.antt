@@ -29,9 +29,9 @@ use Rattle.bench_shelf.specs.declared.kept_line.KeptLine.{KeptLine}
 use Rattle.bench_shelf.specs.declared.listed.ListedEnding.{ListedEnding}
 use Rattle.bench_shelf.specs.declared.listed.ListedEnding.TheVariants.{Whole, Behind, Before}
 use Rattle.bench_shelf.specs.declared.listed.ListedSource.{ListedSource}
-use Rattle.bench_shelf.specs.CopyAnswers.{CopyRefuses, defined_cause}
+use Rattle.bench_shelf.specs.CopyAnswers.{CopyRefuses, model_of_cause}
 use Rattle.bench_shelf.specs.Causes.{ShelfCauses}
-use Rattle.bench_shelf.specs.Kept.{defined_kept}
+use Rattle.bench_shelf.specs.Kept.{model_of_kept}
 use Rattle.bench_shelf.specs.Listed.{KeepsFront, EndsListed, GivesListed, ListFaultEnds, ListAnswered, EndingCauses, ListCauses, RefusedBehind, IsTold}
 use Rattle.asm_list.specs.declared.listing.AsmListing.{AsmListing}
 use Rattle.asm_list.specs.Adding.{listed_line, named_line, rows_of_names, all_rows, refused_in}
@@ -40,7 +40,7 @@ use Rattle.asm_list.specs.Listings.{rows_of, RefusedAs, Lists, FaultEnds, Listin
 -- what is shown of kept lines
 module _ (known : Option Names) where
   pairs_by : (kept : List KeptLine)
-      → paired (map defined_kept kept) (map (shown_line known) (paired (map (λ line. line.here) kept) (texts (map defined_kept kept))))
+      → paired (map model_of_kept kept) (map (shown_line known) (paired (map (λ line. line.here) kept) (texts (map model_of_kept kept))))
       ≡ map (listed_line known) kept
   pairs_by [] = refl
   pairs_by (line ∷ kept) = ap (λ others. listed_line known line ∷ others) (pairs_by kept)
@@ -55,7 +55,7 @@ module _ (known : Option Names) where
       ∙ pairs_by kept))
 
 -- the names that they define
-names_by : (kept : List KeptLine) → paired (map defined_kept kept) (map names_text (texts (map defined_kept kept))) ≡ map named_line kept
+names_by : (kept : List KeptLine) → paired (map model_of_kept kept) (map names_text (texts (map model_of_kept kept))) ≡ map named_line kept
 names_by [] = refl
 names_by (line ∷ kept) = ap (λ others. named_line line ∷ others) (names_by kept)
 
@@ -80,7 +80,7 @@ pub record IsRefused {B : Type 0} (error : CopyError) (answer : Result B CopyRef
 
 is_refused : {B : Type 0} (error : CopyError) (answer : Result B CopyRefusal) → CopyRefuses error answer → IsTold error → IsRefused error answer
 is_refused (At file line cause) answer refuses told = record {
-  refusal = spec.At (record { file = file; line = line }) (defined_cause cause);
+  refusal = spec.At (record { file = file; line = line }) (model_of_cause cause);
   is = refuses.1;
   refuses = (refuses.0, refl);
 }

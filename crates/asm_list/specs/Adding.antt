@@ -12,7 +12,7 @@ use Rattle.asm_list_defs.specs.Listed as listed
 use Rattle.asm_list_defs.specs.Listed.{ListedName, found_or, names_of_line}
 use Rattle.asm_list_defs.specs.Rows.{outcome_text, lines_rows, rows_below, name_row}
 use Rattle.asm_list_defs.specs.ByText.{shown_line, names_text}
-use Rattle.bench_shelf.specs.Kept.{defined_kept}
+use Rattle.bench_shelf.specs.Kept.{model_of_kept}
 use Rattle.bench_shelf.specs.declared.copy_error.CopyError.{CopyError}
 use Rattle.bench_shelf.specs.declared.kept_line.KeptLine.{KeptLine}
 use Rattle.bench_shelf.specs.declared.listed.ListedEnding.{ListedEnding}
@@ -35,17 +35,17 @@ pub record Shows (shown : Shown) (defined : listed.Shown) : Type 0 where
 
 -- a kept line with what is shown of it
 abbrev pub listed_line : Option Names → KeptLine → PlacedLine × listed.Shown
-listed_line known kept = (defined_kept kept, shown_line known (kept.here, kept.text.items))
+listed_line known kept = (model_of_kept kept, shown_line known (kept.here, kept.text.items))
 
 abbrev pub rows_by_names : Option Names → List KeptLine → List (List ℕ)
 rows_by_names known lines = lines_rows None (map (listed_line known) lines)
 
 -- a kept line with the names that it defines
 abbrev pub named_line : KeptLine → PlacedLine × List (List ℕ)
-named_line kept = (defined_kept kept, names_text kept.text.items)
+named_line kept = (model_of_kept kept, names_text kept.text.items)
 
 abbrev pub named_rows : Names → KeptLine → List (List ℕ) → List ListedName
-named_rows known kept names = names_of_line known (defined_kept kept, names)
+named_rows known kept names = names_of_line known (model_of_kept kept, names)
 
 abbrev pub rows_of_names : Names → List KeptLine → List (List ℕ)
 rows_of_names known lines = map name_row (flat_map (names_of_line known) (map named_line lines))

@@ -2,7 +2,7 @@
 
 ghost use Rattle.std.specs.Prelude.{◌≡◌, ◌≤◌, ◌<◌, ◌+◌, ◌^◌, ◌++◌, ◌∷◌, [], OnOk, length, take, drop};
 ghost use Rattle.asm_list_defs.specs.Rows as spec;
-ghost use Rattle.bench_shelf.specs.Kept.{defined_kept};
+ghost use Rattle.bench_shelf.specs.Kept.{model_of_kept};
 ghost use Rattle.asm_list.specs.Adding.{texts_in, known_to, listed_line, rows_by_names, below};
 
 use crate::rows::{PLACED_COLUMNS, file_row, first_row, row_below};
@@ -51,7 +51,7 @@ fn put_shown(
     rows: &mut Vec<Vec<u8>>,
 ) -> Result<(), AllocError>
     ensures { OnOk result (texts_in rows.new.items
-        ≡ texts_in rows.old.items ++ spec.rows_of (defined_kept line.now) shown.now.at shown.now.placed.items) }
+        ≡ texts_in rows.old.items ++ spec.rows_of (model_of_kept line.now) shown.now.at shown.now.placed.items) }
 {
     let text = shown.placed.as_slice();
     push_row(rows, first_row(alloc, line, shown.at, first_part(text))?)?;

@@ -3,7 +3,7 @@
 ghost use Rattle.std.specs.Prelude.{◌≡◌, ◌≤◌, ◌++◌, IfOk, IsTrue, Ok, OnOk, length, map};
 ghost use Rattle.source_defs.specs.Fields as lines;
 ghost use Rattle.source_defs.specs.Operands.{operand_texts};
-ghost use Rattle.asm_text.specs.GivenFields.{defined_fields, FieldsLieInside};
+ghost use Rattle.asm_text.specs.GivenFields.{model_of_fields, FieldsLieInside};
 ghost use Rattle.asm_defs.specs.Statements.{all_names, statement_in, upper_names};
 ghost use Rattle.asm_list_defs.specs.Listed.{names_of_line};
 ghost use Rattle.asm_list_defs.specs.Rows as spec;
@@ -69,11 +69,11 @@ fn names_text(alloc: Global, text: &[u8]) -> Result<Vec<Name>, AllocError>
 
 /// Appends the names of REF of a line with its fields.
 fn push_refs(text: &[u8], found: &Fields, names: &mut Vec<Name>) -> Result<(), AllocError>
-    requires read { lines.fields text.now ≡ Ok (defined_fields found.now) }
+    requires read { lines.fields text.now ≡ Ok (model_of_fields found.now) }
     requires inside { FieldsLieInside text.now found.now }
     requires length { length text.now ≤ 256 }
     ensures { OnOk result (names.new.items
-        ≡ names.old.items ++ refs_by (statement_in text.now (defined_fields found.now))) }
+        ≡ names.old.items ++ refs_by (statement_in text.now (model_of_fields found.now))) }
 {
     match statement_in(text, found) {
         Ok(Statement::Ref(field)) => push_names(field, names),

@@ -3,10 +3,10 @@
 ghost use Rattle.std.specs.Prelude.{◌≡◌, ◌≤◌, ◌+◌, ◌%◌, ◌++◌, ◌∷◌, [], IfOk, length, take, drop};
 ghost use Rattle.std.specs.Option.{option_map};
 ghost use Rattle.arrayvec.specs.ArrayVec.{array_vec_len};
-ghost use Rattle.asm_text.specs.GivenValues.{defined_value};
+ghost use Rattle.asm_text.specs.GivenValues.{model_of_value};
 ghost use Rattle.object_defs.specs.Digits.{padded};
 ghost use Rattle.asm_list_defs.specs.Rows as spec;
-ghost use Rattle.bench_shelf.specs.Kept.{defined_kept};
+ghost use Rattle.bench_shelf.specs.Kept.{model_of_kept};
 
 use asm_defs::{Location, Part};
 use asm_text::{Name, Value};
@@ -44,7 +44,7 @@ pub(crate) fn first_row(
     text: &[u8],
 ) -> Result<Vec<u8>, AllocError>
     requires { length text.now ≤ 24 }
-    ensures { IfOk result (λ row. row.items ≡ spec.first_row (defined_kept line.now) at text.now) }
+    ensures { IfOk result (λ row. row.items ≡ spec.first_row (model_of_kept line.now) at text.now) }
 {
     let mut front = Line::new();
     append_number(&mut front, line.line);
@@ -78,9 +78,9 @@ pub(crate) fn name_row(
     value: Option<Value>,
 ) -> Result<Vec<u8>, AllocError>
     ensures { IfOk result (λ row. row.items ≡ spec.name_row (record {
-      place = (defined_kept line.now).place;
+      place = (model_of_kept line.now).place;
       name = name.now;
-      value = option_map defined_value value;
+      value = option_map model_of_value value;
     })) }
 {
     let mut row = Line::new();
@@ -174,7 +174,7 @@ fn part_mark(part: Part) -> u8
 #[tactic(auto, using(std::proofs::Common::append_assoc))]
 fn append_value(line: &mut Line, value: Option<Value>)
     requires { array_vec_len line.old + 18 ≤ 192 }
-    ensures text { line.new.items ≡ line.old.items ++ spec.value_text (option_map defined_value value) }
+    ensures text { line.new.items ≡ line.old.items ++ spec.value_text (option_map model_of_value value) }
     ensures len { array_vec_len line.new ≡ array_vec_len line.old + 18 }
 {
     match value {

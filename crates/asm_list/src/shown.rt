@@ -4,7 +4,7 @@ ghost use Rattle.std.specs.Prelude.{◌≡◌, ◌≤◌, IfOk, not};
 ghost use Rattle.asm_defs.specs.Memory as memory;
 ghost use Rattle.asm_defs.specs.Statements as parsed;
 ghost use Rattle.asm_checks.specs.Answers.{Gives};
-ghost use Rattle.asm_checks.specs.Defined.{defined_statement, KeepsSkeleton, NamesOnly};
+ghost use Rattle.asm_checks.specs.Defined.{model_of_statement, KeepsSkeleton, NamesOnly};
 ghost use Rattle.asm_checks.specs.Moves.{MovesLittle};
 ghost use Rattle.asm_list_defs.specs.ByText as spec;
 ghost use Rattle.asm_list_defs.specs.Rows.{outcome_text};
@@ -63,7 +63,7 @@ impl Lister<'_> {
         requires names { NamesOnly statement.now }
         requires skeleton { KeepsSkeleton statement.now }
         ensures { IfOk result (λ shown.
-            Shows shown (spec.shown_said (known_to self.now) here (defined_statement statement.now))) }
+            Shows shown (spec.shown_said (known_to self.now) here (model_of_statement statement.now))) }
     {
         let at = place_said(here, statement);
         match self.names {
@@ -86,7 +86,7 @@ impl Lister<'_> {
 
 /// What a line says.
 fn parse_line(text: &[u8]) -> Result<Statement<'_>, Failure>
-    ensures parsed { Gives defined_statement result (parsed.parse_line text.now) }
+    ensures parsed { Gives model_of_statement result (parsed.parse_line text.now) }
     ensures little { IfOk result MovesLittle }
     ensures names { IfOk result NamesOnly }
     ensures skeleton { IfOk result KeepsSkeleton }
@@ -100,7 +100,7 @@ fn parse_line(text: &[u8]) -> Result<Statement<'_>, Failure>
 /// The place of a line, by the location before it.
 fn place_said(here: Location, statement: &Statement<'_>) -> Location
     requires { here.number ≤ 65536 }
-    ensures place { result ≡ spec.place_said here (defined_statement statement.now) }
+    ensures place { result ≡ spec.place_said here (model_of_statement statement.now) }
     ensures within { result.number ≤ 65536 }
 {
     match statement {
@@ -119,7 +119,7 @@ fn placed_text(scope: &Scope<'_>, statement: &Statement<'_>) -> Result<Vec<u8>, 
     requires names { NamesOnly statement.now }
     requires skeleton { KeepsSkeleton statement.now }
     ensures { IfOk result (λ text. text.items
-        ≡ outcome_text (found_in scope.now.symbols.now scope.now.at (defined_statement statement.now))) }
+        ≡ outcome_text (found_in scope.now.symbols.now scope.now.at (model_of_statement statement.now))) }
 {
     if is_dummy(scope.at.part) {
         return Ok(Vec::new(scope.alloc));

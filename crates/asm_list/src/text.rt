@@ -2,8 +2,8 @@
 
 ghost use Rattle.std.specs.Prelude.{◌≡◌, ◌++◌, IfOk, OnOk};
 ghost use Rattle.std.specs.List.{flat_map};
-ghost use Rattle.asm_forms.specs.Placed.{defined_word, defined_words};
-ghost use Rattle.asm_checks.specs.Outcomes.{defined_outcome};
+ghost use Rattle.asm_forms.specs.Placed.{model_of_word, model_of_words};
+ghost use Rattle.asm_checks.specs.Outcomes.{model_of_outcome};
 ghost use Rattle.asm_list_defs.specs.Rows as spec;
 
 use asm_checks::Outcome;
@@ -14,7 +14,7 @@ use std::alloc::{AllocError, Global};
 /// The text of what a line places.
 #[tactic(auto, unfolding(asm_list_defs::specs::Rows::outcome_text))]
 pub(crate) fn outcome_text(alloc: Global, outcome: &Outcome) -> Result<Vec<u8>, AllocError>
-    ensures { IfOk result (λ text. text.items ≡ spec.outcome_text (defined_outcome outcome.now)) }
+    ensures { IfOk result (λ text. text.items ≡ spec.outcome_text (model_of_outcome outcome.now)) }
 {
     match outcome {
         Outcome::Instruction(placed) => words_text(alloc, placed.words.as_slice()),
@@ -26,7 +26,7 @@ pub(crate) fn outcome_text(alloc: Global, outcome: &Outcome) -> Result<Vec<u8>, 
 
 /// The text of words.
 fn words_text(alloc: Global, words: &[Word]) -> Result<Vec<u8>, AllocError>
-    ensures { IfOk result (λ text. text.items ≡ flat_map spec.word_text (defined_words words.now)) }
+    ensures { IfOk result (λ text. text.items ≡ flat_map spec.word_text (model_of_words words.now)) }
 {
     let mut text = Vec::new(alloc);
     let mut rest = words;
@@ -40,7 +40,7 @@ fn words_text(alloc: Global, words: &[Word]) -> Result<Vec<u8>, AllocError>
 /// The six columns of a word.
 #[tactic(auto, unfolding(asm_list_defs::specs::Rows::word_text, source_defs::specs::Digits::word_digits))]
 fn word_text(word: &Word) -> [u8; 6]
-    ensures { result ≡ spec.word_text (defined_word word.now) }
+    ensures { result ≡ spec.word_text (model_of_word word.now) }
 {
     let (digits, mark) = match word {
         Word::Plain(number) => (word_digits(*number), b' '),

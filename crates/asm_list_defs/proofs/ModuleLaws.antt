@@ -2,6 +2,7 @@
 use Rattle.std.proofs.Common.{◌≡◌, ℕ, zero, suc, ◌+◌, ◌-◌, ◌<◌, ◌≤◌, Bool, true, false, ◌&&◌, ◌||◌, List, [], ◌∷◌, ◌++◌, Some, Ok, Err, refl, sym, ap, subst, ◌∙◌, arith}
 use Rattle.std.specs.Prelude.{⊤, Result, map, if◌then◌else◌, nat_le, nat_lt, slice_get}
 use Rattle.std.proofs.lemmas.Bool.Decides.{nat_tests}
+use Rattle.std.proofs.lemmas.Bool.{and_parts, or_parts, or_right}
 use Rattle.source_defs.specs.Refusals.{Refusal, at_line}
 use Rattle.source_defs.specs.Symbols.{Names, look_up}
 use Rattle.source_defs.specs.Layout.{settled}
@@ -29,14 +30,13 @@ pub record HasRoom (earlier : List Settled) (line found : Settled) : Type 0 wher
 
 room_by : (full taken : Bool) (earlier : List Settled) (line found : Settled) → overlaps earlier line ≡ taken
     → (if full then Err Overflow else if taken then Err Overlap else Ok line) ≡ Ok found → HasRoom earlier line found
-room_by true taken earlier line found is e = cc e
-room_by false true earlier line found is e = cc e
 room_by false false earlier line found is e = record { same = cc e; free = is }
+room_by _ _ earlier line found is e = cc e
 
 has_room : (earlier : List Settled) (line found : Settled) → with_room earlier line ≡ Ok found → HasRoom earlier line found
 has_room earlier line found e = room_by (nat_lt most_words (word_count (line ∷ earlier))) (overlaps earlier line) earlier line found refl e
 
-at_line_ok : {A : Type 0} (number : ℕ) (answer : Result A AsmCause) (found : A) → at_line number answer ≡ Ok found → answer ≡ Ok found
+pub at_line_ok : {A : Type 0} (number : ℕ) (answer : Result A AsmCause) (found : A) → at_line number answer ≡ Ok found → answer ≡ Ok found
 at_line_ok number (Ok value) found e = cc e
 at_line_ok number (Err refused) found e = cc e
 
@@ -61,9 +61,7 @@ module _ (known : Names) where
       )
 
   all_settled : (lines : List Line) (found : List Settled) → settled (settle known) lines ≡ Ok found → Settles lines found
-  all_settled [] found e =
-      let same : [] ≡ found = cc e in
-      subst (Settles []) same (record { shows = refl; room = tt })
+  all_settled [] found e = let same : [] ≡ found = cc e in subst (Settles []) same (record { shows = refl; room = tt })
   all_settled (line ∷ before) found e =
       let a = bound (settled (settle known) before) _ found e in
       let b = bound (at_line line.number (settle known before a.0 line)) _ found a.2 in
@@ -77,46 +75,27 @@ module _ (known : Names) where
       })
 
 -- no number among some has a property that none of them has
-left_free : (a b : Bool) → (a || b) ≡ false → (a ≡ false) × (b ≡ false)
-left_free true b e = cc e
-left_free false b e = (refl, e)
-
 free_by : (f : ℕ → Bool) (from p : ℕ) (b : Bool) → nat_lt from p ≡ b → from ≤ p → f from ≡ false → (from + 1 ≤ p → f p ≡ false) → f p ≡ false
-free_by f from p true e ge here later =
-    let more : from + 1 ≤ p = grind (arith, nat_tests, e) in
-    later more
-free_by f from p false e ge here later =
-    let same : from ≡ p = grind (arith, nat_tests, e, ge) in
-    ap f (sym same) ∙ here
+free_by f from p true e ge here later = let more : from + 1 ≤ p = grind (arith, nat_tests, e) in later more
+free_by f from p false e ge here later = let same : from ≡ p = grind (arith, nat_tests, e, ge) in ap f (sym same) ∙ here
 
 each_free : (f : ℕ → Bool) (from n p : ℕ) → any_from f from n ≡ false → from ≤ p → p < from + n → f p ≡ false
 each_free f from zero p free ge lt = absurd (omega (arith, ge, lt))
 each_free f from (suc n) p free ge lt =
-    let parts = left_free (f from) (any_from f (from + 1) n) free in
+    let parts = or_parts (f from) (any_from f (from + 1) n) free in
     free_by f from p (nat_lt from p) refl ge parts.0 (λ later. each_free f (from + 1) n p parts.1 later (omega (arith, lt)))
-
-both : (a b : Bool) → (a && b) ≡ true → (a ≡ true) × (b ≡ true)
-both true b e = (refl, e)
-both false b e = cc e
 
 abbrev same_parts : Part → Part → Type 0
 same_parts a b = a ≡ b
 
 part_same : (a b : Part) → same_part a b ≡ true → same_parts a b
 part_same part.Relocatable part.Relocatable e = refl
-part_same part.Relocatable part.Absolute e = cc e
-part_same part.Relocatable part.Dummy e = cc e
-part_same part.Absolute part.Relocatable e = cc e
 part_same part.Absolute part.Absolute e = refl
-part_same part.Absolute part.Dummy e = cc e
-part_same part.Dummy part.Relocatable e = cc e
-part_same part.Dummy part.Absolute e = cc e
-part_same part.Dummy part.Dummy e = cc e
+part_same _ _ e = cc e
 
 placed_same : (a : Part) → is_placed_in a ≡ true → same_part a a ≡ true
-placed_same part.Relocatable placed = refl
-placed_same part.Absolute placed = refl
 placed_same part.Dummy placed = cc placed
+placed_same _ placed = refl
 
 -- a line covers its own places
 covers_own : (line : Settled) (k : ℕ) → is_placed_in line.at.part ≡ true → k < bytes_in line.outcome → covers line line.at.part (line.at.number + k) ≡ true
@@ -126,21 +105,17 @@ covers_own line k placed lt =
     rw (placed_same line.at.part placed, from, to) refl
 
 -- they are placed behind it too
-or_true : (a b : Bool) → b ≡ true → (a || b) ≡ true
-or_true true b e = refl
-or_true false b e = e
-
 still_placed : (later before : List Settled) (line : Settled) (p : Part) (n : ℕ) → covers line p n ≡ true → is_placed (later ++ line ∷ before) p n ≡ true
 still_placed [] before line p n own = ap (λ b. b || is_placed before p n) own
-still_placed (other ∷ later) before line p n own = or_true (covers other p n) (is_placed (later ++ line ∷ before) p n) (still_placed later before line p n own)
+still_placed (other ∷ later) before line p n own = or_right (covers other p n) (is_placed (later ++ line ∷ before) p n) (still_placed later before line p n own)
 
 -- a line that has room covers no place of those before it
 apart_by : (earlier : List Settled) (other : Settled) (p : Part) (n : ℕ) (b : Bool) → overlaps earlier other ≡ false → is_placed earlier p n ≡ true → covers other p n ≡ b
     → covers other p n ≡ false
 apart_by earlier other p n false free placed e = e
 apart_by earlier other p n true free placed e =
-    let ends = both (same_part other.at.part p && nat_le other.at.number n) (nat_lt n (other.at.number + bytes_in other.outcome)) e in
-    let tests = both (same_part other.at.part p) (nat_le other.at.number n) ends.0 in
+    let ends = and_parts (same_part other.at.part p && nat_le other.at.number n) (nat_lt n (other.at.number + bytes_in other.outcome)) e in
+    let tests = and_parts (same_part other.at.part p) (nat_le other.at.number n) ends.0 in
     let ge : other.at.number ≤ n = grind (arith, nat_tests, tests.1) in
     let lt : n < other.at.number + bytes_in other.outcome = grind (arith, nat_tests, ends.1) in
     let none : is_placed earlier other.at.part n ≡ false =

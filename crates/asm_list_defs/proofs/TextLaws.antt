@@ -10,13 +10,14 @@ use Rattle.source_defs.specs.Symbols.{Names}
 use Rattle.source_defs.specs.Layout.{laid, laid_behind, numbered}
 use Rattle.asm_defs.specs.declared.causes.AsmCause.{AsmCause}
 use Rattle.asm_defs.specs.declared.location.Location.{Location}
-use Rattle.asm_defs.specs.Statements.{Statement, Nothing, Instruction, Aorg, Rorg, Dorg, Bss, Bes, Even, Equ, Data, Byte, Text, Def, Ref, Idt, Titl, End, statement_in, as_text}
+use Rattle.asm_defs.specs.Statements.{Statement, Aorg, Rorg, Dorg, Bss, Bes, Equ, statement_in, as_text}
 use Rattle.asm_defs.specs.Locations.{Line, location, place, behind}
 use Rattle.asm_defs.specs.FirstChecks.{EarlierLines, ParsedLine, Checked, LocationChange, parsed, moved, checked, move, as_expr, check, known_of, line_of, absolute_in, value}
 use Rattle.asm_defs.specs.FirstChecks.{non_external_number, non_external, is_too_far, is_bad, is_taken, any_known, label_in, refs_in, label_entry, external_entries}
 use Rattle.asm_defs.proofs.CheckLaws.{bound, checked_said}
 use Rattle.asm_list_defs.specs.Listed.{Shown, shown_at, shown, heres, defined, paired}
 use Rattle.asm_list_defs.specs.ByText.{gap_said, shown_said, shown_text, shown_line, refs_by, names_by, names_text}
+use Rattle.asm_list_defs.proofs.ModuleLaws.{at_line_ok}
 
 -- nothing speaks against what is let through
 let_through : {A : Type 0} (b : Bool) (cause : AsmCause) (value found : A) → unless b cause value ≡ Ok found → (b ≡ false) × (value ≡ found)
@@ -39,32 +40,17 @@ gap_by gap (Err error) make found e each = cc e
 
 module _ (known : Names) (here : Location) (reached : ℕ) where
   move_gap : (statement : Statement) (found : LocationChange) → move known here reached statement ≡ Ok found → found.gap ≡ gap_said here statement
-  move_gap Nothing found e = ok_gap _ _ found e refl
-  move_gap (Instruction size operation field) found e = ok_gap _ _ found e refl
   move_gap (Aorg text) found e = gap_by 0 (absolute_in known here text) _ found e (λ value f. ok_gap 0 _ found f refl)
-  move_gap (Rorg None) found e = ok_gap _ _ found e refl
   move_gap (Rorg (Some text)) found e = gap_by 0 (value known here text >>= non_external_number) _ found e (λ value f. ok_gap 0 _ found f refl)
   move_gap (Dorg text) found e = gap_by 0 (absolute_in known here text) _ found e (λ value f. ok_gap 0 _ found f refl)
   move_gap (Bss text) found e = gap_by 0 (absolute_in known here text) _ found e (λ value f. ok_gap 0 _ found f refl)
   move_gap (Bes text) found e = gap_by 0 (absolute_in known here text) _ found e (λ value f. ok_gap 0 _ found f refl)
-  move_gap Even found e = ok_gap _ _ found e refl
   move_gap (Equ text) found e = gap_by 0 (value known here text >>= non_external) _ found e (λ value f. ok_gap 0 _ found f refl)
-  move_gap (Data texts) found e = ok_gap _ _ found e refl
-  move_gap (Byte texts) found e = ok_gap _ _ found e refl
-  move_gap (Text quoted) found e = ok_gap _ _ found e refl
-  move_gap (Def names) found e = ok_gap _ _ found e refl
-  move_gap (Ref names) found e = ok_gap _ _ found e refl
-  move_gap (Idt text) found e = ok_gap _ _ found e refl
-  move_gap (Titl text) found e = ok_gap _ _ found e refl
-  move_gap (End text) found e = ok_gap _ _ found e refl
+  move_gap _ found e = ok_gap _ _ found e refl
 
 as_expr_ok : {A : Type 0} (answer : Result A ExprError) (found : A) → as_expr answer ≡ Ok found → answer ≡ Ok found
 as_expr_ok (Ok value) found e = cc e
 as_expr_ok (Err error) found e = cc e
-
-at_line_ok : {A : Type 0} (number : ℕ) (answer : Result A AsmCause) (found : A) → at_line number answer ≡ Ok found → answer ≡ Ok found
-at_line_ok number (Ok value) found e = cc e
-at_line_ok number (Err refused) found e = cc e
 
 module _ (before : EarlierLines) where
   moved_gap : (line : ParsedLine) (found : Checked) → moved before line ≡ Ok found → found.move.gap ≡ gap_said before.location found.statement
@@ -142,9 +128,7 @@ module _ (before : EarlierLines) (text : List ℕ) where
       ap (λ (found : Checked). label_in found.label ++ refs_in found.statement) c.1
 
   checked_names : (found : Checked) → checked before text ≡ Ok found → names_text text ≡ label_in found.label ++ refs_in found.statement
-  checked_names found e =
-      let a = bound (parsed before text) _ found e in
-      said_names a.0 a.1 ∙ moved_said a.0 found a.2
+  checked_names found e = let a = bound (parsed before text) _ found e in said_names a.0 a.1 ∙ moved_said a.0 found a.2
 
 names_are : (before : List Line) (number : ℕ) (text : List ℕ) (found : Line) → check before number text ≡ Ok found
     → map (λ (entry : List ℕ × Value). entry.0) found.names ≡ names_text text
@@ -191,8 +175,7 @@ module _ (known : Option Names) where
       let same : found ∷ before ≡ lines = cc e in
       more_behind before number text [] found lines is (none_behind (found ∷ before) lines same)
   last_by true before number text (more ∷ texts) found lines is e size next =
-      let same : found ∷ before ≡ lines = cc e in
-      absurd (omega (arith, size, ap length same))
+      let same : found ∷ before ≡ lines = cc e in absurd (omega (arith, size, ap length same))
   last_by false before number text texts found lines is e size next = more_behind before number text texts found lines is (next e)
 
   by_texts : (texts : List (List ℕ)) (before : List Line) (number : ℕ) (lines : List Line) → laid_behind check before (numbered number texts) ≡ Ok lines

@@ -5,9 +5,9 @@ use Rattle.source_defs.specs.Tokens.{tokens}
 use Rattle.source_defs.specs.TokenLaw.{Follow}
 use Rattle.source_defs.proofs.TokenLaws.{tokens_follow}
 use Rattle.asm_text.specs.declared.token.Token.{Token}
-use Rattle.asm_text.specs.GivenTokens.{defined_token, TokensLieInside}
+use Rattle.asm_text.specs.GivenTokens.{model_of_token, TokensLieInside}
 
-inside_from : (line : List ℕ) (from : ℕ) (found : List Token) → Follow line from (map defined_token found) → TokensLieInside line found
+inside_from : (line : List ℕ) (from : ℕ) (found : List Token) → Follow line from (map model_of_token found) → TokensLieInside line found
 inside_from line from [] follow = tt
 inside_from line from (token ∷ others) follow =
     let start : token.span.start ≡ from = follow.0 in
@@ -15,5 +15,5 @@ inside_from line from (token ∷ others) follow =
     let within : token.span.end ≤ length line = follow.2 in
     (record { in_order = omega arith; in_text = within }, inside_from line token.span.end others follow.3)
 
-pub tokens_lie_inside : (line : List ℕ) (found : List Token) → tokens line ≡ Ok (map defined_token found) → TokensLieInside line found
-tokens_lie_inside line found e = inside_from line 0 found (tokens_follow line (map defined_token found) e)
+pub tokens_lie_inside : (line : List ℕ) (found : List Token) → tokens line ≡ Ok (map model_of_token found) → TokensLieInside line found
+tokens_lie_inside line found e = inside_from line 0 found (tokens_follow line (map model_of_token found) e)

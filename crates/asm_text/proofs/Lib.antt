@@ -1,6 +1,4 @@
-pub mod Beginnings
 pub mod Blanks
-pub mod Comments
 pub mod Feeds
 pub mod Names
 pub mod Inside

@@ -16,9 +16,9 @@ use Rattle.source_defs.specs.Expression as defined
 use Rattle.source_defs.specs.Symbols.{registers}
 use Rattle.source_defs.proofs.SymbolLaws.{found}
 use Rattle.asm_text.specs.declared.values.Value.{Value}
-use Rattle.asm_text.specs.GivenValues.{defined_value}
+use Rattle.asm_text.specs.GivenValues.{model_of_value}
 use Rattle.std.proofs.lemmas.Bool.Decides.{nat_tests}
-use Rattle.asm_text.specs.Kept.{begins_as_register, defined_entry, names_of}
+use Rattle.asm_text.specs.Kept.{begins_as_register, model_of_entry, names_of}
 
 equal_of : (r : Ordering) → is_eq r ≡ true → r ≡ Equal
 equal_of Less e = cc
@@ -41,38 +41,38 @@ found-append name (entry ∷ front) behind =
     ap (cond (eq_by_cmp (slice_cmp nat_cmp) name entry.0) (Some entry.1)) (found-append name front behind)
     ∙ either (eq_by_cmp (slice_cmp nat_cmp) name entry.0) entry.1 (found name front) (found name behind)
 
-mapped : (b : Bool) (value : Value) (other : Option Value) → cond b (Some (defined_value value)) (option_map defined_value other)
-    ≡ option_map defined_value (cond b (Some value) other)
+mapped : (b : Bool) (value : Value) (other : Option Value) → cond b (Some (model_of_value value)) (option_map model_of_value other)
+    ≡ option_map model_of_value (cond b (Some value) other)
 mapped true value other = refl
 mapped false value other = refl
 
-found-map : (name : List ℕ) (entries : List (List ℕ × Value)) → found name (map defined_entry entries)
-    ≡ option_map defined_value (lookup (is_at (slice_cmp nat_cmp name)) entries)
+found-map : (name : List ℕ) (entries : List (List ℕ × Value)) → found name (map model_of_entry entries)
+    ≡ option_map model_of_value (lookup (is_at (slice_cmp nat_cmp name)) entries)
 found-map name [] = refl
 found-map name (entry ∷ entries) =
-    ap (cond (eq_by_cmp (slice_cmp nat_cmp) name entry.0) (Some (defined_value entry.1))) (found-map name entries)
+    ap (cond (eq_by_cmp (slice_cmp nat_cmp) name entry.0) (Some (model_of_value entry.1))) (found-map name entries)
     ∙ mapped (eq_by_cmp (slice_cmp nat_cmp) name entry.0) entry.1 (lookup (is_at (slice_cmp nat_cmp name)) entries)
 
 -- a name is a register, or what is kept for it
 pub get_kept : (entries : List (List ℕ × Value)) (name : List ℕ) → get (names_of entries) name
-    ≡ or_else (found name registers) (option_map defined_value (lookup (is_at (slice_cmp nat_cmp name)) entries))
+    ≡ or_else (found name registers) (option_map model_of_value (lookup (is_at (slice_cmp nat_cmp name)) entries))
 get_kept entries name =
-    get-from_entries nat_list_cmp_total (registers ++ map defined_entry entries) name
-    ∙ (found-append name registers (map defined_entry entries) ∙ ap (or_else (found name registers)) (found-map name entries))
+    get-from_entries nat_list_cmp_total (registers ++ map model_of_entry entries) name
+    ∙ (found-append name registers (map model_of_entry entries) ∙ ap (or_else (found name registers)) (found-map name entries))
 
 pub none_both : (first second : Option defined.Value) → or_else first second ≡ None → first ≡ None
 none_both (Some value) second e = cc
 none_both None second e = refl
 
 -- nothing is there
-pub none_of : (kept : Option Value) → is_some kept ≡ false → option_map defined_value kept ≡ None
+pub none_of : (kept : Option Value) → is_some kept ≡ false → option_map model_of_value kept ≡ None
 none_of (Some value) e = cc
 none_of None e = refl
 
 module _ (old new : BTreeMap (List ℕ) Value) (name : List ℕ) (value : Value) where
   same_at : (b : Bool) (asked : List ℕ) → eq_by_cmp (slice_cmp nat_cmp) name asked ≡ b → found name registers ≡ None
-      → or_else (found asked registers) (option_map defined_value (cond b (Some value) (tree.get (slice_cmp nat_cmp) old asked)))
-      ≡ cond b (Some (defined_value value)) (or_else (found asked registers) (option_map defined_value (tree.get (slice_cmp nat_cmp) old asked)))
+      → or_else (found asked registers) (option_map model_of_value (cond b (Some value) (tree.get (slice_cmp nat_cmp) old asked)))
+      ≡ cond b (Some (model_of_value value)) (or_else (found asked registers) (option_map model_of_value (tree.get (slice_cmp nat_cmp) old asked)))
   same_at true asked tied none =
       let other : found asked registers ≡ None = find_tied (slice_cmp nat_cmp) nat_list_cmp_total name asked (equal_of _ tied) registers ∙ none in
       rw other refl
@@ -80,23 +80,23 @@ module _ (old new : BTreeMap (List ℕ) Value) (name : List ℕ) (value : Value)
 
   -- a name that stood for nothing is defined
   pub define_kept : tree.Updates (slice_cmp nat_cmp) old new name (Some value) → get (names_of old.entries) name ≡ None
-      → names_of new.entries ≡ insert (names_of old.entries) name (defined_value value)
+      → names_of new.entries ≡ insert (names_of old.entries) name (model_of_value value)
   define_kept updates none =
       let no_register : found name registers ≡ None = none_both _ _ (sym (get_kept old.entries name) ∙ none) in
       same_map nat_list_cmp_total (slice_cmp-IsAntisymmetric nat_cmp-IsAntisymmetric) _ _
       (λ asked.
       get_kept new.entries asked
-      ∙ (ap (λ kept. or_else (found asked registers) (option_map defined_value kept)) (updates.0 asked)
+      ∙ (ap (λ kept. or_else (found asked registers) (option_map model_of_value kept)) (updates.0 asked)
       ∙ (same_at _ asked refl no_register
-      ∙ (ap (λ b. cond b (Some (defined_value value)) (or_else (found asked registers) (option_map defined_value (tree.get (slice_cmp nat_cmp) old asked))))
+      ∙ (ap (λ b. cond b (Some (model_of_value value)) (or_else (found asked registers) (option_map model_of_value (tree.get (slice_cmp nat_cmp) old asked))))
       ((eq_by_cmp_equiv nat_list_cmp_total).symm name asked)
-      ∙ (ap (cond (eq_by_cmp (slice_cmp nat_cmp) asked name) (Some (defined_value value))) (sym (get_kept old.entries asked))
-      ∙ sym (get-insert nat_list_cmp_total (names_of old.entries) name (defined_value value) asked))))))
+      ∙ (ap (cond (eq_by_cmp (slice_cmp nat_cmp) asked name) (Some (model_of_value value))) (sym (get_kept old.entries asked))
+      ∙ sym (get-insert nat_list_cmp_total (names_of old.entries) name (model_of_value value) asked))))))
 
 module _ (old new : BTreeMap (List ℕ) Value) (name : List ℕ) where
   removed_at : (b : Bool) (asked : List ℕ) → eq_by_cmp (slice_cmp nat_cmp) name asked ≡ b → found name registers ≡ None
-      → or_else (found asked registers) (option_map defined_value (cond b None (tree.get (slice_cmp nat_cmp) old asked)))
-      ≡ cond b None (or_else (found asked registers) (option_map defined_value (tree.get (slice_cmp nat_cmp) old asked)))
+      → or_else (found asked registers) (option_map model_of_value (cond b None (tree.get (slice_cmp nat_cmp) old asked)))
+      ≡ cond b None (or_else (found asked registers) (option_map model_of_value (tree.get (slice_cmp nat_cmp) old asked)))
   removed_at true asked tied none =
       let other : found asked registers ≡ None = find_tied (slice_cmp nat_cmp) nat_list_cmp_total name asked (equal_of _ tied) registers ∙ none in
       rw other refl
@@ -109,9 +109,9 @@ module _ (old new : BTreeMap (List ℕ) Value) (name : List ℕ) where
       same_map nat_list_cmp_total (slice_cmp-IsAntisymmetric nat_cmp-IsAntisymmetric) _ _
       (λ asked.
       get_kept new.entries asked
-      ∙ (ap (λ kept. or_else (found asked registers) (option_map defined_value kept)) (updates.0 asked)
+      ∙ (ap (λ kept. or_else (found asked registers) (option_map model_of_value kept)) (updates.0 asked)
       ∙ (removed_at _ asked refl none
-      ∙ (ap (λ b. cond b None (or_else (found asked registers) (option_map defined_value (tree.get (slice_cmp nat_cmp) old asked))))
+      ∙ (ap (λ b. cond b None (or_else (found asked registers) (option_map model_of_value (tree.get (slice_cmp nat_cmp) old asked))))
       ((eq_by_cmp_equiv nat_list_cmp_total).symm name asked)
       ∙ (ap (cond (eq_by_cmp (slice_cmp nat_cmp) asked name) None) (sym (get_kept old.entries asked))
       ∙ sym (get-remove nat_list_cmp_total (names_of old.entries) name asked))))))
@@ -123,12 +123,12 @@ kept_same old new same =
     same_map nat_list_cmp_total (slice_cmp-IsAntisymmetric nat_cmp-IsAntisymmetric) _ _
     (λ asked.
     get_kept new.entries asked
-    ∙ (ap (λ kept. or_else (found asked registers) (option_map defined_value kept)) (same asked) ∙ sym (get_kept old.entries asked)))
+    ∙ (ap (λ kept. or_else (found asked registers) (option_map model_of_value kept)) (same asked) ∙ sym (get_kept old.entries asked)))
 
 -- a name stands for nothing where it is no register and nothing is kept for it
 pub get_free : (kept : BTreeMap (List ℕ) Value) (name : List ℕ) → found name registers ≡ None
-    → get (names_of kept.entries) name ≡ option_map defined_value (tree.get (slice_cmp nat_cmp) kept name)
-get_free kept name none = get_kept kept.entries name ∙ ap (λ register. or_else register (option_map defined_value (tree.get (slice_cmp nat_cmp) kept name)))
+    → get (names_of kept.entries) name ≡ option_map model_of_value (tree.get (slice_cmp nat_cmp) kept name)
+get_free kept name none = get_kept kept.entries name ∙ ap (λ register. or_else register (option_map model_of_value (tree.get (slice_cmp nat_cmp) kept name)))
     none
 
 module _ (old between new : BTreeMap (List ℕ) Value) (name : List ℕ) (value before : Value) where
@@ -152,18 +152,18 @@ pub register_some : (number : Option ℕ) (entries : List (List ℕ × Value)) (
 register_some None entries name is some = cc some
 register_some (Some number) entries name is some =
     subst IsSome
-    (sym (get_kept entries name ∙ ap (λ register. or_else register (option_map defined_value (lookup (is_at (slice_cmp nat_cmp name)) entries))) (sym is))) refl
+    (sym (get_kept entries name ∙ ap (λ register. or_else register (option_map model_of_value (lookup (is_at (slice_cmp nat_cmp name)) entries))) (sym is))) refl
 
 pub register_none : (number : Option ℕ) (name : List ℕ) → option_map defined.Absolute number ≡ found name registers → is_some number ≡ false
     → found name registers ≡ None
 register_none None name is none = sym is
 register_none (Some number) name is none = cc none
 
-pub some_seen : (kept : Option Value) → IsSome kept → IsSome (option_map defined_value kept)
+pub some_seen : (kept : Option Value) → IsSome kept → IsSome (option_map model_of_value kept)
 some_seen (Some value) some = refl
 some_seen None some = some
 
-pub seen_some : (kept : Option Value) → IsSome (option_map defined_value kept) → IsSome kept
+pub seen_some : (kept : Option Value) → IsSome (option_map model_of_value kept) → IsSome kept
 seen_some (Some value) some = refl
 seen_some None some = some
 

@@ -7,7 +7,7 @@ use Rattle.source_defs.specs.declared.causes.ExprError.TheVariants.{BadToken, Un
 use Rattle.source_defs.specs.Refusals.{◌>>=◌}
 use Rattle.source_defs.specs.Expression as defined
 use Rattle.asm_text.specs.declared.values.Value.{Value}
-use Rattle.asm_text.specs.GivenValues.{defined_value, defined_value_answer}
+use Rattle.asm_text.specs.GivenValues.{model_of_value, model_of_value_answer}
 use Rattle.asm_text.specs.Yielded.{Yields}
 use Rattle.source_defs.specs.Tokens.{Token, Kind, Number, Name, Here, Text, Sign, token_at, tokens_from, tokens}
 use Rattle.source_defs.specs.Lines.{part}
@@ -78,8 +78,8 @@ module _ (look : List ℕ → Option defined.Value) (here : defined.Value) (text
       (no_token text cause some is))
 
 -- what a call answers that wants no memory
-pub yielded : (result : Result Value ExprError) (answer : Result defined.Value ExprError) → defined_value_answer result ≡ answer
-    → Yields defined_value result answer
+pub yielded : (result : Result Value ExprError) (answer : Result defined.Value ExprError) → model_of_value_answer result ≡ answer
+    → Yields model_of_value result answer
 yielded (Ok value) answer is = sym is
 yielded (Err BadToken) answer is = sym is
 yielded (Err UnknownName) answer is = sym is

@@ -6,13 +6,13 @@ use Rattle.source_defs.specs.Fields as defined
 use Rattle.asm_text.specs.declared.line_fields.Fields.{Fields}
 
 -- the definition's fields, with the name seen as its bytes
-abbrev pub defined_fields : Fields → defined.Fields
-defined_fields given = record { label = given.label; operation = given.operation; operands = given.operands }
+abbrev pub model_of_fields : Fields → defined.Fields
+model_of_fields given = record { label = given.label; operation = given.operation; operands = given.operands }
 
 -- the definition's answer
-abbrev pub defined_answer : Result Fields TextError → Result defined.Fields TextError
-defined_answer (Ok given) = Ok (defined_fields given)
-defined_answer (Err cause) = Err cause
+abbrev pub model_of_answer : Result Fields TextError → Result defined.Fields TextError
+model_of_answer (Ok given) = Ok (model_of_fields given)
+model_of_answer (Err cause) = Err cause
 
 -- the operation and the operand field lie inside a line
 pub record FieldsLieInside (line : List ℕ) (given : Fields) : Type 0 where

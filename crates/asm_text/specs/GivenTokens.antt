@@ -9,20 +9,20 @@ use Rattle.asm_text.specs.declared.token.TokenKind.{TokenKind}
 use Rattle.asm_text.specs.declared.token.TokenKind.TheVariants.{Number, Name, Here, Text, Sign}
 
 -- the kind of a token, with the name seen as its bytes
-abbrev pub defined_kind : TokenKind → defined.Kind
-defined_kind (Number number) = defined.Number number
-defined_kind (Name name) = defined.Name name
-defined_kind Here = defined.Here
-defined_kind Text = defined.Text
-defined_kind (Sign operator) = defined.Sign operator
+abbrev pub model_of_kind : TokenKind → defined.Kind
+model_of_kind (Number number) = defined.Number number
+model_of_kind (Name name) = defined.Name name
+model_of_kind Here = defined.Here
+model_of_kind Text = defined.Text
+model_of_kind (Sign operator) = defined.Sign operator
 
-abbrev pub defined_token : Token → defined.Token
-defined_token token = record { kind = defined_kind token.kind; span = token.span }
+abbrev pub model_of_token : Token → defined.Token
+model_of_token token = record { kind = model_of_kind token.kind; span = token.span }
 
 -- the definition's answer
-abbrev pub defined_token_answer : Result Token ExprError → Result defined.Token ExprError
-defined_token_answer (Ok token) = Ok (defined_token token)
-defined_token_answer (Err cause) = Err cause
+abbrev pub model_of_token_answer : Result Token ExprError → Result defined.Token ExprError
+model_of_token_answer (Ok token) = Ok (model_of_token token)
+model_of_token_answer (Err cause) = Err cause
 
 -- each token lies inside a line
 abbrev pub TokensLieInside : List ℕ → List Token → Type 0

@@ -6,15 +6,15 @@ use Rattle.asm_text.specs.declared.values.Value.{Value}
 use Rattle.asm_text.specs.declared.values.Value.TheVariants.{Absolute, Relocatable, External}
 
 -- a value, with the name seen as its bytes
-abbrev pub defined_value : Value → defined.Value
-defined_value (Absolute number) = defined.Absolute number
-defined_value (Relocatable place) = defined.Relocatable place
-defined_value (External name) = defined.External name
+abbrev pub model_of_value : Value → defined.Value
+model_of_value (Absolute number) = defined.Absolute number
+model_of_value (Relocatable place) = defined.Relocatable place
+model_of_value (External name) = defined.External name
 
 -- the definition's answer
-abbrev pub defined_value_answer : Result Value ExprError → Result defined.Value ExprError
-defined_value_answer (Ok value) = Ok (defined_value value)
-defined_value_answer (Err cause) = Err cause
+abbrev pub model_of_value_answer : Result Value ExprError → Result defined.Value ExprError
+model_of_value_answer (Ok value) = Ok (model_of_value value)
+model_of_value_answer (Err cause) = Err cause
 
 -- a place in a line is a number, and no external name
 abbrev pub IsNotExternal : Value → Type 0

@@ -1,5 +1,5 @@
 -- Words as numbers.
-use Rattle.std.specs.Prelude.{ℕ, ◌+◌, ◌*◌, Bool, false, not, ◌==◌, nat_le, nat_lt, ◌&&◌, if◌then◌else◌, List, [], ◌∷◌}
+use Rattle.std.specs.Prelude.{ℕ, ◌+◌, ◌*◌, Bool, false, ◌==◌, nat_le, nat_lt, ◌&&◌, if◌then◌else◌, List, [], ◌∷◌}
 use Rattle.std.specs.Prelude.{length, map, find, Option, Some, None}
 use Rattle.std.specs.List.{list_all}
 use Rattle.std.specs.Option.{option_map}
@@ -27,9 +27,3 @@ is_of_key (Some key) word = key == key_of word
 abbrev pub with_key : {A : Type 0} → Option ℕ → List (ℕ × A) → Option A
 with_key None rows = None
 with_key (Some key) rows = option_map (λ row. row.1) (find (λ row. key == row.0) rows)
-
--- a text and a word begin with different letters
-abbrev pub begins_apart : List ℕ → List ℕ → Bool
-begins_apart (first ∷ others) (letter ∷ letters) = not (upper_case first == letter)
-begins_apart [] word = false
-begins_apart text [] = false

@@ -2,14 +2,14 @@
 
 ghost use Rattle.std.specs.Prelude.{◌≡◌, ◌≢◌, ◌≤◌};
 ghost use Rattle.source_defs.specs.Expression as spec;
-ghost use Rattle.asm_text.specs.GivenValues.{defined_value, defined_value_answer};
+ghost use Rattle.asm_text.specs.GivenValues.{model_of_value, model_of_value_answer};
 
 use crate::values::Value;
 use source_defs::ExprError;
 
 /// Two values, joined by an operator. Anything but `+`, `-` and `*` divides.
 pub(crate) fn joined(operator: u8, a: Value, b: Value) -> Result<Value, ExprError>
-    ensures { defined_value_answer result ≡ spec.joined operator (defined_value a) (defined_value b) }
+    ensures { model_of_value_answer result ≡ spec.joined operator (model_of_value a) (model_of_value b) }
 {
     match operator {
         b'+' => sum(a, b),
@@ -20,7 +20,7 @@ pub(crate) fn joined(operator: u8, a: Value, b: Value) -> Result<Value, ExprErro
 }
 
 fn sum(a: Value, b: Value) -> Result<Value, ExprError>
-    ensures { defined_value_answer result ≡ spec.sum (defined_value a) (defined_value b) }
+    ensures { model_of_value_answer result ≡ spec.sum (model_of_value a) (model_of_value b) }
 {
     match (a, b) {
         (Value::Absolute(a), Value::Absolute(b)) => Ok(Value::Absolute(a.wrapping_add(b))),
@@ -31,7 +31,7 @@ fn sum(a: Value, b: Value) -> Result<Value, ExprError>
 }
 
 fn difference(a: Value, b: Value) -> Result<Value, ExprError>
-    ensures { defined_value_answer result ≡ spec.difference (defined_value a) (defined_value b) }
+    ensures { model_of_value_answer result ≡ spec.difference (model_of_value a) (model_of_value b) }
 {
     match (a, b) {
         (Value::Absolute(a), Value::Absolute(b)) | (Value::Relocatable(a), Value::Relocatable(b)) =>
@@ -42,7 +42,7 @@ fn difference(a: Value, b: Value) -> Result<Value, ExprError>
 }
 
 fn product(a: Value, b: Value) -> Result<Value, ExprError>
-    ensures { defined_value_answer result ≡ spec.product (defined_value a) (defined_value b) }
+    ensures { model_of_value_answer result ≡ spec.product (model_of_value a) (model_of_value b) }
 {
     match (a, b) {
         (Value::Absolute(a), Value::Absolute(b)) => Ok(Value::Absolute(a.wrapping_mul(b))),
@@ -51,7 +51,7 @@ fn product(a: Value, b: Value) -> Result<Value, ExprError>
 }
 
 fn ratio(a: Value, b: Value) -> Result<Value, ExprError>
-    ensures { defined_value_answer result ≡ spec.ratio (defined_value a) (defined_value b) }
+    ensures { model_of_value_answer result ≡ spec.ratio (model_of_value a) (model_of_value b) }
 {
     match (a, b) {
         (Value::Absolute(_), Value::Absolute(0)) => Err(ExprError::DivideByZero),
@@ -62,7 +62,7 @@ fn ratio(a: Value, b: Value) -> Result<Value, ExprError>
 
 /// A value after a minus sign.
 pub(crate) fn minus(value: Value) -> Result<Value, ExprError>
-    ensures { defined_value_answer result ≡ spec.minus (defined_value value) }
+    ensures { model_of_value_answer result ≡ spec.minus (model_of_value value) }
 {
     match value {
         Value::Absolute(number) => Ok(Value::Absolute(negated(number))),

@@ -6,8 +6,8 @@ ghost use Rattle.source_defs.specs.Lines.{IsInside};
 ghost use Rattle.source_defs.specs.Expression as spec;
 ghost use Rattle.source_defs.specs.Symbols.{look_up};
 ghost use Rattle.source_defs.proofs.CharacterLaws.{first_character};
-ghost use Rattle.asm_text.specs.GivenTokens.{defined_token};
-ghost use Rattle.asm_text.specs.GivenValues.{defined_value, defined_value_answer};
+ghost use Rattle.asm_text.specs.GivenTokens.{model_of_token};
+ghost use Rattle.asm_text.specs.GivenValues.{model_of_value, model_of_value_answer};
 
 use crate::name::Name;
 use crate::quoted_texts::between_quotes;
@@ -29,7 +29,7 @@ fn first_character(text: &[u8]) -> Option<(u8, &[u8])>
 
 /// The value of a quoted text: one or two characters, one character in the low byte.
 fn text_value(quoted: &[u8]) -> Result<Value, ExprError>
-    ensures { defined_value_answer result ≡ spec.characters_value (spec.characters quoted.now) }
+    ensures { model_of_value_answer result ≡ spec.characters_value (spec.characters quoted.now) }
 {
     let Some((first, others)) = first_character(between_quotes(quoted)) else {
         return Err(ExprError::BadToken);
@@ -50,8 +50,8 @@ pub(crate) fn term_value(
     here: &Value,
 ) -> Result<Value, ExprError>
     requires { IsInside line.now token.now.span }
-    ensures { defined_value_answer result
-        ≡ spec.term_value (look_up symbols.now) (defined_value here.now) line.now (defined_token token.now) }
+    ensures { model_of_value_answer result
+        ≡ spec.term_value (look_up symbols.now) (model_of_value here.now) line.now (model_of_token token.now) }
 {
     match &token.kind {
         TokenKind::Number(number) => Ok(Value::Absolute(*number)),
@@ -64,7 +64,7 @@ pub(crate) fn term_value(
 
 /// The value of a name.
 fn known_value(symbols: &Symbols, name: &Name) -> Result<Value, ExprError>
-    ensures { defined_value_answer result ≡ spec.known_value (look_up symbols.now name.now) }
+    ensures { model_of_value_answer result ≡ spec.known_value (look_up symbols.now name.now) }
 {
     match symbols.get(name) {
         Some(value) => Ok(value),

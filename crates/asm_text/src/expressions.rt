@@ -2,7 +2,7 @@
 
 ghost use Rattle.source_defs.specs.Expression.{expression};
 ghost use Rattle.source_defs.specs.Symbols.{look_up};
-ghost use Rattle.asm_text.specs.GivenValues.{defined_value, IsNotExternal};
+ghost use Rattle.asm_text.specs.GivenValues.{model_of_value, IsNotExternal};
 ghost use Rattle.asm_text.specs.Yielded.{Yields};
 
 use crate::evaluate::term_value;
@@ -24,7 +24,7 @@ pub fn expression_value(
     here: Value,
 ) -> Result<Value, ExprError>
     requires { IsNotExternal here }
-    ensures { Yields defined_value result (expression (look_up symbols.now) (defined_value here) text.now) }
+    ensures { Yields model_of_value result (expression (look_up symbols.now) (model_of_value here) text.now) }
 {
     if let Some(value) = symbols.register_in(text) {
         return Ok(value);

@@ -5,8 +5,8 @@ ghost use Rattle.std.specs.Option.{IfNone};
 ghost use Rattle.source_defs.specs.Tokens as scanned;
 ghost use Rattle.source_defs.specs.Expression as spec;
 ghost use Rattle.source_defs.specs.Symbols.{look_up};
-ghost use Rattle.asm_text.specs.GivenTokens.{defined_kind, defined_token, TokensLieInside};
-ghost use Rattle.asm_text.specs.GivenValues.{defined_value, defined_value_answer, IsNotExternal};
+ghost use Rattle.asm_text.specs.GivenTokens.{model_of_kind, model_of_token, TokensLieInside};
+ghost use Rattle.asm_text.specs.GivenValues.{model_of_value, model_of_value_answer, IsNotExternal};
 
 use crate::arithmetic::{joined, minus};
 use crate::evaluate::term_value;
@@ -30,10 +30,10 @@ pub fn value(
     symbols: &Symbols,
     here: Value,
 ) -> Result<Value, ExprError>
-    requires read { scanned.tokens line.now ≡ Ok (map defined_token tokens.now) }
+    requires read { scanned.tokens line.now ≡ Ok (map model_of_token tokens.now) }
     requires here { IsNotExternal here }
-    ensures { defined_value_answer result
-        ≡ spec.value (look_up symbols.now) (defined_value here) line.now (map defined_token tokens.now) }
+    ensures { model_of_value_answer result
+        ≡ spec.value (look_up symbols.now) (model_of_value here) line.now (map model_of_token tokens.now) }
 {
     signed_value(tokens, line, symbols, &here)
 }
@@ -46,8 +46,8 @@ fn signed_value(
     here: &Value,
 ) -> Result<Value, ExprError>
     requires { TokensLieInside line.now tokens.now }
-    ensures { defined_value_answer result
-        ≡ spec.value (look_up symbols.now) (defined_value here.now) line.now (map defined_token tokens.now) }
+    ensures { model_of_value_answer result
+        ≡ spec.value (look_up symbols.now) (model_of_value here.now) line.now (map model_of_token tokens.now) }
 {
     match first_token(tokens) {
         None => Err(ExprError::BadToken),
@@ -67,8 +67,8 @@ fn minus_value(
     here: &Value,
 ) -> Result<Value, ExprError>
     requires { TokensLieInside line.now tokens.now }
-    ensures { defined_value_answer result
-        ≡ spec.minus_value (look_up symbols.now) (defined_value here.now) line.now (map defined_token tokens.now) }
+    ensures { model_of_value_answer result
+        ≡ spec.minus_value (look_up symbols.now) (model_of_value here.now) line.now (map model_of_token tokens.now) }
 {
     match first_token(tokens) {
         None => Err(ExprError::BadToken),
@@ -88,9 +88,9 @@ fn value_with(
     here: &Value,
 ) -> Result<Value, ExprError>
     requires { TokensLieInside line.now tokens.now }
-    ensures { defined_value_answer result
-        ≡ spec.value_with (look_up symbols.now) (defined_value here.now) line.now (defined_value first)
-        (map defined_token tokens.now) }
+    ensures { model_of_value_answer result
+        ≡ spec.value_with (look_up symbols.now) (model_of_value here.now) line.now (model_of_value first)
+        (map model_of_token tokens.now) }
 {
     let mut total = first;
     let mut rest = tokens;
@@ -127,14 +127,14 @@ fn first_tokens(tokens: &[Token]) -> Option<(&Token, &Token, &[Token])>
 
 /// Whether a token is a minus sign.
 fn is_minus(token: &Token) -> bool
-    ensures { result ≡ spec.is_minus (defined_kind token.now.kind) }
+    ensures { result ≡ spec.is_minus (model_of_kind token.now.kind) }
 {
     matches!(token.kind, TokenKind::Sign(b'-'))
 }
 
 /// The operator that a token is.
 fn operator_of(token: &Token) -> Result<u8, ExprError>
-    ensures { result ≡ spec.operator_of (defined_kind token.now.kind) }
+    ensures { result ≡ spec.operator_of (model_of_kind token.now.kind) }
 {
     match token.kind {
         TokenKind::Sign(operator) => Ok(operator),

@@ -31,7 +31,7 @@ pub use crate::digits::{byte_digits, word_digits};
 pub use crate::expressions::expression_value;
 pub use crate::fold::value;
 pub use crate::laws::{fields_of_a_line, least_places, lines_of_a_text};
-pub use crate::line_fields::Fields;
+pub use crate::line_fields::{Fields, SplitLine};
 pub use crate::line_iter::Lines;
 pub use crate::name::Name;
 pub use crate::numbers::{decimal_up_to, hexadecimal_number};
@@ -43,7 +43,7 @@ pub use crate::quoted_texts::{
     between_quotes, character_count, is_quoted, quoted, quoted_characters,
 };
 pub use crate::scan::tokens;
-pub use crate::split::{fields, is_comment_line, is_operation, upper_case_name};
+pub use crate::split::{fields, split_line, upper_case_name};
 pub use crate::symbols::{DefineError, Symbols};
 pub use crate::text::{lines, part};
 pub use crate::token::{Token, TokenKind};

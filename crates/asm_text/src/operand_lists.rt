@@ -2,7 +2,7 @@
 
 ghost use Rattle.std.specs.Prelude.{◌≡◌, ◌≤◌, ◌+◌, length, IfOk};
 ghost use Rattle.std.specs.Option.{option_map};
-ghost use Rattle.source_defs.specs.Refusals.{seen};
+ghost use Rattle.source_defs.specs.Refusals.{map_ok};
 ghost use Rattle.source_defs.specs.Operands.{operand_texts};
 ghost use Rattle.source_defs.specs.OperandLists as spec;
 
@@ -14,7 +14,7 @@ use source_defs::OperandError;
 /// # Errors
 /// `Count` comes where the field has none or several, and `Form` where its operand is empty.
 pub fn one_operand(field: &[u8]) -> Result<&[u8], OperandError>
-    ensures text { seen (λ text. text.now) result ≡ spec.one_operand (operand_texts field.now) }
+    ensures text { map_ok (λ text. text.now) result ≡ spec.one_operand (operand_texts field.now) }
     ensures part { IfOk result (λ text. length text.now ≤ length field.now) }
 {
     let mut parts = operands(field);
@@ -29,7 +29,7 @@ pub fn one_operand(field: &[u8]) -> Result<&[u8], OperandError>
 /// # Errors
 /// `Count` comes where the field has several, and `Form` where its operand is empty.
 pub fn optional_operand(field: &[u8]) -> Result<Option<&[u8]>, OperandError>
-    ensures { seen (λ text. option_map (λ found. found.now) text) result
+    ensures { map_ok (λ text. option_map (λ found. found.now) text) result
         ≡ spec.optional_operand (operand_texts field.now) }
 {
     let mut parts = operands(field);
@@ -45,7 +45,7 @@ pub fn optional_operand(field: &[u8]) -> Result<Option<&[u8]>, OperandError>
 
 /// An operand that is not empty.
 fn written(text: &[u8]) -> Result<&[u8], OperandError>
-    ensures { seen (λ found. found.now) result ≡ spec.written text.now }
+    ensures { map_ok (λ found. found.now) result ≡ spec.written text.now }
 {
     match text {
         [] => Err(OperandError::Form),
@@ -58,7 +58,7 @@ fn written(text: &[u8]) -> Result<&[u8], OperandError>
 /// # Errors
 /// `Count` comes where the field has no operand, and `Form` where one is empty.
 pub fn operand_list(field: &[u8]) -> Result<&[u8], OperandError>
-    ensures texts { seen (λ found. operand_texts found.now) result ≡ spec.operand_list (operand_texts field.now) }
+    ensures texts { map_ok (λ found. operand_texts found.now) result ≡ spec.operand_list (operand_texts field.now) }
     ensures same { IfOk result (λ found. found.now ≡ field.now) }
 {
     if field.is_empty() {

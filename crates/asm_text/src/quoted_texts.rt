@@ -1,7 +1,7 @@
 //! Texts in quotes, and their characters.
 
 ghost use Rattle.std.specs.Prelude.{◌≡◌, ◌≤◌, false, length, IfOk};
-ghost use Rattle.source_defs.specs.Refusals.{seen};
+ghost use Rattle.source_defs.specs.Refusals.{map_ok};
 ghost use Rattle.source_defs.specs.QuotedTexts as spec;
 ghost use Rattle.source_defs.specs.Expression as expressions;
 
@@ -14,7 +14,7 @@ use std::alloc::{AllocError, Global};
 /// # Errors
 /// `Form` comes where it is none.
 pub fn quoted(text: &[u8]) -> Result<&[u8], OperandError>
-    ensures text { seen (λ found. found.now) result ≡ spec.quoted text.now }
+    ensures text { map_ok (λ found. found.now) result ≡ spec.quoted text.now }
     ensures same { IfOk result (λ found. found.now ≡ text.now) }
 {
     if is_quoted(text) {

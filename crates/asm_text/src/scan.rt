@@ -4,7 +4,7 @@ ghost use Rattle.std.specs.Prelude.{◌≡◌, ◌≢◌, ◌≤◌, ◌<◌, �
 ghost use Rattle.std.specs.Prelude.{IfErr};
 ghost use Rattle.source_defs.specs.Tokens as spec;
 ghost use Rattle.source_defs.specs.TokenLaw.{Follow};
-ghost use Rattle.asm_text.specs.GivenTokens.{defined_kind, defined_token, defined_token_answer};
+ghost use Rattle.asm_text.specs.GivenTokens.{model_of_kind, model_of_token, model_of_token_answer};
 
 use crate::characters::{is_letter, is_quote};
 use crate::numbers::{decimal_up_to, hexadecimal_number};
@@ -21,9 +21,9 @@ use std::alloc::Global;
 /// The first bad place is refused: `TooLarge` for a decimal number above 65,535 or more than four hexadecimal digits,
 /// `BadToken` where no token can be read. `Memory` means that memory ran out.
 pub fn tokens(alloc: Global, text: &[u8]) -> Result<Vec<Token>, ExprError>
-    ensures found { IfOk result (λ found. spec.tokens text.now ≡ Ok (map defined_token found.items)) }
+    ensures found { IfOk result (λ found. spec.tokens text.now ≡ Ok (map model_of_token found.items)) }
     ensures cause { IfErr result (λ cause. cause ≢ ExprError.Memory → spec.tokens text.now ≡ Err cause) }
-    ensures order { IfOk result (λ found. Follow text.now 0 (map defined_token found.items)) }
+    ensures order { IfOk result (λ found. Follow text.now 0 (map model_of_token found.items)) }
 {
     let mut found = Vec::new(alloc);
     let mut start = 0;
@@ -42,7 +42,7 @@ pub fn tokens(alloc: Global, text: &[u8]) -> Result<Vec<Token>, ExprError>
 #[inline(always)]
 pub(crate) fn token_at(text: &[u8], start: usize) -> Result<Token, ExprError>
     requires { start < length text.now }
-    ensures { defined_token_answer result ≡ spec.token_at text.now start }
+    ensures { model_of_token_answer result ≡ spec.token_at text.now start }
 {
     match text[start] {
         b'>' => hexadecimal_token(text, start),
@@ -62,7 +62,7 @@ fn is_operator(byte: u8) -> bool
 }
 
 fn token_to(kind: TokenKind, start: usize, end: usize) -> Token
-    ensures { defined_token result ≡ spec.token_to (defined_kind kind) start end }
+    ensures { model_of_token result ≡ spec.token_to (model_of_kind kind) start end }
 {
     Token {
         kind,
@@ -73,7 +73,7 @@ fn token_to(kind: TokenKind, start: usize, end: usize) -> Token
 /// A decimal number: the longest run of digits.
 fn decimal_token(text: &[u8], start: usize) -> Result<Token, ExprError>
     requires { start < length text.now }
-    ensures { defined_token_answer result ≡ spec.decimal_token text.now start }
+    ensures { model_of_token_answer result ≡ spec.decimal_token text.now start }
 {
     let end = digits_end(text, start);
     match decimal_up_to(&text[start..end], 65535) {
@@ -85,7 +85,7 @@ fn decimal_token(text: &[u8], start: usize) -> Result<Token, ExprError>
 /// A hexadecimal number: the longest run of hexadecimal digits after its sign.
 fn hexadecimal_token(text: &[u8], start: usize) -> Result<Token, ExprError>
     requires { start < length text.now }
-    ensures { defined_token_answer result ≡ spec.hexadecimal_token text.now start }
+    ensures { model_of_token_answer result ≡ spec.hexadecimal_token text.now start }
 {
     let end = hexadecimal_end(text, start + 1);
     if end == start + 1 {
@@ -100,7 +100,7 @@ fn hexadecimal_token(text: &[u8], start: usize) -> Result<Token, ExprError>
 /// A name: the longest run of letters and digits.
 fn name_token(text: &[u8], start: usize) -> Result<Token, ExprError>
     requires { start < length text.now }
-    ensures { defined_token_answer result ≡ spec.name_token text.now start }
+    ensures { model_of_token_answer result ≡ spec.name_token text.now start }
 {
     let end = name_end(text, start);
     match upper_case_name(&text[start..end]) {
@@ -112,7 +112,7 @@ fn name_token(text: &[u8], start: usize) -> Result<Token, ExprError>
 /// A quoted text, with its quotes.
 fn text_token(text: &[u8], start: usize) -> Result<Token, ExprError>
     requires { start < length text.now }
-    ensures { defined_token_answer result ≡ spec.text_token text.now start }
+    ensures { model_of_token_answer result ≡ spec.text_token text.now start }
 {
     match text_end(text, start) {
         Some(end) => Ok(token_to(TokenKind::Text, start, end)),

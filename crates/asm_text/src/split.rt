@@ -1,19 +1,17 @@
 //! A line as fields.
 
-ghost use Rattle.std.specs.Prelude.{◌≡◌, ◌≤◌, ◌<◌, ◌-◌, ◌++◌, ◌↔◌, ◌&&◌, IsTrue};
-ghost use Rattle.std.specs.Prelude.{ℕ, Some, None, Ok, length, take, map, replicate, slice_range, nat_le};
+ghost use Rattle.std.specs.Prelude.{◌≡◌, ◌≤◌, ◌<◌, ◌-◌, ◌++◌, ◌↔◌};
+ghost use Rattle.std.specs.Prelude.{ℕ, Some, None, length, take, map, replicate};
 ghost use Rattle.std.specs.Prelude.{is_some, IfOk, IfSome, if◌then◌else◌};
 ghost use Rattle.source_defs.specs.Fields as spec;
 ghost use Rattle.source_defs.specs.Characters.{upper_case};
-ghost use Rattle.source_defs.specs.Names.{all_letters_or_digits, is_letter_or_digit, is_name, is_word, IsUpperCaseName};
-ghost use Rattle.asm_text.specs.WordKeys.{begins_apart};
-ghost use Rattle.asm_text.specs.GivenFields.{defined_fields, defined_answer, FieldsLieInside};
+ghost use Rattle.source_defs.specs.Names.{all_letters_or_digits, is_letter_or_digit, is_name, IsUpperCaseName};
+ghost use Rattle.asm_text.specs.GivenFields.{model_of_fields, model_of_answer, FieldsLieInside};
 
 use crate::characters::{is_asterisk, is_blank, is_letter, upper_case};
-use crate::line_fields::Fields;
+use crate::line_fields::{Fields, SplitLine};
 use crate::name::{KEPT_BYTES, LONGEST_NAME, Name};
 use crate::places::{operand_end, word_end, word_start};
-use crate::words::is_word;
 use source_defs::{Span, TextError};
 
 /// The most bytes that a line has.
@@ -28,7 +26,7 @@ const LONGEST_LINE: usize = 256;
 #[tactic(auto, using(source_defs::proofs::FieldLaws::no_comment), unfolding(source_defs::specs::Fields::fields))]
 #[inline(always)]
 pub fn fields(line: &[u8]) -> Result<Fields, TextError>
-    ensures value { defined_answer result ≡ spec.fields line.now }
+    ensures value { model_of_answer result ≡ spec.fields line.now }
     ensures too_long { (result ≡ Err TextError.LineTooLong) ↔ (spec.longest_line < length line.now) }
     ensures bad_label { (result ≡ Err TextError.BadLabel) ↔ spec.HasBadLabel line.now }
     ensures inside { IfOk result (FieldsLieInside line.now) }
@@ -55,47 +53,13 @@ pub fn fields(line: &[u8]) -> Result<Fields, TextError>
     }
 }
 
-/// Whether what stands in a line after its label field and the blanks after that, up to a blank, is a word, but for
-/// the case of its letters: the operation, where the line is no comment and has one. The word is given in upper case.
-#[tactic(auto, using(crate::proofs::Beginnings::no_word, source_defs::proofs::LeastLaws::least_bounds))]
-pub fn is_operation(line: &[u8], word: &[u8]) -> bool
-    ensures { result ≡ is_word (slice_range line.now (spec.word_start line.now (spec.word_end line.now 0))
-        (spec.word_end line.now (spec.word_start line.now (spec.word_end line.now 0)))) word.now }
+/// A line with its fields.
+pub fn split_line(line: &[u8]) -> SplitLine<'_>
+    ensures { result.text.now ≡ line.now }
 {
-    let start = word_start(line, word_end(line, 0));
-    if begins_apart(&line[start..], word) {
-        return false;
-    }
-    is_word(&line[start..word_end(line, start)], word)
-}
-
-/// Whether a text and a word begin with different letters, whatever the case of the text's.
-fn begins_apart(text: &[u8], word: &[u8]) -> bool
-    ensures { result ≡ begins_apart text.now word.now }
-{
-    match (text, word) {
-        ([first, ..], [letter, ..]) => upper_case(*first) != *letter,
-        _ => false,
-    }
-}
-
-/// Whether a line is a comment of at most 256 bytes: blank, or with an asterisk in column 1. It has no fields then.
-#[tactic(auto, unfolding(source_defs::specs::Fields::fields))]
-pub fn is_comment_line(line: &[u8]) -> bool
-    ensures told { result ≡ (nat_le (length line.now) spec.longest_line && spec.is_comment line.now) }
-    ensures fields { IsTrue result → spec.fields line.now ≡ Ok spec.no_fields }
-{
-    line.len() <= LONGEST_LINE && is_blank_or_comment(line)
-}
-
-/// Whether a line is blank or has an asterisk in column 1. One whose last byte is no blank is not blank.
-#[tactic(auto, using(crate::proofs::Comments::told_by_last))]
-fn is_blank_or_comment(line: &[u8]) -> bool
-    ensures { result ≡ spec.is_comment line.now }
-{
-    match line {
-        [.., last] if !is_blank(*last) => is_asterisk(line[0]),
-        _ => is_comment(line, word_start(line, 0)),
+    SplitLine {
+        text: line,
+        fields: fields(line),
     }
 }
 
@@ -112,7 +76,7 @@ fn is_comment(line: &[u8], start: usize) -> bool
 fn fields_at(line: &[u8], label: Option<Name>, start: usize) -> Fields
     requires { start ≤ length line.now }
     ensures value { (from : ℕ) → start ≡ spec.word_start line.now from →
-        defined_fields result ≡ spec.fields_after line.now label from }
+        model_of_fields result ≡ spec.fields_after line.now label from }
     ensures inside { FieldsLieInside line.now result }
 {
     let end = word_end(line, start);

@@ -12,7 +12,7 @@ ghost use Rattle.source_defs.specs.Expression.{Absolute, expression};
 ghost use Rattle.source_defs.specs.Expression as values;
 ghost use Rattle.source_defs.specs.Characters.{upper_case};
 ghost use Rattle.source_defs.specs.Names.{is_name};
-ghost use Rattle.asm_text.specs.GivenValues.{defined_value};
+ghost use Rattle.asm_text.specs.GivenValues.{model_of_value};
 ghost use Rattle.asm_text.specs.Kept.{begins_as_register};
 
 use crate::characters::{is_digit, upper_case};
@@ -69,7 +69,7 @@ impl Symbols {
     /// `Duplicate` comes exactly where the name stands for something already, and `Memory` means that memory ran out.
     /// After an error all is as before.
     pub fn define(&mut self, name: Name, value: Value) -> Result<(), DefineError>
-        ensures defined { OnOk result (self.new ≡ insert self.old name (defined_value value)) }
+        ensures defined { OnOk result (self.new ≡ insert self.old name (model_of_value value)) }
         ensures no_register { OnOk result (find (slice_cmp nat_cmp) name spec.registers ≡ None) }
         ensures duplicate { (result ≡ Err DefineError.Duplicate) ↔ IsSome (get self.old name) }
         ensures unchanged { OnErr result (self.new ≡ self.old) }
@@ -84,7 +84,7 @@ impl Symbols {
     /// Takes a name out, which is no register, and answers what it stood for. All other names stay. It takes no memory.
     pub fn remove(&mut self, name: &Name) -> Option<Value>
         requires { find (slice_cmp nat_cmp) name.now spec.registers ≡ None }
-        ensures was { option_map defined_value result ≡ get self.old name.now }
+        ensures was { option_map model_of_value result ≡ get self.old name.now }
         ensures removed { self.new ≡ remove self.old name.now }
     {
         self.defined.remove(name)
@@ -93,7 +93,7 @@ impl Symbols {
     /// What a text stands for that is the name of a register alone, its letter in either case.
     pub(crate) fn register_in(&self, text: &[u8]) -> Option<Value>
         ensures { IfSome result (λ value. (here : values.Value) →
-            expression (spec.look_up self.now) here text.now ≡ Ok (defined_value value)) }
+            expression (spec.look_up self.now) here text.now ≡ Ok (model_of_value value)) }
     {
         // The clause speaks of the names that are kept.
         let _ = &self.defined;
@@ -103,7 +103,7 @@ impl Symbols {
 
     /// What a name stands for.
     pub fn get(&self, name: &Name) -> Option<Value>
-        ensures { option_map defined_value result ≡ get self.now name.now }
+        ensures { option_map model_of_value result ≡ get self.now name.now }
     {
         match register_number(name.as_bytes()) {
             Some(number) => Some(Value::Absolute(number)),

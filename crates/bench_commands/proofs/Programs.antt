@@ -9,7 +9,7 @@ use Rattle.gpl_step_defs.specs.State.{GplState, start}
 use Rattle.gpl_step_defs.specs.Run.{GplRun, run}
 use Rattle.interp_defs.specs.Match.{shown_by}
 use Rattle.interp_defs.specs.Programs.{EndsAs}
-use Rattle.gpl_run.specs.Sessions.{SessionState, seen, image_of, entry_of}
+use Rattle.gpl_run.specs.Sessions.{SessionState, gpl_state_of, image_of, entry_of}
 use Rattle.report_defs.specs.Program.{stop_lines, program_lines, program_status}
 use Rattle.trace_dump.proofs.Shown.{seen_by, same_pc, same_state}
 use Rattle.report_defs.specs.declared.summary.Summary.{Summary}
@@ -19,7 +19,7 @@ use Rattle.list_defs.specs.Lists.{sum_bytes}
 use Rattle.reports.specs.declared.report.Report.TheVariants as reported
 use Rattle.bench_commands.specs.declared.commands.program.LoadedProgram.{LoadedProgram}
 use Rattle.bench_commands.specs.Loaded.{LoadsEntered}
-use Rattle.reports.specs.Made.{defined_report}
+use Rattle.reports.specs.Made.{model_of_report}
 use Rattle.bench_commands.specs.Ran.{RanProgram}
 
 -- What is seen of a program at its end is its last state.
@@ -30,10 +30,10 @@ ended_lines stop last x memory ends =
 
 -- The end of a session is that of the run of its program, behind what was shown of its steps.
 pub ends_alike : (shown : List (List ℕ)) (r : GplRun) (t : SessionState) → t.ended ≡ r.stop → IsMemory t.machine.cpu.memory → EndsAs r.stop r.last t.machine →
-    Whole (program_status t.ended) (shown ++ program_lines t.ended (seen t) t.machine) ≡ Whole (program_status r.stop) (shown ++ program_lines r.stop r.last t.machine)
+    Whole (program_status t.ended) (shown ++ program_lines t.ended (gpl_state_of t) t.machine) ≡ Whole (program_status r.stop) (shown ++ program_lines r.stop r.last t.machine)
 ends_alike shown r t ended memory ends =
     let x = t.machine in
-    ap (λ (e : Option Reason). Whole (program_status e) (shown ++ program_lines e (seen (record { machine = x; ended = e })) x)) ended
+    ap (λ (e : Option Reason). Whole (program_status e) (shown ++ program_lines e (gpl_state_of (record { machine = x; ended = e })) x)) ended
     ∙ ap (λ (lines : List (List ℕ)). Whole (program_status r.stop) (shown ++ lines)) (ended_lines r.stop r.last x memory ends)
 
 -- The cells and the video memory that are seen at the end are those of the last state.
@@ -74,7 +74,7 @@ module _ (limit : ℕ) (image : Image) (entry : Option ℕ) (loaded : LoadedProg
   abbrev run_is : GplRun
   run_is = run limit (start l.bytes l.address)
 
-  pub reports_program : ReportsProgram run_lines limit image l.address (defined_report (reported.Program t))
+  pub reports_program : ReportsProgram run_lines limit image l.address (model_of_report (reported.Program t))
   reports_program = record {
     bytes = l.bytes;
     of_image = l.of_image;
@@ -84,7 +84,7 @@ module _ (limit : ℕ) (image : Image) (entry : Option ℕ) (loaded : LoadedProg
   }
 
   pub reports_demo : (number : ℕ) (summary : Summary) → summary ≡ summary_of number loaded.image_size (ran_of made t) t.machine →
-      ReportsProgram (demo_lines number) limit image l.address (defined_report (reported.Demo summary))
+      ReportsProgram (demo_lines number) limit image l.address (model_of_report (reported.Demo summary))
   reports_demo number summary is = record {
     bytes = l.bytes;
     of_image = l.of_image;

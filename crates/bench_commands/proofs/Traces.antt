@@ -16,7 +16,7 @@ use Rattle.gpl_step_defs.specs.State.{GplState, start}
 use Rattle.gpl_step_defs.specs.Run.{run}
 use Rattle.interp_defs.specs.Programs.{RunsSteps}
 use Rattle.interp_defs.proofs.Machines.{runs_program}
-use Rattle.gpl_run.specs.Sessions.{SessionState, seen, image_of, entry_of}
+use Rattle.gpl_run.specs.Sessions.{SessionState, gpl_state_of, image_of, entry_of}
 use Rattle.report_defs.specs.declared.status.Status.{Status}
 use Rattle.report_defs.specs.declared.status.Status.TheVariants as status
 use Rattle.report_defs.specs.declared.command.Command.{Command}
@@ -29,7 +29,7 @@ use Rattle.bench_commands.specs.declared.trace.Trace.{Trace}
 use Rattle.bench_commands.specs.declared.commands.program.LoadedProgram.{LoadedProgram}
 use Rattle.bench_commands.specs.declared.prepared.Prepared.{Prepared}
 use Rattle.bench_commands.specs.declared.prepared.Prepared.TheVariants as prepared
-use Rattle.reports.specs.Made.{defined_report}
+use Rattle.reports.specs.Made.{model_of_report}
 use Rattle.reports.specs.Outputs.{Outputs, EndsWith}
 use Rattle.reports.specs.Run.{EndsBy}
 use Rattle.bench_commands.specs.InputRun.{TakesWhole, InputCommands, input_program}
@@ -42,10 +42,10 @@ use Rattle.bench_commands.proofs.LoadedSources.{of_program}
 use Rattle.bench_commands.proofs.Programs.{ends_alike}
 
 -- the state before the first step is the start of the program
-began : (image : Image) (entry : Option ℕ) (loaded : LoadedProgram) (l : LoadsEntered image entry loaded) (t : SessionState) (s : Started loaded.machine t) → seen t ≡ start l.bytes l.address
+began : (image : Image) (entry : Option ℕ) (loaded : LoadedProgram) (l : LoadsEntered image entry loaded) (t : SessionState) (s : Started loaded.machine t) → gpl_state_of t ≡ start l.bytes l.address
 began image entry loaded l t s =
     let x = loaded.machine in
-    let shown : seen t ≡ start (image_of x) (entry_of x) = ap (λ (e : Option _). seen (record { machine = t.machine; ended = e })) s.running ∙ s.matches.shows in
+    let shown : gpl_state_of t ≡ start (image_of x) (entry_of x) = ap (λ (e : Option _). gpl_state_of (record { machine = t.machine; ended = e })) s.running ∙ s.matches.shows in
     shown
     ∙ ap (λ (i : List ℕ). start i (entry_of x)) (ap (λ (g : GromState). g.image) l.boots.grom)
     ∙ ap (start l.bytes) l.boots.scratchpad.word
@@ -54,22 +54,22 @@ module _ (shows : ShowsChanges) (input : List ℕ) (trace : Trace) (t : TracesSo
   abbrev l : LoadsEntered t.loads.program.image t.loads.program.entry t.new
   l = t.loads.entered
 
-  first_is : seen trace.session ≡ start l.bytes l.address
+  first_is : gpl_state_of trace.session ≡ start l.bytes l.address
   first_is = began t.loads.program.image t.loads.program.entry t.new l trace.session t.started
 
   abbrev whole_from : GplState → SessionState → spec.Report
-  whole_from s left = spec.Whole (program_status left.ended) (step_lines shows s (run trace.limit s).done ++ program_lines left.ended (seen left) left.machine)
+  whole_from s left = spec.Whole (program_status left.ended) (step_lines shows s (run trace.limit s).done ++ program_lines left.ended (gpl_state_of left) left.machine)
 
   abbrev front_from : GplState → spec.Report
   front_from s = spec.Whole status.Done (step_lines shows s (run trace.limit s).done)
 
   whole_reported : (o : Outputs) (st : Status) (w : TracesWhole shows o trace st)
-      → spec.ProgramReport (spec.ReportsProgram (spec.shown_lines shows) trace.limit) (program_of_source input) (whole_from (seen trace.session) w.left)
+      → spec.ProgramReport (spec.ReportsProgram (spec.shown_lines shows) trace.limit) (program_of_source input) (whole_from (gpl_state_of trace.session) w.left)
   whole_reported o st w =
       let s : GplState = start l.bytes l.address in
       let runs = subst (λ (q : GplState). RunsSteps q trace.limit w.count trace.session.machine w.left.machine) first_is w.runs in
       let ended : w.left.ended ≡ (run trace.limit s).stop = w.ended ∙ ap (λ (q : GplState). (run trace.limit q).stop) first_is in
-      of_program (spec.ReportsProgram (spec.shown_lines shows) trace.limit) (program_of_source input) (whole_from (seen trace.session) w.left) t.new t.loads (record {
+      of_program (spec.ReportsProgram (spec.shown_lines shows) trace.limit) (program_of_source input) (whole_from (gpl_state_of trace.session) w.left) t.new t.loads (record {
         bytes = l.bytes;
         of_image = l.of_image;
         left = w.left.machine;
@@ -77,9 +77,9 @@ module _ (shows : ShowsChanges) (input : List ℕ) (trace : Trace) (t : TracesSo
         is = ap (λ (q : GplState). whole_from q w.left) first_is ∙ ends_alike (step_lines shows s (run trace.limit s).done) (run trace.limit s) w.left ended w.memory runs.ends;
       })
 
-  front_reported : spec.ProgramReport (spec.ShowsSteps shows trace.limit) (program_of_source input) (front_from (seen trace.session))
+  front_reported : spec.ProgramReport (spec.ShowsSteps shows trace.limit) (program_of_source input) (front_from (gpl_state_of trace.session))
   front_reported =
-      of_program (spec.ShowsSteps shows trace.limit) (program_of_source input) (front_from (seen trace.session)) t.new t.loads (record {
+      of_program (spec.ShowsSteps shows trace.limit) (program_of_source input) (front_from (gpl_state_of trace.session)) t.new t.loads (record {
         bytes = l.bytes;
         of_image = l.of_image;
         is = ap front_from first_is;
@@ -95,10 +95,10 @@ module _ (shows : ShowsChanges) (input : List ℕ) (trace : Trace) (t : TracesSo
     pub by_trace : (st : Status) → EndsTrace shows o trace st
         → EndsBy (input_program p) (run_of p no_usage command before after o) st
     by_trace st (inl w) =
-        let accepted = whole (whole_from (seen trace.session) w.left) (whole_reported o st w) in
-        by_answer p no_usage command before after o input takes (Ok (whole_from (seen trace.session) w.left)) st accepted w.ends
+        let accepted = whole (whole_from (gpl_state_of trace.session) w.left) (whole_reported o st w) in
+        by_answer p no_usage command before after o input takes (Ok (whole_from (gpl_state_of trace.session) w.left)) st accepted w.ends
     by_trace st (inr b) =
-        let shown = front_from (seen trace.session) in
+        let shown = front_from (gpl_state_of trace.session) in
         let le = within p no_usage command before after o input takes in
         let on : p.PrefixOn command input shown = front shown (le, front_reported) in
         subst (EndsBy (input_program p) (run_of p no_usage command before after o)) (sym b.is)
@@ -109,7 +109,7 @@ module _ (command : Command) (before after : SourceState) (o : Outputs) (bytes :
   pub by_prepared : (p : Prepared) (st : Status) → Prepares command bytes (Ok p) → Finishes o p st
       → EndsBy bench_program (run_of bench_input no_usage command before after o) st
   by_prepared (prepared.Report report) st accepted ends =
-      by_answer bench_input no_usage command before after o bytes takes (Ok (defined_report report)) st accepted ends
+      by_answer bench_input no_usage command before after o bytes takes (Ok (model_of_report report)) st accepted ends
   by_prepared (prepared.Trace trace) st (is, t) ends =
       by_trace changes_text bytes trace t bench_input no_usage command before after o takes
       (λ report on. subst (λ (k : Command). spec.AcceptedReport k bytes report) (sym is) on)
@@ -131,9 +131,9 @@ not_both b e f = cc
 -- the steps were shown, and then the end of the program
 pub traces_whole : {E : Type 0} (shows : ShowsChanges) (o : Outputs) (trace : Trace) (left : SessionState) (middle : SinkState) (before after : ℕ) (r : Result ℕ E) (st : Status) →
     Plays shows trace.limit trace.session left before after o.out middle r → is_err r ≡ false → IsMemory left.machine.cpu.memory →
-    EndsWith (record o { out = middle }) (defined_report (made.Program left)) st → EndsTrace shows o trace st
+    EndsWith (record o { out = middle }) (model_of_report (made.Program left)) st → EndsTrace shows o trace st
 traces_whole shows o trace left middle before after (Ok done) st p none memory ends =
-    let s = seen trace.session in
+    let s = gpl_state_of trace.session in
     let wrote = subst (λ (n : ℕ). Wrote o.out middle (step_lines shows s n)) p.runs.done_is p.wrote in
     inl (record {
       left = left;
@@ -141,7 +141,7 @@ traces_whole shows o trace left middle before after (Ok done) st p none memory e
       count = p.runs.count;
       runs = p.runs.runs;
       ended = p.runs.stop_is;
-      ends = ends_behind o middle (step_lines shows s (run trace.limit s).done) (program_lines left.ended (seen left) left.machine) (program_status left.ended) st wrote ends;
+      ends = ends_behind o middle (step_lines shows s (run trace.limit s).done) (program_lines left.ended (gpl_state_of left) left.machine) (program_status left.ended) st wrote ends;
     })
 traces_whole shows o trace left middle before after (Err error) st p none memory ends = absurd (not_both true refl none)
 

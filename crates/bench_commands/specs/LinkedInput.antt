@@ -2,7 +2,7 @@
 use Rattle.std.specs.Prelude.{◌≡◌, ℕ, List, Result, Ok, Err}
 use Rattle.console_defs.specs.Machine.{MachineState}
 use Rattle.link_defs.specs.LinkedMemory.{LinkedMemory}
-use Rattle.link_loader.specs.View.{defined_linked}
+use Rattle.link_loader.specs.View.{model_of_linked}
 use Rattle.link_loader.specs.declared.linked.Linked.{Linked}
 use Rattle.report_defs.specs.Exec.{IsStart}
 use Rattle.report_defs.specs.Report.{Report, Rejected}
@@ -15,7 +15,7 @@ RejectsAs defined report = (line : List ℕ) × (defined ≡ Err line) × (repor
 
 -- what is given is what is defined; if memory ran out, nothing is said
 abbrev pub LinksInput : Result Linked CommandError → Result LinkedMemory (List ℕ) → Type 0
-LinksInput (Ok linked) defined = defined ≡ Ok (defined_linked linked)
+LinksInput (Ok linked) defined = defined ≡ Ok (model_of_linked linked)
 LinksInput (Err command_error) defined = Reported (RejectsAs defined) WantsMemory (error_answer command_error)
 
 -- a machine at the entry of the linked memory, or why there is none

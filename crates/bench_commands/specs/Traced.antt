@@ -9,7 +9,7 @@ use Rattle.bench_io.specs.Written.{Missed}
 use Rattle.interp_defs.specs.Match.{Matches}
 use Rattle.interp_defs.specs.Turns.{Boots}
 use Rattle.interp_defs.specs.Programs.{RunsSteps, most_of_boot}
-use Rattle.gpl_run.specs.Sessions.{SessionState, seen, image_of, entry_of}
+use Rattle.gpl_run.specs.Sessions.{SessionState, gpl_state_of, image_of, entry_of}
 use Rattle.report_defs.specs.declared.command.Command.{Command}
 use Rattle.report_defs.specs.declared.command.Command.TheVariants as asked
 use Rattle.report_defs.specs.declared.status.Status.{Status}
@@ -23,7 +23,7 @@ use Rattle.bench_commands.specs.declared.prepared.Prepared.{Prepared}
 use Rattle.bench_commands.specs.declared.prepared.Prepared.TheVariants as prepared
 use Rattle.bench_commands.specs.declared.trace.Trace.{Trace}
 use Rattle.reports.specs.declared.command_error.CommandError.{CommandError}
-use Rattle.reports.specs.Made.{defined_report}
+use Rattle.reports.specs.Made.{model_of_report}
 use Rattle.reports.specs.Answers.{WantsMemory, Reported, error_answer}
 use Rattle.bench_commands.specs.Loaded.{LoadsProgram, RunsNone}
 use Rattle.reports.specs.Outputs.{Outputs, EndsWith}
@@ -40,7 +40,7 @@ pub record Started (new : MachineState) (session : SessionState) : Type 0 where
 -- what a trace needs: its program is running, and was seen
 pub record CanTrace (trace : Trace) : Type 0 where
   pub running : trace.session.ended ≡ None
-  pub kept : trace.seen ≡ seen_state (seen trace.session)
+  pub kept : trace.seen ≡ seen_state (gpl_state_of trace.session)
   pub limit : trace.limit ≤ most_steps
 
 -- a trace of the program of a source
@@ -58,7 +58,7 @@ StartsTrace limit input (Err command_error) =
 
 -- what is made of an input that is not too large, or why nothing is
 abbrev pub Prepares : Command → List ℕ → Result Prepared CommandError → Type 0
-Prepares command input (Ok (prepared.Report report)) = AcceptedReport command input (defined_report report)
+Prepares command input (Ok (prepared.Report report)) = AcceptedReport command input (model_of_report report)
 Prepares command input (Ok (prepared.Trace trace)) = (command ≡ asked.Trace trace.limit) × TracesSource input trace
 Prepares command input (Err command_error) =
     Reported (AcceptedReport command input) WantsMemory (error_answer command_error)
@@ -68,16 +68,17 @@ pub record TracesWhole (shows : ShowsChanges) (o : Outputs) (trace : Trace) (sta
   pub left : SessionState
   pub memory : IsMemory left.machine.cpu.memory
   pub count : ℕ
-  pub runs : RunsSteps (seen trace.session) trace.limit count trace.session.machine left.machine
-  pub ended : left.ended ≡ (run trace.limit (seen trace.session)).stop
-  pub ends : let s = seen trace.session in
-      let lines = step_lines shows s (run trace.limit s).done ++ program_lines left.ended (seen left) left.machine in
+  pub runs : RunsSteps (gpl_state_of trace.session) trace.limit count trace.session.machine left.machine
+  pub ended : left.ended ≡ (run trace.limit (gpl_state_of trace.session)).stop
+  pub ends : let s = gpl_state_of trace.session in
+      let steps = step_lines shows s (run trace.limit s).done in
+      let lines = steps ++ program_lines left.ended (gpl_state_of left) left.machine in
       EndsWith o (Whole (program_status left.ended) lines) status
 
 -- The line of a step could not be written.
 pub record BreaksOff (shows : ShowsChanges) (o : Outputs) (trace : Trace) (status : Status) : Type 0 where
   pub is : status ≡ WriteFault
-  pub missed : let s = seen trace.session in Missed o.out o.out' (step_lines shows s (run trace.limit s).done)
+  pub missed : let s = gpl_state_of trace.session in Missed o.out o.out' (step_lines shows s (run trace.limit s).done)
   pub silent : o.err' ≡ o.err
 
 abbrev pub EndsTrace : ShowsChanges → Outputs → Trace → Status → Type 0
@@ -89,5 +90,5 @@ CanFinish (prepared.Trace trace) = CanTrace trace
 
 -- how what was made ends
 abbrev pub Finishes : Outputs → Prepared → Status → Type 0
-Finishes o (prepared.Report report) status = EndsWith o (defined_report report) status
+Finishes o (prepared.Report report) status = EndsWith o (model_of_report report) status
 Finishes o (prepared.Trace trace) status = EndsTrace changes_text o trace status

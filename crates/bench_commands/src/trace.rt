@@ -68,7 +68,7 @@ fn play_session<T: StepLine, O: Sink, L: Ledger>(
     requires parts { blank.parts ≡ L.parts }
     requires some { 0 < L.parts }
     requires running { session.old.ended ≡ None }
-    requires kept { seen.old ≡ seen_state (sessions.seen session.old) }
+    requires kept { seen.old ≡ seen_state (sessions.gpl_state_of session.old) }
     requires limit { limit ≤ most_steps }
     ensures { (before : ℕ) × (after : ℕ)
         × Plays T.shows limit session.old session.new before after (O.state out.old) (O.state out.new) result }

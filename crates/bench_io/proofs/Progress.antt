@@ -1,17 +1,14 @@
 -- Lines that are written one by one.
-use Rattle.std.proofs.Common.{◌≡◌, ℕ, List, [], ◌∷◌, ◌++◌, refl, sym, ap, ◌∙◌, subst, append_assoc, append-nil}
+use Rattle.std.proofs.Common.{◌≡◌, ℕ, List, [], ◌∷◌, ◌++◌, sym, ap, ◌∙◌, subst, append_assoc, append-nil}
 use Rattle.bench_io.specs.Stream.{SinkState}
 use Rattle.bench_io.specs.Written.{Wrote, Missed}
-use Rattle.bench_io.proofs.Writes.{wrote_none, wrote_more, missed_more, missed_early}
+use Rattle.bench_io.proofs.Writes.{wrote_more, missed_more, missed_early}
 
 -- some of all lines were written, and these are left
 pub record Listed (before now : SinkState) (all left : List (List ℕ)) : Type 0 where
   pub front : List (List ℕ)
   pub wrote : Wrote before now front
   pub is : all ≡ front ++ left
-
-pub listed_none : (a : SinkState) (all : List (List ℕ)) → Listed a a all all
-listed_none a all = record { front = []; wrote = wrote_none a; is = refl }
 
 pub listed_more : (a b c : SinkState) (all left : List (List ℕ)) (line : List ℕ) → Listed a b all (line ∷ left) → Wrote b c (line ∷ []) → Listed a c all left
 listed_more a b c all left line so_far wrote = record {

@@ -82,13 +82,11 @@ largest_last a b c x m n first last = omega (arith, first.later, first.largest, 
 
 -- a last call, which gave no byte
 pub took_last : (a b c : SourceState) (x y : List ℕ) (n : ℕ) → y ≡ [] → n ≡ 1 → Took a b x 0 → Took b c y n → Took a c x 1
-took_last a b c x y n nothing one before last =
-    rw (nothing, append-nil x, one) at (took_then a b c x y 0 n before last)
+took_last a b c x y n nothing one before last = rw (nothing, append-nil x, one) at (took_then a b c x y 0 n before last)
 
 -- one more call, which gave some bytes
 pub took_more : (a b c : SourceState) (x y : List ℕ) (n : ℕ) → n ≡ 0 → Took a b x 0 → Took b c y n → Took a c (x ++ y) 0
-took_more a b c x y n some before more =
-    rw some at (took_then a b c x y 0 n before more)
+took_more a b c x y n some before more = rw some at (took_then a b c x y 0 n before more)
 
 -- so few calls were made
 pub few_calls : (a b : SourceState) (x : List ℕ) (n limit : ℕ)

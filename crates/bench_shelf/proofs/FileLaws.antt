@@ -1,14 +1,15 @@
 -- A COPY line.
 use Rattle.std.proofs.Common.{◌≡◌, ℕ, zero, suc, ◌+◌, ◌-◌, ◌<◌, ◌≤◌, true, false, List, [], ◌∷◌, ◌++◌, Some, None, Err, length, refl, sym, ap, ◌∙◌, subst, arith, append-nil, inl}
-use Rattle.std.specs.Prelude.{Option, nat_lt, nat_le}
+use Rattle.std.specs.Prelude.{Option, Ok, nat_lt, nat_le}
+use Rattle.std.specs.Option.{ok_or}
 use Rattle.std.proofs.lemmas.Bool.Decides.{nat_tests}
-use Rattle.source_defs.specs.Refusals.{◌>>=◌}
+use Rattle.source_defs.specs.Refusals.{◌>>=◌, unless}
 use Rattle.source_defs.specs.Layout.{laid, numbered, line_texts}
 use Rattle.asm_defs.specs.Locations.{Line}
 use Rattle.asm_defs.specs.FirstChecks.{check}
 use Rattle.shelf_defs.specs.Files.{Contents}
 use Rattle.shelf_defs.specs.Copied as spec
-use Rattle.shelf_defs.specs.Copied.{PlacedLine, CopyRefusal, Refused, Copied, lines_in, copied_file, copy_line, refused, most_bytes, most_copies, prepend}
+use Rattle.shelf_defs.specs.Copied.{PlacedLine, CopyRefusal, Refused, Copied, lines_in, copy_line, refused, most_bytes, most_copies, prepend}
 use Rattle.shelf_defs.specs.Assembly.{texts, in_place, unless_refused, laid_copied}
 use Rattle.bench_shelf.specs.declared.error.FileError.{FileError}
 use Rattle.bench_shelf.specs.declared.error.FileError.TheVariants as unread
@@ -17,7 +18,7 @@ use Rattle.bench_shelf.specs.declared.copying.Copying.{Copying}
 use Rattle.bench_shelf.specs.declared.copy_error.CopyError.{CopyError}
 use Rattle.bench_shelf.specs.declared.copy_error.CopyCause.{CopyCause}
 use Rattle.bench_shelf.specs.declared.copy_error.CopyCause.TheVariants as cause
-use Rattle.bench_shelf.specs.CopyAnswers.{CopyRefuses, IsNoMemory, defined_cause, defined_place, refused_at, unread_at}
+use Rattle.bench_shelf.specs.CopyAnswers.{CopyRefuses, IsNoMemory, model_of_cause, model_of_place, refused_at, unread_at}
 use Rattle.shelf_defs.specs.Questions.{Answer, Bytes, Unanswered, Question, Agrees, Fits}
 use Rattle.bench_shelf.specs.Leading.{Holds, CopiesTo, LeadsTo, Copies, Asking, EndsBy}
 use Rattle.bench_shelf.specs.Causes.{AsksOne, answer_by, IsOfName}
@@ -39,8 +40,8 @@ leads_refusal old last copies refusal error refuses same done holds =
 
 -- a COPY line for which no file is asked; its error has the place of the line
 pub refuses_none : (old : Copying) (found : Contents → Copied) (place : Place) (refusal : spec.Cause) (kept : CopyCause) (error : CopyError) (s : ShelfState)
-    → defined_cause kept ≡ refusal → IsNoMemory kept → error ≡ refused_at place kept
-    → ((contents : Contents) → found contents ≡ refused old.copies (spec.At (defined_place place) refusal)) → Copies old old found (Some error) s s
+    → model_of_cause kept ≡ refusal → IsNoMemory kept → error ≡ refused_at place kept
+    → ((contents : Contents) → found contents ≡ refused old.copies (spec.At (model_of_place place) refusal)) → Copies old old found (Some error) s s
 refuses_none old found place refusal kept error s same memory is refuses =
     subst (λ error. Copies old old found (Some error) s s) (sym is) (record {
       questions = [];
@@ -48,9 +49,16 @@ refuses_none old found place refusal kept error s same memory is refuses =
       ends = tt;
       leads = λ contents agrees.
           subst (λ found. CopiesTo old found (Some (refused_at place kept)) old) (sym (refuses contents))
-          (leads_refusal old old old.copies (spec.At (defined_place place) refusal) (refused_at place kept)
-          (memory, ap (λ refusal. Err (spec.At (defined_place place) refusal)) (sym same)) (λ done holds. holds));
+          (leads_refusal old old old.copies (spec.At (model_of_place place) refusal) (refused_at place kept)
+          (memory, ap (λ refusal. Err (spec.At (model_of_place place) refusal)) (sym same)) (λ done holds. holds));
     })
+
+-- what the COPY line of a file comes to, by the file's bytes, if there are any
+abbrev pub copied_file : (spec.Place → ℕ → List ℕ → Copied) → spec.Place → ℕ → List ℕ → Option (List ℕ) → Copied
+copied_file copy place copies name found = spec.either (do
+  bytes ← ok_or found (refused (copies + 1) (spec.At place (spec.Missing name)))
+  bytes ← unless (nat_lt most_bytes (length bytes)) (refused (copies + 1) spec.TooLarge) bytes
+  Ok (lines_in copy (Some name) (copies + 1) (line_texts bytes)))
 
 module _ (contents : Contents) (place : spec.Place) (copies : ℕ) (name : List ℕ) where
   -- a COPY line that may be followed
@@ -70,7 +78,7 @@ module _ (contents : Contents) (place : spec.Place) (copies : ℕ) (name : List 
 
 module _ (old last : Copying) (contents : Contents) (levels : ℕ) (place : Place) (name : List ℕ) where
   abbrev found_by : Option (List ℕ) → Copied
-  found_by found = copied_file (copy_line contents levels) (defined_place place) old.copies name found
+  found_by found = copied_file (copy_line contents levels) (model_of_place place) old.copies name found
 
   -- which ends the copying
   leads_out : (error : CopyError) (answer : Option (List ℕ)) (refusal : CopyRefusal) → ((done : List PlacedLine) → Holds done old → Holds done last)
@@ -82,8 +90,8 @@ module _ (old last : Copying) (contents : Contents) (levels : ℕ) (place : Plac
   pub leads_not_read : (error : FileError) (answer : Option (List ℕ)) → ((done : List PlacedLine) → Holds done old → Holds done last)
       → IsOfName name error → Fits most_bytes (answer_by error) answer → CopiesTo old (found_by answer) (Some (unread_at place error)) last
   leads_not_read (unread.Missing other) answer same is fits =
-      leads_out (unread_at place (unread.Missing other)) answer (spec.At (defined_place place) (spec.Missing name)) same (ap found_by fits)
-      (tt, ap (λ name. Err (spec.At (defined_place place) (spec.Missing name))) (sym is))
+      leads_out (unread_at place (unread.Missing other)) answer (spec.At (model_of_place place) (spec.Missing name)) same (ap found_by fits)
+      (tt, ap (λ name. Err (spec.At (model_of_place place) (spec.Missing name))) (sym is))
   leads_not_read unread.TooLarge answer same is fits =
       let size : most_bytes < length fits.0 = fits.2 in
       let more : nat_lt most_bytes (length fits.0) ≡ true = grind (arith, nat_tests, size) in
@@ -105,12 +113,12 @@ module _ (old last : Copying) (contents : Contents) (levels : ℕ) (place : Plac
 -- A COPY line, by what is heard of its file.
 module _ (old : Copying) (levels : ℕ) (place : Place) (name : List ℕ) (some : 0 < levels) (s : ShelfState) where
   abbrev line_by : Contents → Copied
-  line_by contents = copy_line contents levels (defined_place place) old.copies name
+  line_by contents = copy_line contents levels (model_of_place place) old.copies name
 
   pub many_copies : (error : CopyError) → 64 ≤ old.copies → error ≡ refused_at place cause.TooMany → Copies old old line_by (Some error) s s
   many_copies error many is =
       refuses_none old line_by place spec.TooMany cause.TooMany error s refl tt is
-      (λ contents. too_many contents (defined_place place) old.copies name levels some many)
+      (λ contents. too_many contents (model_of_place place) old.copies name levels some many)
 
   module _ (few : old.copies < 64) where
     abbrev question : Answer → Question
@@ -118,7 +126,7 @@ module _ (old : Copying) (levels : ℕ) (place : Place) (name : List ℕ) (some 
 
     by_more : (contents : Contents) (error : Option CopyError) (last : Copying)
         → CopiesTo old (found_by old last contents (levels - 1) place name (contents old.copies name)) error last → CopiesTo old (line_by contents) error last
-    by_more contents error last leads = subst (λ found. CopiesTo old found error last) (sym (copy_more contents (defined_place place) old.copies name levels some few)) leads
+    by_more contents error last leads = subst (λ found. CopiesTo old found error last) (sym (copy_more contents (model_of_place place) old.copies name levels some few)) leads
 
     not_read : (contents : Contents) (error : FileError) (last : Copying) → ((done : List PlacedLine) → Holds done old → Holds done last)
         → IsOfName name error → Fits most_bytes (answer_by error) (contents old.copies name) → CopiesTo old (line_by contents) (Some (unread_at place error)) last
@@ -131,7 +139,7 @@ module _ (old : Copying) (levels : ℕ) (place : Place) (name : List ℕ) (some 
       number = omega (arith, copies);
       turns = (
         (
-          defined_place place,
+          model_of_place place,
           λ contents agrees none.
               let at : old.copies + length {A = Question} [] ≡ old.copies = omega arith in
               (old, not_read contents (unread.Missing name) old (λ done holds. holds) refl (subst (λ n. contents n name ≡ None) at none)),
@@ -196,7 +204,7 @@ deep_by contents zero place copies name none = refl
 deep_by contents (suc levels) place copies name none = absurd (omega (arith, none))
 
 pub deep_copies : (old : Copying) (levels : ℕ) (place : Place) (name : List ℕ) (s : ShelfState) (error : CopyError) → levels ≡ 0 → error ≡ refused_at place cause.TooDeep
-    → Copies old old (λ contents. copy_line contents levels (defined_place place) old.copies name) (Some error) s s
+    → Copies old old (λ contents. copy_line contents levels (model_of_place place) old.copies name) (Some error) s s
 deep_copies old levels place name s error none is =
-    refuses_none old (λ contents. copy_line contents levels (defined_place place) old.copies name) place spec.TooDeep cause.TooDeep error s refl tt is
-    (λ contents. deep_by contents levels (defined_place place) old.copies name none)
+    refuses_none old (λ contents. copy_line contents levels (model_of_place place) old.copies name) place spec.TooDeep cause.TooDeep error s refl tt is
+    (λ contents. deep_by contents levels (model_of_place place) old.copies name none)

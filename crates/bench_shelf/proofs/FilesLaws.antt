@@ -1,7 +1,7 @@
 -- What the contents of a shelf tell, where its files are told, and where they are not.
 use Rattle.std.proofs.Common.{◌≡◌, ℕ, List, Some, None, Ok, Err, sym, ◌∙◌, subst}
 use Rattle.std.specs.Prelude.{Option, Result, IfSome}
-use Rattle.object_tags.specs.Seen.{defined_module}
+use Rattle.object_tags.specs.Seen.{model_of_module}
 use Rattle.object_tags.specs.declared.parts.Module.{Module}
 use Rattle.object_defs.specs.Modules as object
 use Rattle.asm_core.proofs.EndedLines.{lines_make_texts}
@@ -38,7 +38,7 @@ module _ (before after : ShelfState) (source : List ℕ) where
 
   -- a module is that of some lines, also where the shelf shows no files
   pub module_is_of_lines : (found : Module) → Answered before after source (Ok found)
-      → IsOfLines (defined_module found)
+      → IsOfLines (model_of_module found)
   module_is_of_lines found answered =
       let some = some_contents most_bytes answered.questions in (
         texts (copied_by some.0 source).lines,

@@ -17,5 +17,4 @@ pub mod CountLaws
 pub mod SinceLaws
 pub mod RunLaws
 pub mod FolderLaws
-pub mod CopyWords
 pub mod ListedLaws

@@ -4,7 +4,7 @@ use Rattle.std.specs.Prelude.{Option, Result, IfErr}
 use Rattle.source_defs.specs.Refusals.{Refusal, ◌>>=◌}
 use Rattle.source_defs.specs.Layout.{laid, numbered, line_texts}
 use Rattle.object_defs.specs.Modules as object
-use Rattle.object_tags.specs.Seen.{defined_module}
+use Rattle.object_tags.specs.Seen.{model_of_module}
 use Rattle.object_tags.specs.declared.parts.Module.{Module}
 use Rattle.asm_defs.specs.declared.causes.AsmCause.{AsmCause}
 use Rattle.asm_defs.specs.Locations.{Line}
@@ -135,7 +135,7 @@ module _ (source : List ℕ) (old new : Copying) (before after : ShelfState) (no
           by_cases (Err error) gives = gives
           by_cases (Ok module_) gives = (
             lines_make_texts (texts (copied_by contents source).lines) (copied_one contents source)
-                ∙ module_by_lines (copied_by contents source) (laid check (numbered 1 (texts (copied_by contents source).lines))) (defined_module module_) gives,
+                ∙ module_by_lines (copied_by contents source) (laid check (numbered 1 (texts (copied_by contents source).lines))) (model_of_module module_) gives,
             number,
             gives,
           )

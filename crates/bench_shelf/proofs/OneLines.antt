@@ -1,7 +1,8 @@
 -- Copied lines hold no line feeds.
 use Rattle.std.proofs.Common.{◌≡◌, ℕ, zero, suc, ◌+◌, ◌-◌, ◌<◌, Bool, true, false, List, [], ◌∷◌, ◌++◌, Some, None, length, get_or, drop, length-take, refl, ap, ◌∙◌, arith}
 use Rattle.std.proofs.lemmas.List.{get_or-take, get_or-drop}
-use Rattle.std.specs.Prelude.{Option, map, nat_lt, nat_le, if◌then◌else◌}
+use Rattle.std.specs.Prelude.{Option, Ok, map, nat_lt, nat_le}
+use Rattle.std.specs.Option.{ok_or}
 use Rattle.std.specs.List.{AllByRecursion}
 use Rattle.source_defs.specs.declared.text.Line.{Line as TextLine}
 use Rattle.source_defs.specs.Characters.{is_line_feed}
@@ -12,7 +13,9 @@ use Rattle.source_defs.proofs.LineLaws.{lines_are_lines}
 use Rattle.source_defs.specs.EndedLines.{IsOneLine}
 use Rattle.shelf_defs.specs.CopyLines.{LineKind, Itself, File, Bad, asked}
 use Rattle.shelf_defs.specs.Files.{Contents}
-use Rattle.shelf_defs.specs.Copied.{Place, copy_line, copied_by, PlacedLine, Ending, Open, Ended, Refused, Copied, then_by, lines_in, copied_file, asked_line, most_bytes, most_copies}
+use Rattle.shelf_defs.specs.Copied.{Place, copy_line, copied_by, PlacedLine, Ending, Open, Ended, Refused, Copied, then_by, lines_in, asked_line, At, TooMany, Missing, TooLarge, either, refused, most_bytes, most_copies}
+use Rattle.bench_shelf.proofs.FileLaws.{copied_file}
+use Rattle.source_defs.specs.Refusals.{◌>>=◌, unless}
 use Rattle.shelf_defs.specs.Assembly.{texts}
 
 -- each of some lines holds none
@@ -72,23 +75,31 @@ module _ (copy : Place → ℕ → List ℕ → Copied) (each : IsOneCopy copy) 
       (asked_one (asked line.1) (record { file = file; line = line.0 }) copies line.1 all.0)
       (λ copies. lines_one file copies lines all.1)
 
-one_of_two : (b : Bool) (first second : Copied) → AreOneLines first.lines → AreOneLines second.lines → AreOneLines (if b then first else second).lines
-one_of_two true first second a b = a
-one_of_two false first second a b = b
-
 module _ (contents : Contents) where
   file_one : (copy : Place → ℕ → List ℕ → Copied) → IsOneCopy copy → (place : Place) (copies : ℕ) (name : List ℕ) (found : Option (List ℕ))
       → AreOneLines (copied_file copy place copies name found).lines
   file_one copy each place copies name None = tt
-  file_one copy each place copies name (Some bytes) =
-      one_of_two (nat_lt most_bytes (length bytes)) _ (lines_in copy (Some name) (copies + 1) (line_texts bytes)) tt
-      (lines_one copy each (Some name) (copies + 1) (line_texts bytes) (texts_one bytes))
+  file_one copy each place copies name (Some bytes) = by (nat_lt most_bytes (length bytes))
+    where
+      by : (large : Bool) → AreOneLines (either (do
+        bytes ← unless large (refused (copies + 1) TooLarge) bytes
+        Ok (lines_in copy (Some name) (copies + 1) (line_texts bytes)))).lines
+      by true = tt
+      by false = lines_one copy each (Some name) (copies + 1) (line_texts bytes) (texts_one bytes)
+
+  many_one : (copy : Place → ℕ → List ℕ → Copied) → IsOneCopy copy → (place : Place) (copies : ℕ) (name : List ℕ) (many : Bool)
+      → AreOneLines (either (do
+        name ← unless many (refused copies (At place TooMany)) name
+        bytes ← ok_or (contents copies name) (refused (copies + 1) (At place (Missing name)))
+        bytes ← unless (nat_lt most_bytes (length bytes)) (refused (copies + 1) TooLarge) bytes
+        Ok (lines_in copy (Some name) (copies + 1) (line_texts bytes)))).lines
+  many_one copy each place copies name true = tt
+  many_one copy each place copies name false = file_one copy each place copies name (contents copies name)
 
   copy_one : (levels : ℕ) → IsOneCopy (copy_line contents levels)
   copy_one zero place copies name = tt
   copy_one (suc levels) place copies name =
-      one_of_two (nat_le most_copies copies) _ (copied_file (copy_line contents levels) place copies name (contents copies name)) tt
-      (file_one (copy_line contents levels) (copy_one levels) place copies name (contents copies name))
+      many_one (copy_line contents levels) (copy_one levels) place copies name (nat_le most_copies copies)
 
 seen_one : (lines : List PlacedLine) → AreOneLines lines → AllByRecursion IsOneLine (texts lines)
 seen_one [] all = tt

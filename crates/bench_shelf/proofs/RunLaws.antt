@@ -9,7 +9,7 @@ use Rattle.std.proofs.lemmas.List.{drop_more, set_split}
 use Rattle.shelf_defs.specs.Copied as spec
 use Rattle.bench_shelf.specs.declared.place.Place.{Place}
 use Rattle.bench_shelf.specs.declared.run.Run.{Run}
-use Rattle.bench_shelf.specs.CopyAnswers.{defined_place}
+use Rattle.bench_shelf.specs.CopyAnswers.{model_of_place}
 use Rattle.bench_shelf.specs.Runs.{places_from, run_places, places_of, ComesNext}
 
 -- one place more
@@ -29,19 +29,19 @@ of_last first run = flat_map-append run_places first (run ∷ []) ∙ ap (λ pla
 -- the last run with the place that comes next
 pub places_next : (old mid new : List Run) (last longer : Run) (place : Place) → old ≡ mid ++ last ∷ [] → ComesNext last place
     → longer.file ≡ last.file → longer.line ≡ last.line → longer.count ≡ last.count + 1 → new ≡ mid ++ longer ∷ []
-    → places_of new ≡ places_of old ++ defined_place place ∷ []
+    → places_of new ≡ places_of old ++ model_of_place place ∷ []
 places_next old mid new last longer place was next same first count is =
     let file = last.file in
     let line = last.line in
     let more : suc last.count ≡ last.count + 1 = omega arith in
-    let run_is : run_places longer ≡ run_places last ++ defined_place place ∷ [] =
+    let run_is : run_places longer ≡ run_places last ++ model_of_place place ∷ [] =
     rw (same, first, count ∙ sym more, from_more file line last.count, next.file, next.line) refl in
-    rw (is, was, of_last mid longer, of_last mid last, run_is, append_assoc (places_of mid) (run_places last) (defined_place place ∷ [])) refl
+    rw (is, was, of_last mid longer, of_last mid last, run_is, append_assoc (places_of mid) (run_places last) (model_of_place place ∷ [])) refl
 
 -- the last run is one place longer
 pub places_grown : (runs : List Run) (at : ℕ) (last longer : Run) (place : Place) → at + 1 ≡ length runs → last ≡ get_or runs at last
     → ComesNext last place → longer.file ≡ last.file → longer.line ≡ last.line → longer.count ≡ last.count + 1
-    → places_of (set runs at longer) ≡ places_of runs ++ defined_place place ∷ []
+    → places_of (set runs at longer) ≡ places_of runs ++ model_of_place place ∷ []
 places_grown runs at last longer place size is next same first count =
     let within : at < length runs = omega arith in
     let rest : drop (suc at) runs ≡ [] = drop_of_length-le runs {i = suc at} (omega arith) in

@@ -30,10 +30,10 @@ use Rattle.bench_shelf.specs.declared.place.Place.{Place as KeptPlace}
 use Rattle.bench_shelf.specs.declared.run.Run.{Run}
 use Rattle.bench_shelf.specs.declared.copying.Copying.{Copying}
 use Rattle.bench_shelf.specs.declared.copy_error.CopyCause.TheVariants.{Asm}
-use Rattle.bench_shelf.specs.CopyAnswers.{defined_place, refused_at}
+use Rattle.bench_shelf.specs.CopyAnswers.{model_of_place, refused_at}
 use Rattle.bench_shelf.specs.Runs.{places_of}
 use Rattle.bench_shelf.specs.declared.kept_line.KeptLine.{KeptLine}
-use Rattle.bench_shelf.specs.Kept.{defined_kept, IsKept, KeepsLine}
+use Rattle.bench_shelf.specs.Kept.{model_of_kept, IsKept, KeepsLine}
 use Rattle.asm_list_defs.specs.Listed.{heres}
 use Rattle.bench_shelf.specs.Leading.{Holds, EndsAs, GoesOn, LeadsTo}
 
@@ -131,14 +131,14 @@ module _ (done : List PlacedLine) (place : Place) (text : List ℕ) where
 -- the line is kept with the others
 kept_more : (done : List PlacedLine) (lines next : List Line) (place : KeptPlace) (text : List ℕ) (here : Location) (old new : Option (Vec KeptLine Global))
     → heres next ≡ heres lines ++ here ∷ [] → IsKept done lines old → KeepsLine old place here text new
-    → IsKept (done ++ record { place = defined_place place; text = text } ∷ []) next new
+    → IsKept (done ++ record { place = model_of_place place; text = text } ∷ []) next new
 kept_more done lines next place text here None None same kept keeps = tt
 kept_more done lines next place text here None (Some new) same kept keeps = absurd keeps
 kept_more done lines next place text here (Some old) None same kept keeps = absurd keeps
 kept_more done lines next place text here (Some old) (Some new) same kept keeps = record {
-  are = ap (map defined_kept) keeps.are
-      ∙ (map-append defined_kept old.items (keeps.line ∷ [])
-      ∙ (ap (λ (front : List PlacedLine). front ++ defined_kept keeps.line ∷ []) kept.are ∙ ap (λ (line : PlacedLine). done ++ line ∷ []) keeps.is));
+  are = ap (map model_of_kept) keeps.are
+      ∙ (map-append model_of_kept old.items (keeps.line ∷ [])
+      ∙ (ap (λ (front : List PlacedLine). front ++ model_of_kept keeps.line ∷ []) kept.are ∙ ap (λ (line : PlacedLine). done ++ line ∷ []) keeps.is));
   heres = ap (map (λ line. line.here)) keeps.are
       ∙ (map-append (λ line. line.here) old.items (keeps.line ∷ [])
       ∙ (ap (λ (front : List Location). front ++ keeps.line.here ∷ []) kept.heres
@@ -147,37 +147,37 @@ kept_more done lines next place text here (Some old) (Some new) same kept keeps 
 
 -- a line that stands for itself and is taken
 pub own_taken : (old new : Copying) (place : KeptPlace) (text : List ℕ) (done : List PlacedLine) → IsOpen old.builder → Holds done old
-    → HasAccepted (texts done ++ text ∷ []) new.builder → places_of new.runs.items ≡ places_of old.runs.items ++ defined_place place ∷ [] → new.copies ≡ old.copies
+    → HasAccepted (texts done ++ text ∷ []) new.builder → places_of new.runs.items ≡ places_of old.runs.items ++ model_of_place place ∷ [] → new.copies ≡ old.copies
     → ((taken : HasAccepted (texts done) old.builder) → KeepsLine old.kept place (location taken.lines) text new.kept)
-    → GoesOn done (own_line (defined_place place) old.copies text) new
+    → GoesOn done (own_line (model_of_place place) old.copies text) new
 own_taken old new place text done going holds taken kept copies keeps = record {
   holds = record {
     taken = record {
       lines = taken.lines;
-      laid = ap (λ found. laid check (numbered 1 found)) (texts_are done (defined_place place) text) ∙ taken.laid;
-      all = taken.all ∙ sym (ap length (texts_are done (defined_place place) text));
+      laid = ap (λ found. laid check (numbered 1 found)) (texts_are done (model_of_place place) text) ∙ taken.laid;
+      all = taken.all ∙ sym (ap length (texts_are done (model_of_place place) text));
       behind = taken.behind;
     };
     kept = kept_more done holds.taken.lines taken.lines place text (location holds.taken.lines) old.kept new.kept
-        (heres_more done (defined_place place) text old.builder holds.taken going new.builder taken) holds.kept (keeps holds.taken);
+        (heres_more done (model_of_place place) text old.builder holds.taken going new.builder taken) holds.kept (keeps holds.taken);
     places = kept
-        ∙ (ap (λ (found : List Place). found ++ defined_place place ∷ []) holds.places
-        ∙ sym (map-append (λ line. line.place) done (record { place = defined_place place; text = text } ∷ [])));
+        ∙ (ap (λ (found : List Place). found ++ model_of_place place ∷ []) holds.places
+        ∙ sym (map-append (λ line. line.place) done (record { place = model_of_place place; text = text } ∷ [])));
   };
   copies = copies;
-  ending = taken_ends done (defined_place place) text old.builder holds.taken going new.builder taken;
+  ending = taken_ends done (model_of_place place) text old.builder holds.taken going new.builder taken;
 }
 
 -- and one that the first checks refuse: there the taking stops
 pub own_refused : (old new : Copying) (place : KeptPlace) (text : List ℕ) (done : List PlacedLine) (number : ℕ) (refused : AsmCause)
     → IsOpen old.builder → Holds done old → RefusesAt (asm.At number refused) (laid check (numbered 1 (texts done ++ text ∷ [])))
     → HasAccepted (texts done) new.builder → new.runs ≡ old.runs → new.kept ≡ old.kept
-    → LeadsTo (Some (refused_at place (Asm refused))) done (own_line (defined_place place) old.copies text) new
+    → LeadsTo (Some (refused_at place (Asm refused))) done (own_line (model_of_place place) old.copies text) new
 own_refused old new place text done number refused going holds refuses taken runs kept =
     let is = refusal_is number refused _ refuses in
     let lines : holds.taken.lines ≡ taken.lines = cc (sym holds.taken.laid ∙ taken.laid) in
     let refusal : Refusal AsmCause = record { line = number; cause = refused } in (
-      (is.0, laid_refused done (defined_place place) text old.builder holds.taken going old.copies refusal is.1),
+      (is.0, laid_refused done (model_of_place place) text old.builder holds.taken going old.copies refusal is.1),
       record {
         taken = done;
         holds = record {
@@ -187,13 +187,13 @@ own_refused old new place text done number refused going holds refuses taken run
               (subst (λ (found : List Line). IsKept done found old.kept) lines holds.kept);
         };
         halts = inr (record {
-          line = record { place = defined_place place; text = text };
+          line = record { place = model_of_place place; text = text };
           rest = [];
           are = refl;
           refusal = refusal;
-          number = refused_last done (defined_place place) text old.builder holds.taken going refusal is.1
+          number = refused_last done (model_of_place place) text old.builder holds.taken going refusal is.1
               ∙ ap (λ n. 1 + n) (length-map done (λ line. line.text));
-          is = ap (λ found. laid check (numbered 1 found)) (texts_are done (defined_place place) text) ∙ is.1;
+          is = ap (λ found. laid check (numbered 1 found)) (texts_are done (model_of_place place) text) ∙ is.1;
         });
       },
     )

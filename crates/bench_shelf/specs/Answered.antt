@@ -3,7 +3,7 @@ use Rattle.std.specs.Prelude.{◌≡◌, ℕ, List, length, Some, Result, Ok, Er
 use Rattle.source_defs.specs.EndedLines.{text_of}
 use Rattle.asm_defs.specs.Modules.{module_of_source, module_of_lines}
 use Rattle.object_defs.specs.Modules as object
-use Rattle.object_tags.specs.Seen.{defined_module}
+use Rattle.object_tags.specs.Seen.{model_of_module}
 use Rattle.object_tags.specs.declared.parts.Module.{Module}
 use Rattle.shelf_defs.specs.Files.{Contents}
 use Rattle.shelf_defs.specs.Copied.{most_bytes, copied_by}
@@ -19,7 +19,7 @@ use Rattle.bench_shelf.specs.Dialogue.{CopyDialogue}
 -- a carriage return and a line feed, and as many files are copied as were asked for.
 abbrev pub GivesBy : Result Module CopyError → List Question → List ℕ → Contents → Type 0
 GivesBy (Ok found) questions source contents =
-    (module_of_source (text_of (texts (copied_by contents source).lines)) ≡ Ok (defined_module found))
+    (module_of_source (text_of (texts (copied_by contents source).lines)) ≡ Ok (model_of_module found))
     × (length questions ≡ (copied_by contents source).copies) × GivesCopied (Ok found) (module_by contents source)
 GivesBy (Err error) questions source contents = GivesCopied (Err error) (module_by contents source)
 

@@ -3,7 +3,7 @@ use Rattle.shelf_defs.specs.CopyLines as spec
 use Rattle.bench_shelf.specs.declared.copy_line.LineKind.{LineKind}
 use Rattle.bench_shelf.specs.declared.copy_line.LineKind.TheVariants.{Itself, File, Bad}
 
-abbrev pub defined_asked : LineKind → spec.LineKind
-defined_asked Itself = spec.Itself
-defined_asked (File name) = spec.File name
-defined_asked Bad = spec.Bad
+abbrev pub model_of_asked : LineKind → spec.LineKind
+model_of_asked Itself = spec.Itself
+model_of_asked (File name) = spec.File name
+model_of_asked Bad = spec.Bad

@@ -3,7 +3,7 @@ use Rattle.std.specs.Prelude.{◌≡◌, ⊤, ℕ, List, Option, Result, Ok, Err
 use Rattle.shelf_defs.specs.Copied as spec
 use Rattle.shelf_defs.specs.Copied.{CopyRefusal}
 use Rattle.object_defs.specs.Modules as object
-use Rattle.object_tags.specs.Seen.{defined_module}
+use Rattle.object_tags.specs.Seen.{model_of_module}
 use Rattle.object_tags.specs.declared.parts.Module.{Module}
 use Rattle.asm_defs.specs.declared.causes.AsmCause.{AsmCause}
 use Rattle.asm_checks.specs.Answers.{Causes}
@@ -18,15 +18,15 @@ use Rattle.bench_shelf.specs.declared.copy_error.CopyCause.TheVariants.{Asm, Bad
 use Rattle.bench_shelf.specs.declared.copy_error.CopyError.{CopyError}
 use Rattle.bench_shelf.specs.declared.copy_error.CopyError.TheVariants.{At, TooLarge, Fault, Memory}
 
-abbrev pub defined_place : Place → spec.Place
-defined_place place = record { file = place.file; line = place.line }
+abbrev pub model_of_place : Place → spec.Place
+model_of_place place = record { file = place.file; line = place.line }
 
-abbrev pub defined_cause : CopyCause → spec.Cause
-defined_cause (Asm cause) = spec.Asm cause
-defined_cause BadCopy = spec.BadCopy
-defined_cause TooDeep = spec.TooDeep
-defined_cause TooMany = spec.TooMany
-defined_cause (Missing name) = spec.Missing name
+abbrev pub model_of_cause : CopyCause → spec.Cause
+model_of_cause (Asm cause) = spec.Asm cause
+model_of_cause BadCopy = spec.BadCopy
+model_of_cause TooDeep = spec.TooDeep
+model_of_cause TooMany = spec.TooMany
+model_of_cause (Missing name) = spec.Missing name
 
 -- the place of a line of a file, or of the source itself
 abbrev pub place_in : Option (List ℕ) → ℕ → Place
@@ -60,11 +60,11 @@ IsNoMemory cause = ⊤
 -- The definitions refuse a source for this cause. Of a shelf that failed and of a lack of memory they say nothing.
 abbrev pub CopyRefuses : {B : Type 0} → CopyError → Result B CopyRefusal → Type 0
 CopyRefuses (At file line cause) defined =
-    IsNoMemory cause × (defined ≡ Err (spec.At (record { file = file; line = line }) (defined_cause cause)))
+    IsNoMemory cause × (defined ≡ Err (spec.At (record { file = file; line = line }) (model_of_cause cause)))
 CopyRefuses TooLarge defined = defined ≡ Err spec.TooLarge
 CopyRefuses other defined = ⊤
 
 -- the module that is defined, or the refusal
 abbrev pub GivesCopied : Result Module CopyError → Result object.Module CopyRefusal → Type 0
-GivesCopied (Ok found) defined = defined ≡ Ok (defined_module found)
+GivesCopied (Ok found) defined = defined ≡ Ok (model_of_module found)
 GivesCopied (Err error) defined = CopyRefuses error defined

@@ -7,15 +7,15 @@ use Rattle.shelf_defs.specs.Copied.{PlacedLine}
 use Rattle.asm_list_defs.specs.Listed as listed
 use Rattle.bench_shelf.specs.declared.place.Place.{Place}
 use Rattle.bench_shelf.specs.declared.kept_line.KeptLine.{KeptLine}
-use Rattle.bench_shelf.specs.CopyAnswers.{defined_place}
+use Rattle.bench_shelf.specs.CopyAnswers.{model_of_place}
 
 -- a kept line by its place and its text
-abbrev pub defined_kept : KeptLine → PlacedLine
-defined_kept kept = record { place = record { file = kept.file; line = kept.line }; text = kept.text.items }
+abbrev pub model_of_kept : KeptLine → PlacedLine
+model_of_kept kept = record { place = record { file = kept.file; line = kept.line }; text = kept.text.items }
 
 -- lines are kept with their places, and with the locations before them
 pub record AreKept (done : List PlacedLine) (lines : List Line) (kept : List KeptLine) : Type 0 where
-  pub are : map defined_kept kept ≡ done
+  pub are : map model_of_kept kept ≡ done
   pub heres : map (λ line. line.here) kept ≡ listed.heres lines
 
 -- the same where lines are kept
@@ -28,7 +28,7 @@ pub record OneMore (old : List KeptLine) (place : Place) (at : Location) (text :
     : Type 0 where
   pub line : KeptLine
   pub are : new ≡ old ++ line ∷ []
-  pub is : defined_kept line ≡ record { place = defined_place place; text = text }
+  pub is : model_of_kept line ≡ record { place = model_of_place place; text = text }
   pub here : line.here ≡ at
 
 -- the same where lines are kept

@@ -22,10 +22,10 @@ use Rattle.bench_shelf.specs.declared.listed.ListedEnding.TheVariants.{Whole, Be
 use Rattle.bench_shelf.specs.declared.listed.ListedSource.{ListedSource}
 use Rattle.bench_shelf.specs.declared.place.Place.{Place}
 use Rattle.bench_shelf.specs.declared.copy_error.CopyCause.TheVariants.{Asm}
-use Rattle.bench_shelf.specs.CopyAnswers.{CopyRefuses, IsOwnCause, defined_place, refused_at}
+use Rattle.bench_shelf.specs.CopyAnswers.{CopyRefuses, IsOwnCause, model_of_place, refused_at}
 use Rattle.bench_shelf.specs.Causes.{ShelfCauses, ReadWithinLimit}
 use Rattle.bench_shelf.specs.Dialogue.{CopyDialogue}
-use Rattle.bench_shelf.specs.Kept.{defined_kept, AreKept}
+use Rattle.bench_shelf.specs.Kept.{model_of_kept, AreKept}
 
 -- the definitions say nothing of a shelf that failed and of a lack of memory
 abbrev pub IsUntold : CopyError → Type 0
@@ -50,7 +50,7 @@ pub record RefusedBehind (done : List PlacedLine) (lines : List Line) (number : 
   pub is : error ≡ refused_at at (Asm cause)
   pub own : IsOwnCause cause
   pub settled : SettledAs lines number cause
-  pub place : defined_place at ≡ place_of (places done) number
+  pub place : model_of_place at ≡ place_of (places done) number
 
 -- what the second checks make of lines that were taken
 abbrev pub FinishesBy : List PlacedLine → List Line → ListedEnding → Type 0
@@ -69,7 +69,7 @@ StopsAt kept error (Err found) = (found ≡ error) × IsUntold error
 
 -- the lines that are kept are those up to the first that the first checks refuse
 pub record KeepsFront (all : List PlacedLine) (lines : List Line) (kept : List KeptLine) : Type 0 where
-  pub are : map defined_kept kept ≡ front all
+  pub are : map model_of_kept kept ≡ front all
   pub laid : first_answer (front all) ≡ Ok lines
   pub size : length lines ≡ length (front all)
   pub heres : map (λ line. line.here) kept ≡ listed.heres lines

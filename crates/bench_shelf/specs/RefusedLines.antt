@@ -10,7 +10,7 @@ use Rattle.bench_shelf.specs.declared.copy_error.CopyCause.TheVariants.{Asm}
 use Rattle.bench_shelf.specs.declared.copy_error.CopyError.{CopyError}
 use Rattle.bench_shelf.specs.declared.copy_error.CopyError.TheVariants.{Memory}
 use Rattle.bench_shelf.specs.declared.listed.RefusedLine.{RefusedLine}
-use Rattle.bench_shelf.specs.CopyAnswers.{defined_place, refused_at}
+use Rattle.bench_shelf.specs.CopyAnswers.{model_of_place, refused_at}
 use Rattle.bench_shelf.specs.Runs.{places_of}
 
 -- a line is refused at its place
@@ -18,7 +18,7 @@ pub record AtItsPlace (runs : List Run) (line : ℕ) (cause : AsmCause) (found :
   pub at : Place
   pub number : found.number ≡ line
   pub is : found.error ≡ refused_at at (Asm cause)
-  pub place : defined_place at ≡ place_of (places_of runs) found.number
+  pub place : model_of_place at ≡ place_of (places_of runs) found.number
 
 abbrev pub RefusesLine : List Run → AsmError → Result RefusedLine CopyError → Type 0
 RefusesLine runs (asm.At line cause) (Ok found) = AtItsPlace runs line cause found

@@ -5,7 +5,7 @@ ghost use Rattle.source_defs.specs.Layout.{line_texts};
 ghost use Rattle.shelf_defs.specs.Copied as spec;
 ghost use Rattle.shelf_defs.specs.Copied.{most_bytes, most_copies};
 ghost use Rattle.asm_core.specs.Building.{IsOpen};
-ghost use Rattle.bench_shelf.specs.CopyAnswers.{defined_place};
+ghost use Rattle.bench_shelf.specs.CopyAnswers.{model_of_place};
 ghost use Rattle.bench_shelf.specs.Leading.{Copies, HasRoom, Grows, error_in};
 ghost use Rattle.bench_shelf.specs.Causes.{CountsGrew, ShelfCauses, ReadWithinLimit};
 
@@ -16,7 +16,7 @@ use crate::file_name::FileName;
 use crate::named_file::read_named;
 use crate::place::{Place, place_in};
 use crate::shelf::Shelf;
-use asm_text::{lines, part};
+use asm_text::{SplitLine, lines, part, split_line};
 
 /// The most COPY lines of a source with its files.
 const MOST_COPIES: u32 = 64;
@@ -52,8 +52,8 @@ impl Copying {
         ensures same { is_some self.new.kept ≡ is_some self.old.kept }
     {
         for line in lines(text) {
-            let own = part(text, line.span);
-            match self.copy_asked(shelf, levels, place_in(file, line.number), own) {
+            let own = split_line(part(text, line.span));
+            match self.copy_asked(shelf, levels, place_in(file, line.number), &own) {
                 Ok(()) => {}
                 Err(error) => return Err(error),
             }
@@ -71,12 +71,13 @@ impl Copying {
         shelf: &mut F,
         levels: u32,
         place: Place,
-        text: &[u8],
+        line: &SplitLine<'_>,
     ) -> Result<(), CopyError>
         requires going { IsOpen self.old.builder }
         requires room { HasRoom 1 self.old }
         ensures copies { Copies self.old self.new
-            (λ contents. spec.one_line (spec.copy_line contents levels) (defined_place place) self.old.copies text.now)
+            (λ contents.
+            spec.one_line (spec.copy_line contents levels) (model_of_place place) self.old.copies line.now.text.now)
             (error_in result) (F.shelf shelf.old) (F.shelf shelf.new) }
         ensures causes { IfErr result (λ error. ShelfCauses error (F.shelf shelf.old) (F.shelf shelf.new)) }
         ensures within { OnOk result (ReadWithinLimit most_bytes (F.shelf shelf.old) (F.shelf shelf.new)) }
@@ -85,8 +86,8 @@ impl Copying {
         ensures most { self.new.copies ≤ most_copies }
         ensures same { is_some self.new.kept ≡ is_some self.old.kept }
     {
-        match line_kind(text) {
-            LineKind::Itself => match self.take(&place.file, place.line, text) {
+        match line_kind(line) {
+            LineKind::Itself => match self.take(&place.file, place.line, line) {
                 Ok(()) => Ok(()),
                 Err(failure) => Err(place.failed(failure)),
             },
@@ -107,7 +108,7 @@ impl Copying {
         requires going { IsOpen self.old.builder }
         requires room { HasRoom 1 self.old }
         ensures copies { Copies self.old self.new
-            (λ contents. spec.copy_line contents levels (defined_place place) self.old.copies name)
+            (λ contents. spec.copy_line contents levels (model_of_place place) self.old.copies name)
             (error_in result) (F.shelf shelf.old) (F.shelf shelf.new) }
         ensures causes { IfErr result (λ error. ShelfCauses error (F.shelf shelf.old) (F.shelf shelf.new)) }
         ensures within { OnOk result (ReadWithinLimit most_bytes (F.shelf shelf.old) (F.shelf shelf.new)) }

@@ -1,11 +1,11 @@
 //! Lines that copy a file.
 
-ghost use Rattle.std.specs.Prelude.{◌≡◌, IsTrue};
+ghost use Rattle.std.specs.Prelude.{◌≡◌};
 ghost use Rattle.shelf_defs.specs.CopyLines as spec;
-ghost use Rattle.bench_shelf.specs.Asking.{defined_asked};
+ghost use Rattle.bench_shelf.specs.Asking.{model_of_asked};
 
 use crate::file_name::FileName;
-use asm_text::{Name, between_quotes, fields, is_operation, is_quote, is_word, part};
+use asm_text::{Name, SplitLine, between_quotes, is_quote, is_word, part};
 
 /// What a line of a source asks for.
 pub(crate) enum LineKind {
@@ -17,38 +17,27 @@ pub(crate) enum LineKind {
     Bad,
 }
 
-/// Whether the operation of a line is another than COPY, or it has none, so that it stands for itself.
-#[tactic(auto, using(crate::proofs::CopyWords::no_copy))]
-fn copies_nothing(line: &[u8]) -> bool
-    ensures { IsTrue result → spec.asked line.now ≡ spec.Itself }
-{
-    !is_operation(line, b"COPY")
-}
-
 /// What a line of a source asks for. A line with the operation COPY asks for a file. It has no label, and its operand
 /// is the name of the file in quotes.
 #[tactic(auto, unfolding(shelf_defs::specs::CopyLines::asked))]
-pub(crate) fn line_kind(line: &[u8]) -> LineKind
-    ensures { defined_asked result ≡ spec.asked line.now }
+pub(crate) fn line_kind(line: &SplitLine<'_>) -> LineKind
+    ensures { model_of_asked result ≡ spec.asked line.now.text.now }
 {
-    if copies_nothing(line) {
-        return LineKind::Itself;
-    }
-    let Ok(found) = fields(line) else {
+    let Ok(found) = line.fields else {
         return LineKind::Itself;
     };
     let Some(operation) = found.operation else {
         return LineKind::Itself;
     };
-    if !is_word(part(line, operation), b"COPY") {
+    if !is_word(part(line.text, operation), b"COPY") {
         return LineKind::Itself;
     }
-    asked_for(found.label, quoted_name(part(line, found.operands)))
+    asked_for(found.label, quoted_name(part(line.text, found.operands)))
 }
 
 /// What a line with the operation COPY asks for, by its label and the name in its operand field.
 fn asked_for(label: Option<Name>, name: Option<FileName>) -> LineKind
-    ensures { defined_asked result ≡ spec.asked_for label name }
+    ensures { model_of_asked result ≡ spec.asked_for label name }
 {
     match (label, name) {
         (None, Some(name)) => LineKind::File(name),

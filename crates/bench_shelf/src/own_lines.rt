@@ -5,7 +5,7 @@ ghost use Rattle.shelf_defs.specs.Copied.{PlacedLine, own_line};
 ghost use Rattle.shelf_defs.specs.Assembly.{texts, in_place};
 ghost use Rattle.asm_defs.specs.Modules.{module_of_lines};
 ghost use Rattle.asm_core.specs.Building.{IsOpen};
-ghost use Rattle.bench_shelf.specs.CopyAnswers.{defined_place, failed_at, place_in, GivesCopied};
+ghost use Rattle.bench_shelf.specs.CopyAnswers.{model_of_place, failed_at, place_in, GivesCopied};
 ghost use Rattle.bench_shelf.specs.Leading.{Holds, IsHeld, CopiesTo, HasRoom, Grows, count, error_at};
 ghost use Rattle.bench_shelf.specs.Causes.{IsOfLine};
 
@@ -16,6 +16,7 @@ use crate::keep_line::keep_line;
 use crate::runs::{note_place, place_of};
 use asm_checks::Failure;
 use asm_core::{AsmError, AsmLines};
+use asm_text::SplitLine;
 use object_tags::Module;
 use std::alloc::Global;
 
@@ -55,11 +56,12 @@ impl Copying {
         &mut self,
         file: &Option<FileName>,
         line: u32,
-        text: &[u8],
+        own: &SplitLine<'_>,
     ) -> Result<(), Failure>
         requires going { IsOpen self.old.builder }
         requires room { HasRoom 1 self.old }
-        ensures leads { CopiesTo self.old (own_line (defined_place (place_in file.now line)) self.old.copies text.now)
+        ensures leads { CopiesTo self.old
+            (own_line (model_of_place (place_in file.now line)) self.old.copies own.now.text.now)
             (error_at (place_in file.now line) result) self.new }
         ensures same { is_some self.new.kept ≡ is_some self.old.kept }
         ensures grows { OnOk result (Grows 1 self.old self.new) }
@@ -67,19 +69,14 @@ impl Copying {
         ensures causes { IfErr result (λ failure. IsOfLine (failed_at (place_in file.now line) failure)) }
     {
         let here = self.builder.location();
-        match self.builder.line(text) {
+        match self.builder.split_line(own) {
             Ok(()) => {}
             Err(AsmError::At { cause, .. }) => return Err(Failure::Refused(cause)),
             Err(AsmError::Memory) => return Err(Failure::Memory),
         }
-        match note_place(&mut self.runs, file, line) {
-            Ok(()) => {}
-            Err(_) => return Err(Failure::Memory),
-        }
-        match keep_line(self.alloc, &mut self.kept, file, line, here, text) {
-            Ok(()) => Ok(()),
-            Err(_) => Err(Failure::Memory),
-        }
+        note_place(&mut self.runs, file, line)?;
+        keep_line(self.alloc, &mut self.kept, file, line, here, own.text)?;
+        Ok(())
     }
 
     /// The module of the lines that were taken.

@@ -2,7 +2,7 @@
 
 ghost use Rattle.std.specs.Prelude.{◌≡◌, ◌++◌, ◌∷◌, [], OnOk, IsTrue};
 ghost use Rattle.shelf_defs.specs.Assembly.{place_of};
-ghost use Rattle.bench_shelf.specs.CopyAnswers.{defined_place, place_in};
+ghost use Rattle.bench_shelf.specs.CopyAnswers.{model_of_place, place_in};
 ghost use Rattle.bench_shelf.specs.Runs.{places_of, ComesNext};
 
 use crate::file_name::FileName;
@@ -39,7 +39,7 @@ pub(crate) fn note_place(
     line: u32,
 ) -> Result<(), AllocError>
     ensures { OnOk result (places_of runs.new.items
-        ≡ places_of runs.old.items ++ defined_place (place_in file.now line) ∷ []) }
+        ≡ places_of runs.old.items ++ model_of_place (place_in file.now line) ∷ []) }
 {
     let count = runs.len();
     if count > 0 && runs[count - 1].is_next(file, line) {
@@ -56,7 +56,7 @@ pub(crate) fn note_place(
 
 /// The place of a line by its number among all lines, from 1.
 pub(crate) fn place_of(runs: &[Run], number: u32) -> Place
-    ensures { defined_place result ≡ place_of (places_of runs.now) number }
+    ensures { model_of_place result ≡ place_of (places_of runs.now) number }
 {
     let mut left = number.saturating_sub(1);
     for run in runs {

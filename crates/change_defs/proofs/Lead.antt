@@ -1,21 +1,16 @@
 -- The changes of a list, made in it, give the list that they lead to.
-use Rattle.std.proofs.Common.{◌≡◌, ℕ, zero, suc, ◌+◌, Bool, true, false, cond, nat_eq, ◌&&◌, List, [], ◌∷◌, ◌++◌, length, take, drop, replicate}
+use Rattle.std.proofs.Common.{◌≡◌, ℕ, suc, ◌+◌, Bool, true, false, cond, nat_eq, ◌&&◌, List, [], ◌∷◌, ◌++◌, length, drop, replicate}
 use Rattle.std.proofs.Common.{refl, sym, ap, ap₂, ◌∙◌, append_assoc, length-append, arith}
 use Rattle.std.proofs.lemmas.Bool.Decides.{nat_tests}
+use Rattle.std.proofs.Math.Seq.{take-append_seam, drop-append-add}
 use Rattle.change_defs.specs.Changes.{Change, joined, changes_from, changed, applied, ChangesLead}
 
-take_front : (p a : List ℕ) → take (length p) (p ++ a) ≡ p
-take_front [] a = refl
-take_front (x ∷ p) a = ap (λ r. x ∷ r) (take_front p a)
-
 drop_front : (p a : List ℕ) (n k : ℕ) → k ≡ length p + n → drop k (p ++ a) ≡ drop n a
-drop_front [] a n k e = ap (λ m. drop m a) (omega arith)
-drop_front (x ∷ p) a n zero e = let no : ⊥ = omega arith in absurd no
-drop_front (x ∷ p) a n (suc k) e = drop_front p a n k (omega arith)
+drop_front p a n k e = rw e (drop-append-add p a n)
 
 -- a change after a front
 behind : (p a : List ℕ) (y n : ℕ) → changed (record { at = length p; byte = y; count = n }) (p ++ a) ≡ p ++ (replicate n y ++ drop n a)
-behind p a y n = ap₂ (λ front rest. front ++ (replicate n y ++ rest)) (take_front p a) (drop_front p a n (length p + n) refl)
+behind p a y n = ap₂ (λ front rest. front ++ (replicate n y ++ rest)) (take-append_seam p a) (drop_front p a n (length p + n) refl)
 
 -- one byte is changed
 one : (p a : List ℕ) (x y : ℕ) → changed (record { at = length p; byte = y; count = 1 }) (p ++ x ∷ a) ≡ p ++ y ∷ a
@@ -60,8 +55,6 @@ ahead p a b z rest =
 
 leads : (p a b : List ℕ) → length a ≡ length b → applied (changes_from (length p) a b) (p ++ a) ≡ p ++ b
 leads p [] [] same = refl
-leads p [] (y ∷ b) same = let no : ⊥ = omega arith in absurd no
-leads p (x ∷ a) [] same = let no : ⊥ = omega arith in absurd no
 leads p (x ∷ a) (y ∷ b) same =
     by (nat_eq x y) refl (ahead p a b x (leads (p ++ x ∷ []) a b (omega arith))) (ahead p a b y (leads (p ++ y ∷ []) a b (omega arith)))
   where
@@ -72,6 +65,7 @@ leads p (x ∷ a) (y ∷ b) same =
         → applied (cond e rest (joined (length p) y rest)) (p ++ x ∷ a) ≡ p ++ y ∷ b
     by true e on_x on_y = let same : x ≡ y = grind (arith, nat_tests) in on_x ∙ ap (λ z. p ++ z ∷ b) same
     by false e on_x on_y = joined_applies p a x y rest ∙ on_y
+leads p _ _ same = let no : ⊥ = omega arith in absurd no
 
 pub changes_lead : ChangesLead
 changes_lead before after same = leads [] before after same

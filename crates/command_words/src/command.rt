@@ -1,6 +1,7 @@
 //! Which command the words say.
 
 ghost use Rattle.std.specs.Prelude.{◌≡◌, ◌∷◌, [], IfSome};
+ghost use Rattle.source_defs.specs.Names.{same_text};
 ghost use Rattle.report_defs.specs.Commands as spec;
 ghost use Rattle.report_defs.specs.Commands.{KeepsLimit};
 
@@ -31,7 +32,7 @@ pub fn read_command(words: &Words) -> Option<Command>
 
 /// Whether a word is a name.
 fn is_same(word: &[u8], name: &[u8]) -> bool
-    ensures { result ≡ spec.same_word word.now name.now }
+    ensures { result ≡ same_text word.now name.now }
 {
     word == name
 }

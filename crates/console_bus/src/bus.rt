@@ -5,7 +5,7 @@ ghost use Rattle.std.specs.Prelude.{OnErr};
 ghost use Rattle.tms_defs.specs.Words.{high, low, join, even};
 ghost use Rattle.tms_defs.specs.Bytes.{HoldsBytes, HoldsZeros, word_in, with_word_in};
 ghost use Rattle.tms_defs.specs.Accesses.{answer_of, written_by};
-ghost use Rattle.console_defs.specs.Memory.{IsMemory, IsNewMemory, IsLoadable, port_at, port_region, is_port_address};
+ghost use Rattle.console_defs.specs.Memory.{IsMemory, IsNewMemory, MayBePlaced, port_at, port_region, is_port_address};
 ghost use Rattle.console_defs.specs.Memory.{region, port_read};
 ghost use Rattle.console_defs.specs.Memory.{port_written, byte_read_in, byte_read, byte_written_in, byte_written};
 ghost use Rattle.console_defs.specs.Memory.{word_read_in, word_read};
@@ -202,7 +202,7 @@ impl Bus {
     /// >A000 to >FFFF).
     pub fn place(&mut self, at: u16, word: u16)
         requires even { even at ≡ at }
-        requires loadable { IsLoadable at }
+        requires loadable { MayBePlaced at }
         ensures { self.new ≡ word_placed self.old at word }
     {
         match at {

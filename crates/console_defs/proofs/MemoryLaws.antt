@@ -94,11 +94,7 @@ read_by_region : (place : Region) (m : Memory) (address : ℕ) →
     then AtPort address
     else Gives (join (byte_read_in place m).0 (byte_read_in (beside place) m).0))
 read_by_region (Rom at) m address = refl
-read_by_region (LowExpansion at) m address = refl
-read_by_region (HighExpansion at) m address = refl
-read_by_region (Scratchpad at) m address = refl
-read_by_region (PortOf port) m address = refl
-read_by_region Unmapped m address = refl
+read_by_region _ m address = refl
 
 -- A word that is read is the two bytes that are read.
 pub read_is_two_bytes : (m : Memory) (address : ℕ) → word_read m address ≡ two_bytes_read m address
@@ -116,11 +112,7 @@ write_by_region : (place : Region) (m : Memory) (address word : ℕ) →
     then AtPort address
     else Gives (byte_written_in (beside place) (byte_written_in place m (high word)) (low word)))
 write_by_region (Rom at) m address word = refl
-write_by_region (LowExpansion at) m address word = refl
-write_by_region (HighExpansion at) m address word = refl
-write_by_region (Scratchpad at) m address word = refl
-write_by_region (PortOf port) m address word = refl
-write_by_region Unmapped m address word = refl
+write_by_region _ m address word = refl
 
 -- A word that is written is two bytes that are written.
 pub write_is_two_bytes : (m : Memory) (address word : ℕ) → word_written m address word
@@ -140,11 +132,7 @@ with_ports m vdp grom = record m { vdp = vdp; grom = grom }
 read_past_ports : (place : Region) (m : Memory) (vdp : VdpState) (grom : GromState) (address : ℕ) →
     word_read_in place (with_ports m vdp grom) address ≡ word_read_in place m address
 read_past_ports (Rom at) m vdp grom address = refl
-read_past_ports (LowExpansion at) m vdp grom address = refl
-read_past_ports (HighExpansion at) m vdp grom address = refl
-read_past_ports (Scratchpad at) m vdp grom address = refl
-read_past_ports (PortOf port) m vdp grom address = refl
-read_past_ports Unmapped m vdp grom address = refl
+read_past_ports _ m vdp grom address = refl
 
 -- What a word access does is independent of the ports: it gives the same and leaves them, whatever they are.
 pub word_read_past_ports : (m : Memory) (vdp : VdpState) (grom : GromState) (address : ℕ) →
@@ -155,11 +143,7 @@ write_past_ports : (place : Region) (m : Memory) (vdp : VdpState) (grom : GromSt
     word_written_in place (with_ports m vdp grom) address word
     ≡ (word_written_in place m address word >>= λ left. Gives (with_ports left vdp grom))
 write_past_ports (Rom at) m vdp grom address word = refl
-write_past_ports (LowExpansion at) m vdp grom address word = refl
-write_past_ports (HighExpansion at) m vdp grom address word = refl
-write_past_ports (Scratchpad at) m vdp grom address word = refl
-write_past_ports (PortOf port) m vdp grom address word = refl
-write_past_ports Unmapped m vdp grom address word = refl
+write_past_ports _ m vdp grom address word = refl
 
 pub word_written_past_ports : (m : Memory) (vdp : VdpState) (grom : GromState) (address word : ℕ) →
     word_written (with_ports m vdp grom) address word

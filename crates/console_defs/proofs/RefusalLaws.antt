@@ -6,38 +6,29 @@ use Rattle.tms_defs.specs.Words.{even, plus}
 use Rattle.tms_defs.specs.Flags.{Width, Byte, Word, byte_or_word}
 use Rattle.tms_defs.specs.Instructions.{instr_at}
 use Rattle.tms_defs.specs.Accesses.{Answer, Gives, AtPort, NoInstruction, ◌>>=◌}
-use Rattle.console_defs.specs.Memory.{Memory, Region, Rom, LowExpansion, HighExpansion, Scratchpad, PortOf, Unmapped}
+use Rattle.console_defs.specs.Memory.{Memory, Region, Rom, PortOf}
 use Rattle.console_defs.specs.Memory.{region, is_port_region, is_port_address, word_read_in, word_written_in, word_read}
 use Rattle.console_defs.specs.Memory.{word_written, console}
-use Rattle.tms_defs.specs.Operand.{Cpu, Mode, Register, Indirect, Symbolic, Increment, operand, index_of}
-use Rattle.tms_defs.specs.Operand.{with_words, value_at, with_value}
-use Rattle.tms_defs.specs.forms.Results.{stored}
-use Rattle.tms_defs.specs.forms.Two.{two, two_operands}
-use Rattle.tms_defs.specs.forms.Reg.{reg, with_source, with_division, in_row}
-use Rattle.tms_defs.specs.forms.Shift.{shift, count_of}
-use Rattle.tms_defs.specs.forms.One.{one, one_operand}
-use Rattle.tms_defs.specs.forms.Jump.{jump, jump_where}
-use Rattle.tms_defs.specs.forms.Imm.{imm}
-use Rattle.tms_defs.specs.forms.Bare.{bare}
-use Rattle.tms_defs.specs.Step.{is_unsupported, executed, executed_where, step_end, step}
+use Rattle.tms_defs.specs.Operand.{Cpu, Mode, Register, Indirect, Symbolic, Increment}
+use Rattle.tms_defs.specs.Step.{operand, index_of, with_words, value_at, with_value, stored, two, two_operands, reg}
+use Rattle.tms_defs.specs.Step.{with_source, with_division, in_row, shift, count_of, one, one_operand, jump, jump_where}
+use Rattle.tms_defs.specs.Step.{imm, bare, is_unsupported, executed, executed_where, step_end, step}
 use Rattle.console_defs.specs.Causes.{is_refused, refused_at, refusal, MeetsPort}
 use Rattle.tms_defs.specs.declared.flags.Flags.{Flags}
 use Rattle.tms_defs.specs.declared.instruction.Place.{Place}
 use Rattle.tms_defs.specs.declared.instruction.TwoOp.{TwoOp}
-use Rattle.tms_defs.specs.declared.instruction.TwoOp.TheVariants.{SZC, S, C, A, MOV, SOC}
+use Rattle.tms_defs.specs.declared.instruction.TwoOp.TheVariants.{SZC}
 use Rattle.tms_defs.specs.declared.instruction.RegOp.{RegOp}
-use Rattle.tms_defs.specs.declared.instruction.RegOp.TheVariants.{COC, CZC, XOR, XOP, LDCR, STCR, MPY, DIV}
+use Rattle.tms_defs.specs.declared.instruction.RegOp.TheVariants.{LDCR, STCR, DIV}
 use Rattle.tms_defs.specs.declared.instruction.ShiftOp.{ShiftOp}
 use Rattle.tms_defs.specs.declared.instruction.OneOp.{OneOp}
-use Rattle.tms_defs.specs.declared.instruction.OneOp.TheVariants.{BLWP, B, X, CLR, NEG, INV, INC, INCT, DEC, DECT}
-use Rattle.tms_defs.specs.declared.instruction.OneOp.TheVariants.{BL, SWPB, SETO, ABS}
+use Rattle.tms_defs.specs.declared.instruction.OneOp.TheVariants.{BLWP, X}
 use Rattle.tms_defs.specs.declared.instruction.JumpOp.{JumpOp}
-use Rattle.tms_defs.specs.declared.instruction.JumpOp.TheVariants.{JMP, JLT, JLE, JEQ, JHE, JGT, JNE, JNC, JOC, JNO}
-use Rattle.tms_defs.specs.declared.instruction.JumpOp.TheVariants.{JL, JH, JOP, SBO, SBZ, TB}
+use Rattle.tms_defs.specs.declared.instruction.JumpOp.TheVariants.{SBO, SBZ, TB}
 use Rattle.tms_defs.specs.declared.instruction.ImmOp.{ImmOp}
-use Rattle.tms_defs.specs.declared.instruction.ImmOp.TheVariants.{LI, AI, ANDI, ORI, CI, STWP, STST}
+use Rattle.tms_defs.specs.declared.instruction.ImmOp.TheVariants.{LI, STWP, STST}
 use Rattle.tms_defs.specs.declared.instruction.BareOp.{BareOp}
-use Rattle.tms_defs.specs.declared.instruction.BareOp.TheVariants.{LWPI, LIMI, IDLE, RSET, RTWP, CKON, CKOF, LREX}
+use Rattle.tms_defs.specs.declared.instruction.BareOp.TheVariants.{LWPI, LIMI, RTWP}
 use Rattle.tms_defs.specs.declared.instruction.Instr.{Instr}
 use Rattle.tms_defs.specs.declared.instruction.Instr.TheVariants.{Two, Reg, Shift, One, Jump, Imm, Bare}
 use Rattle.tms_defs.specs.declared.step_end.StepEnd.{StepEnd}
@@ -63,11 +54,8 @@ either_executes false a b first second = second
 read_in : (place : Region) (m : Memory) (address : ℕ) → region address ≡ place →
     Executes (word_read_in place m address)
 read_in (Rom at) m address e = GivesValue _
-read_in (LowExpansion at) m address e = GivesValue _
-read_in (HighExpansion at) m address e = GivesValue _
-read_in (Scratchpad at) m address e = GivesValue _
 read_in (PortOf port) m address e = MeetsPortAt address (ap is_port_region e)
-read_in Unmapped m address e = GivesValue _
+read_in _ m address e = GivesValue _
 
 read_executes : (m : Memory) (address : ℕ) → Executes (word_read m address)
 read_executes m address = read_in (region (even address)) m (even address) refl
@@ -75,11 +63,8 @@ read_executes m address = read_in (region (even address)) m (even address) refl
 write_in : (place : Region) (m : Memory) (address word : ℕ) → region address ≡ place →
     Executes (word_written_in place m address word)
 write_in (Rom at) m address word e = GivesValue _
-write_in (LowExpansion at) m address word e = GivesValue _
-write_in (HighExpansion at) m address word e = GivesValue _
-write_in (Scratchpad at) m address word e = GivesValue _
 write_in (PortOf port) m address word e = MeetsPortAt address (ap is_port_region e)
-write_in Unmapped m address word e = GivesValue _
+write_in _ m address word e = GivesValue _
 
 write_executes : (m : Memory) (address word : ℕ) → Executes (word_written m address word)
 write_executes m address word = write_in (region (even address)) m (even address) word refl
@@ -123,11 +108,7 @@ ruleset operands = (accesses, operand_executes, value_executes, stored_executes,
 two_executes : (op : TwoOp) (width : Width) (source address : ℕ) (x : Cpu Memory) →
     Executes (two Memory console op width source address x)
 two_executes SZC width source address x = search operands
-two_executes S width source address x = search operands
-two_executes C width source address x = search operands
-two_executes A width source address x = search operands
-two_executes MOV width source address x = search operands
-two_executes SOC width source address x = search operands
+two_executes _ width source address x = search operands
 
 two_operands_executes : (op : TwoOp) (width : Width) (dst src : Place) (x : Cpu Memory) →
     Executes (two_operands Memory console op width dst src x)
@@ -141,14 +122,10 @@ division_executes None address x = GivesValue x
 reg_executes : (op : RegOp) (number source : ℕ) (src : Place) (x : Cpu Memory) →
     is_unsupported (Reg op number src) ≡ false →
     Executes (reg Memory console op number source x)
-reg_executes COC number source src x e = search operands
-reg_executes CZC number source src x e = search operands
-reg_executes XOR number source src x e = search operands
-reg_executes XOP number source src x e = search operands
 reg_executes LDCR number source src x e = absurd (cc)
 reg_executes STCR number source src x e = absurd (cc)
-reg_executes MPY number source src x e = search operands
 reg_executes DIV number source src x e = search (operands, division_executes) depth 8
+reg_executes _ number source src x e = search operands
 
 source_executes : (op : RegOp) (number : ℕ) (src : Place) (x : Cpu Memory) →
     is_unsupported (Reg op number src) ≡ false → Executes (with_source Memory console op number src x)
@@ -167,19 +144,8 @@ shift_executes op count number x = search (operands, count_executes)
 one_executes : (op : OneOp) (address : ℕ) (at : Place) (x : Cpu Memory) → is_unsupported (One op at) ≡ false →
     Executes (one Memory console op address x)
 one_executes BLWP address at x e = search operands depth 8
-one_executes B address at x e = search operands
 one_executes X address at x e = absurd (cc)
-one_executes CLR address at x e = search operands
-one_executes NEG address at x e = search operands
-one_executes INV address at x e = search operands
-one_executes INC address at x e = search operands
-one_executes INCT address at x e = search operands
-one_executes DEC address at x e = search operands
-one_executes DECT address at x e = search operands
-one_executes BL address at x e = search operands
-one_executes SWPB address at x e = search operands
-one_executes SETO address at x e = search operands
-one_executes ABS address at x e = search operands
+one_executes _ address at x e = search operands
 
 one_operand_executes : (op : OneOp) (at : Place) (x : Cpu Memory) → is_unsupported (One op at) ≡ false →
     Executes (one_operand Memory console op at x)
@@ -188,47 +154,28 @@ one_operand_executes op at x e =
     λ address y. one_executes op address at y e in
     search (operands, all)
 
-jump_where_executes : (taken : Bool) (disp : ℤ) (x : Cpu Memory) → Executes (jump_where Memory (Some taken) disp x)
+jump_where_executes : (taken : Bool) (disp : ℤ) (x : Cpu Memory) → Executes (jump_where (Some taken) disp x)
 jump_where_executes taken disp x = GivesValue _
 
 jump_executes : (op : JumpOp) (disp : ℤ) (x : Cpu Memory) → is_unsupported (Jump op disp) ≡ false →
-    Executes (jump Memory op disp x)
-jump_executes JMP disp x e = search jump_where_executes
-jump_executes JLT disp x e = search jump_where_executes
-jump_executes JLE disp x e = search jump_where_executes
-jump_executes JEQ disp x e = search jump_where_executes
-jump_executes JHE disp x e = search jump_where_executes
-jump_executes JGT disp x e = search jump_where_executes
-jump_executes JNE disp x e = search jump_where_executes
-jump_executes JNC disp x e = search jump_where_executes
-jump_executes JOC disp x e = search jump_where_executes
-jump_executes JNO disp x e = search jump_where_executes
-jump_executes JL disp x e = search jump_where_executes
-jump_executes JH disp x e = search jump_where_executes
-jump_executes JOP disp x e = search jump_where_executes
+    Executes (jump op disp x)
 jump_executes SBO disp x e = absurd (cc)
 jump_executes SBZ disp x e = absurd (cc)
 jump_executes TB disp x e = absurd (cc)
+jump_executes _ disp x e = search jump_where_executes
 
 imm_executes : (op : ImmOp) (number : ℕ) (x : Cpu Memory) → Executes (imm Memory console op number x)
 imm_executes LI number x = search operands
-imm_executes AI number x = search operands depth 8
-imm_executes ANDI number x = search operands depth 8
-imm_executes ORI number x = search operands depth 8
-imm_executes CI number x = search operands depth 8
 imm_executes STWP number x = search operands
 imm_executes STST number x = search operands
+imm_executes _ number x = search operands depth 8
 
 bare_executes : (op : BareOp) (x : Cpu Memory) → is_unsupported (Bare op) ≡ false →
     Executes (bare Memory console op x)
 bare_executes LWPI x e = search operands
 bare_executes LIMI x e = search operands
-bare_executes IDLE x e = absurd (cc)
-bare_executes RSET x e = absurd (cc)
 bare_executes RTWP x e = search operands depth 8
-bare_executes CKON x e = absurd (cc)
-bare_executes CKOF x e = absurd (cc)
-bare_executes LREX x e = absurd (cc)
+bare_executes _ x e = absurd (cc)
 
 -- An instruction whose operation is executed gives a state, or meets a port.
 pub instr_executes : (instr : Instr) (x : Cpu Memory) → is_unsupported instr ≡ false →

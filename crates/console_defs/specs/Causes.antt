@@ -3,8 +3,8 @@ use Rattle.std.specs.Prelude.{ℕ, Bool, true, Option, Some, None, if◌then◌e
 use Rattle.tms_defs.specs.Instructions.{instr_at}
 use Rattle.tms_defs.specs.Accesses.{Gives, AtPort, NoInstruction}
 use Rattle.tms_defs.specs.Operand.{Cpu}
-use Rattle.console_defs.specs.Memory.{Memory, word_read, is_port_address}
 use Rattle.tms_defs.specs.Step.{is_unsupported}
+use Rattle.console_defs.specs.Memory.{Memory, word_read, is_port_address}
 use Rattle.tms_defs.specs.declared.step_end.StepEnd.{StepEnd}
 use Rattle.tms_defs.specs.declared.step_end.StepEnd.TheVariants.{Done, Refused, Port}
 

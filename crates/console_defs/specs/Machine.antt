@@ -5,8 +5,8 @@ use Rattle.tms_defs.specs.Words.{even}
 use Rattle.tms_defs.specs.Status.{IsStatus, status_at}
 use Rattle.tms_defs.specs.Accesses.{Answer, Gives, AtPort, NoInstruction, ◌>>=◌}
 use Rattle.tms_defs.specs.Operand.{Cpu}
-use Rattle.console_defs.specs.Memory.{Memory, IsMemory, console}
 use Rattle.tms_defs.specs.Step.{step}
+use Rattle.console_defs.specs.Memory.{Memory, IsMemory, console}
 use Rattle.tms_defs.specs.declared.step_end.StepEnd.{StepEnd}
 use Rattle.tms_defs.specs.declared.step_end.StepEnd.TheVariants.{Done, Refused, Port}
 

@@ -63,15 +63,10 @@ ports =
     ∷ (0x9C02, GromAddressWrite)
     ∷ []
 
--- A port where a test holds, else what the others have.
-abbrev pub port_if : Bool → Port → Option Port → Option Port
-port_if true port others = Some port
-port_if false port others = others
-
 -- The first of some ports that stands at an address.
 abbrev pub port_among : List (ℕ × Port) → ℕ → Option Port
 port_among [] address = None
-port_among (port ∷ others) address = port_if (address == port.0) port.1 (port_among others address)
+port_among (port ∷ others) address = if address == port.0 then Some port.1 else port_among others address
 
 -- The port at an address.
 abbrev pub port_at : ℕ → Option Port
@@ -111,12 +106,8 @@ region address =
 
 -- A port stands at the address.
 abbrev pub is_port_region : Region → Bool
-is_port_region (Rom at) = false
-is_port_region (LowExpansion at) = false
-is_port_region (HighExpansion at) = false
-is_port_region (Scratchpad at) = false
 is_port_region (PortOf port) = true
-is_port_region Unmapped = false
+is_port_region _ = false
 
 abbrev pub is_port_address : ℕ → Bool
 is_port_address address = is_port_region (region address)
@@ -217,8 +208,8 @@ console =
 
 -- A program is loaded into console ROM and expansion memory alone: below >4000, or from >A000 on.
 -- Editor/Assembler manual, on the memory of the computer.
-abbrev pub IsLoadable : ℕ → Type 0
-IsLoadable address = 0x4000 ≤ address → 0xA000 ≤ address
+abbrev pub MayBePlaced : ℕ → Type 0
+MayBePlaced address = 0x4000 ≤ address → 0xA000 ≤ address
 
 -- A word is loaded at its even address, into console ROM too.
 -- Profile: the console ROM is loaded as expansion memory is.

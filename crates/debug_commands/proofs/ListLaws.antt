@@ -1,11 +1,11 @@
 -- The report of an assembler source with the files that it copies.
 use Rattle.std.proofs.Common.{◌≡◌, ℕ, List, refl, sym, ap}
 use Rattle.std.specs.Prelude.{Ok, Err, Option, Some, None, IfSome}
-use Rattle.source_defs.specs.Refusals.{seen}
+use Rattle.source_defs.specs.Refusals.{map_ok}
 use Rattle.shelf_defs.specs.Copied as copied
 use Rattle.shelf_defs.specs.Copied.{CopyRefusal, most_bytes}
 use Rattle.bench_shelf.specs.States.{ShelfState}
-use Rattle.bench_shelf.specs.CopyAnswers.{defined_cause}
+use Rattle.bench_shelf.specs.CopyAnswers.{model_of_cause}
 use Rattle.bench_shelf.specs.Causes.{ShelfCauses}
 use Rattle.bench_shelf.specs.Listed.{IsTold, IsUntold}
 use Rattle.bench_shelf.specs.declared.copy_error.CopyCause.{CopyCause}
@@ -21,7 +21,7 @@ use Rattle.file_commands.specs.Reported.{CopyCauses}
 use Rattle.asm_list.specs.declared.listing.AsmListing.{AsmListing}
 use Rattle.asm_list.specs.Listings.{rows_of, as_result, RefusedAs, ListingAnswered, RefusedCauses, ListingCauses}
 use Rattle.debug_report_defs.specs.Listings.{rows_report}
-use Rattle.debug_commands.specs.Listed.{RefusalCauses, ListReported, ListFails, defined_refusal}
+use Rattle.debug_commands.specs.Listed.{RefusalCauses, ListReported, ListFails, model_of_refusal}
 
 -- the refusal is one that the definitions have
 told_by : (refused : Option CopyError) (defined : Option CopyRefusal) → RefusedAs refused defined → IfSome refused IsTold
@@ -32,7 +32,7 @@ same_refusal : (refusal : CopyRefusal) (defined : Option CopyRefusal) → as_res
 same_refusal refusal None e = absurd cc
 same_refusal refusal (Some other) e = let same : other ≡ refusal = cc e in ap Some (sym same)
 
-is_refusal : (refused : Option CopyError) (defined : Option CopyRefusal) → RefusedAs refused defined → defined_refusal refused ≡ defined
+is_refusal : (refused : Option CopyError) (defined : Option CopyRefusal) → RefusedAs refused defined → model_of_refusal refused ≡ defined
 is_refusal None defined none = sym none
 is_refusal (Some (At file line cause)) defined (refuses, told) = same_refusal _ defined refuses.1
 is_refusal (Some TooLarge) defined (refuses, told) = same_refusal copied.TooLarge defined refuses
@@ -41,7 +41,7 @@ is_refusal (Some Memory) defined (refuses, told) = absurd (told tt)
 
 module _ (before after : ShelfState) (source : List ℕ) where
   line_causes : (file : Option (List ℕ)) (line : ℕ) (cause : CopyCause) → ShelfCauses (At file line cause) before after
-      → CopyCauses (Err (copied.At (record { file = file; line = line }) (defined_cause cause))) before after
+      → CopyCauses (Err (copied.At (record { file = file; line = line }) (model_of_cause cause))) before after
   line_causes file line (Asm cause) causes = causes
   line_causes file line BadCopy causes = causes.1
   line_causes file line TooDeep causes = causes.1
@@ -49,7 +49,7 @@ module _ (before after : ShelfState) (source : List ℕ) where
   line_causes file line (Missing name) causes = causes
 
   refusal_causes : (refused : Option CopyError) → IfSome refused IsTold → RefusedCauses refused before after
-      → RefusalCauses (defined_refusal refused) before after
+      → RefusalCauses (model_of_refusal refused) before after
   refusal_causes None told causes = causes
   refusal_causes (Some (At file line cause)) told causes = line_causes file line cause causes
   refusal_causes (Some TooLarge) told causes = causes
@@ -62,12 +62,12 @@ module _ (before after : ShelfState) (source : List ℕ) where
       told_by listing.refused _ (answered.gives some.0 some.1).refused
 
   pub listing_reported : (listing : AsmListing) → ListingAnswered before after source (Ok listing) → RefusedCauses listing.refused before after
-      → ListReported before after source (rows_report (rows_of listing) (defined_refusal listing.refused))
+      → ListReported before after source (rows_report (rows_of listing) (model_of_refusal listing.refused))
   listing_reported listing answered causes = record {
     questions = answered.questions;
     dialogue = answered.dialogue;
     rows = rows_of listing;
-    refusal = defined_refusal listing.refused;
+    refusal = model_of_refusal listing.refused;
     gives = λ contents agrees.
         let lists = answered.gives contents agrees in
         record { rows_are = lists.rows; refusal_is = is_refusal listing.refused _ lists.refused; copies = lists.copies };
@@ -76,7 +76,7 @@ module _ (before after : ShelfState) (source : List ℕ) where
   }
 
   pub error_reported : (error : CopyError) (command_error : CommandError) → IsUntold error → ListingAnswered before after source (Err error)
-      → ListingCauses (Err error) before after → error_answer command_error ≡ seen (λ refusal. copy_report (Err refusal)) (copy_refusal error)
+      → ListingCauses (Err error) before after → error_answer command_error ≡ map_ok (λ refusal. copy_report (Err refusal)) (copy_refusal error)
       → Reported (ListReported before after source) (ListFails before after source) (error_answer command_error)
   error_reported (At file line cause) command_error untold answered causes is = absurd untold
   error_reported TooLarge command_error untold answered causes is = absurd untold

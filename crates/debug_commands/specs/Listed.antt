@@ -70,6 +70,6 @@ abbrev pub refusal_by : Result CopyRefusal Status → Option CopyRefusal
 refusal_by (Ok refusal) = Some refusal
 refusal_by (Err end) = None
 
-abbrev pub defined_refusal : Option CopyError → Option CopyRefusal
-defined_refusal None = None
-defined_refusal (Some error) = refusal_by (copy_refusal error)
+abbrev pub model_of_refusal : Option CopyError → Option CopyRefusal
+model_of_refusal None = None
+model_of_refusal (Some error) = refusal_by (copy_refusal error)

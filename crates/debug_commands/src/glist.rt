@@ -4,7 +4,7 @@ ghost use Rattle.std.specs.Prelude.{◌≡◌, ◌≤◌, length};
 ghost use Rattle.report_defs.specs.Report.{largest_input};
 ghost use Rattle.gpl_list_defs.specs.Listing.{listing_of, listing_report};
 ghost use Rattle.reports.specs.Outputs.{EndsWith};
-ghost use Rattle.gpl_list.specs.Listings.{defined_listing};
+ghost use Rattle.gpl_list.specs.Listings.{model_of_listing};
 ghost use Rattle.debug_commands.specs.Answered.{EndsAnswered};
 
 use bench_io::Sink;
@@ -43,7 +43,7 @@ fn finish_listing<O: Sink, E: Sink>(listing: &GplListing, out: &mut O, err: &mut
       out' = O.state out.new;
       err = E.state err.old;
       err' = E.state err.new;
-    }) (listing_report (defined_listing listing.now)) result }
+    }) (listing_report (model_of_listing listing.now)) result }
 {
     if listing.write(out).is_err() {
         return Status::WriteFault;

@@ -2,7 +2,7 @@
 //! its names.
 
 ghost use Rattle.std.specs.Prelude.{◌≡◌, ◌≤◌, length, Err, IfSome};
-ghost use Rattle.source_defs.specs.Refusals.{seen};
+ghost use Rattle.source_defs.specs.Refusals.{map_ok};
 ghost use Rattle.report_defs.specs.Report.{largest_input};
 ghost use Rattle.report_defs.specs.FileReports.{copy_report};
 ghost use Rattle.debug_report_defs.specs.Listings.{rows_report};
@@ -12,7 +12,7 @@ ghost use Rattle.reports.specs.Answers.{error_answer};
 ghost use Rattle.reports.specs.Outputs.{EndsWith};
 ghost use Rattle.file_commands.specs.Copying.{copy_refusal};
 ghost use Rattle.asm_list.specs.Listings.{rows_of};
-ghost use Rattle.debug_commands.specs.Listed.{EndsListed, defined_refusal};
+ghost use Rattle.debug_commands.specs.Listed.{EndsListed, model_of_refusal};
 
 use asm_list::{AsmListing, list_source};
 use bench_io::Sink;
@@ -54,7 +54,7 @@ fn finish_list<O: Sink, E: Sink>(listing: &AsmListing, out: &mut O, err: &mut E)
       out' = O.state out.new;
       err = E.state err.old;
       err' = E.state err.new;
-    }) (rows_report (rows_of listing.now) (defined_refusal listing.now.refused)) result }
+    }) (rows_report (rows_of listing.now) (model_of_refusal listing.now.refused)) result }
 {
     if listing.write(out).is_err() {
         return Status::WriteFault;
@@ -67,7 +67,7 @@ fn finish_list<O: Sink, E: Sink>(listing: &AsmListing, out: &mut O, err: &mut E)
 
 /// Why a source is refused, or is not listed.
 fn command_error(error: CopyError) -> CommandError
-    ensures { error_answer result ≡ seen (λ refusal. copy_report (Err refusal)) (copy_refusal error) }
+    ensures { error_answer result ≡ map_ok (λ refusal. copy_report (Err refusal)) (copy_refusal error) }
 {
     match error {
         CopyError::At { file, line, cause } => CommandError::Refused(copy_line(file, line, cause)),

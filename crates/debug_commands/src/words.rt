@@ -1,7 +1,7 @@
 //! Which command the words say, and how the program is called.
 
 ghost use Rattle.std.specs.Prelude.{◌≡◌, IfSome};
-ghost use Rattle.report_defs.specs.Commands.{same_word};
+ghost use Rattle.source_defs.specs.Names.{same_text};
 ghost use Rattle.debug_report_defs.specs.Words as spec;
 ghost use Rattle.debug_report_defs.specs.Words.{KeepsLimit};
 
@@ -68,7 +68,7 @@ fn steps_command(word: &[u8]) -> Option<DebugCommand>
 
 /// Whether a word is a name.
 fn is_same(word: &[u8], name: &[u8]) -> bool
-    ensures { result ≡ same_word word.now name.now }
+    ensures { result ≡ same_text word.now name.now }
 {
     word == name
 }

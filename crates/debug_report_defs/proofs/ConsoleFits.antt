@@ -8,7 +8,7 @@ use Rattle.grom_defs.proofs.AddressLaws.{next-fits}
 use Rattle.console_defs.specs.Vdp.{VdpState, IsVdp, PairKind, ReadSetup, WriteSetup, RegisterWrite, NoOperation, pair_kind, pair_done, address_byte_taken}
 use Rattle.console_defs.specs.Grom.{GromState, IsGrom, grom_fetched_ahead, grom_half_taken}
 use Rattle.console_defs.specs.Memory.{Memory, IsMemory, console, Port, VdpDataRead, VdpStatusRead, VdpDataWrite, VdpAddressWrite, GromDataRead, GromAddressRead}
-use Rattle.console_defs.specs.Memory.{GromDataWrite, GromAddressWrite, Region, Rom, LowExpansion, HighExpansion, Scratchpad, PortOf, Unmapped, region}
+use Rattle.console_defs.specs.Memory.{GromAddressWrite, Region, Rom, LowExpansion, HighExpansion, Scratchpad, PortOf, Unmapped, region}
 use Rattle.console_defs.specs.Memory.{word_read_in, word_written_in, byte_read_in, byte_written_in, port_read, port_written}
 use Rattle.console_defs.specs.Machine.{MachineState, IsMachine}
 use Rattle.console_defs.specs.Runs.{after}
@@ -61,12 +61,11 @@ module _ (m : Memory) (is : IsMemory m) where
   read Unmapped a = holds 0 (omega arith)
 
   written : (r : Region) (a w : ℕ) → w < 65536 → Holds IsMemory (word_written_in r m a w)
-  written (Rom at) a w lt = holds m is
   written (LowExpansion at) a w lt = holds _ (with_low _ (word_set 8192 m.low_expansion at w lt is.low_expansion))
   written (HighExpansion at) a w lt = holds _ (with_high _ (word_set 24576 m.high_expansion at w lt is.high_expansion))
   written (Scratchpad at) a w lt = holds _ (with_pad _ (word_set 256 m.scratchpad at w lt is.scratchpad))
   written (PortOf port) a w lt = record { by = λ n e. absurd (cc) }
-  written Unmapped a w lt = holds m is
+  written _ a w lt = holds m is
 
   abbrev ByteFits : ℕ × Memory → Type 0
   ByteFits r = (r.0 < 256) × IsMemory r.1
@@ -83,15 +82,12 @@ module _ (m : Memory) (is : IsMemory m) where
   port_gave : (p : Port) → ByteFits (port_read p m)
   port_gave VdpDataRead = (is.vdp.fetched, with_vdp _ (ahead m.vdp.address))
   port_gave VdpStatusRead = (omega arith, with_vdp _ (vdp_left None tt))
-  port_gave VdpDataWrite = (omega arith, is)
-  port_gave VdpAddressWrite = (omega arith, is)
   port_gave GromDataRead = (is.grom.fetched, with_grom _ (grom_ahead m.grom.counter is.grom.counter))
   port_gave GromAddressRead = (
     high-fits m.grom.counter is.grom.counter,
     with_grom _ (record { image = is.grom.image; counter = join-fits _ _ (low-fits m.grom.counter) (low-fits m.grom.counter); fetched = is.grom.fetched }),
   )
-  port_gave GromDataWrite = (omega arith, is)
-  port_gave GromAddressWrite = (omega arith, is)
+  port_gave _ = (omega arith, is)
 
   byte_gave : (r : Region) → ByteFits (byte_read_in r m)
   byte_gave (Rom at) = (is.rom.fits at, is)
@@ -125,8 +121,6 @@ module _ (m : Memory) (is : IsMemory m) where
       with_grom _ (record { image = is.grom.image; counter = join-fits _ _ lt (low-fits m.grom.counter); fetched = is.grom.fetched })
 
   port_took : (p : Port) (b : ℕ) → b < 256 → IsMemory (port_written p m b)
-  port_took VdpDataRead b lt = is
-  port_took VdpStatusRead b lt = is
   port_took VdpDataWrite b lt =
       with_vdp _ (record {
         memory = set_keeps 16384 m.vdp.memory m.vdp.address b is.vdp.memory lt;
@@ -136,18 +130,15 @@ module _ (m : Memory) (is : IsMemory m) where
         held = tt;
       })
   port_took VdpAddressWrite b lt = address_took m.vdp.held b is.vdp.held lt
-  port_took GromDataRead b lt = is
-  port_took GromAddressRead b lt = is
-  port_took GromDataWrite b lt = is
   port_took GromAddressWrite b lt = half_took m.grom.half_written b lt
+  port_took _ b lt = is
 
   byte_took : (r : Region) (b : ℕ) → b < 256 → IsMemory (byte_written_in r m b)
-  byte_took (Rom at) b lt = is
   byte_took (LowExpansion at) b lt = with_low _ (set_keeps 8192 m.low_expansion at b is.low_expansion lt)
   byte_took (HighExpansion at) b lt = with_high _ (set_keeps 24576 m.high_expansion at b is.high_expansion lt)
   byte_took (Scratchpad at) b lt = with_pad _ (set_keeps 256 m.scratchpad at b is.scratchpad lt)
   byte_took (PortOf port) b lt = port_took port b lt
-  byte_took Unmapped b lt = is
+  byte_took _ b lt = is
 
 -- what the machine of a run holds fits
 abbrev pub MachineFits : MachineState → Type 0

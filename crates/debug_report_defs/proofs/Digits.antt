@@ -48,7 +48,7 @@ value_append : (base value : ℕ) (a b : List ℕ) → value_after base value (a
 value_append base value [] b = refl
 value_append base value (x ∷ a) b = value_append base (value * base + digit_value x) a b
 
-digit_back : (d : ℕ) → digit_value (hexadecimal_digit (d % 16)) ≡ d % 16
+pub digit_back : (d : ℕ) → digit_value (hexadecimal_digit (d % 16)) ≡ d % 16
 digit_back d =
     eqb_same _ _
     (agree_below_at (λ d. eqb (digit_value (hexadecimal_digit d)) d) (λ d. true) 16 (d % 16) refl (omega arith))

@@ -36,8 +36,6 @@ joined_inside size at byte (c ∷ cs) is_byte le all = by (nat_eq c.at (at + 1))
 
 pub changes_inside : (size at : ℕ) (before after : List ℕ) → ((k : ℕ) → slice_index after k < 256) → at + length after ≤ size
     → AllInside size (changes_from at before after)
-changes_inside size at [] after fits le = tt
-changes_inside size at (x ∷ before) [] fits le = tt
 changes_inside size at (x ∷ before) (y ∷ after) fits le =
     by (nat_eq x y) (changes_inside size (at + 1) before after (λ k. fits (suc k)) (omega arith))
   where
@@ -45,11 +43,11 @@ changes_inside size at (x ∷ before) (y ∷ after) fits le =
         → AllInside size (cond same (changes_from (at + 1) before after) (joined at y (changes_from (at + 1) before after)))
     by true rest = rest
     by false rest = joined_inside size at y (changes_from (at + 1) before after) (fits 0) (omega arith) rest
+changes_inside size at _ _ fits le = tt
 
 small : (part : Part) → size_of part < 2 ^ 64
 small Cells = omega arith
-small Video = omega arith
-small Registers = omega arith
+small _ = omega arith
 
 all_fit : (part : Part) (cs : List Change) → AllInside (size_of part) cs → AllFit part cs
 all_fit part [] all = tt

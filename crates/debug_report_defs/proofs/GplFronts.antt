@@ -1,5 +1,5 @@
 -- The fronts of lines of `gsteps` have no equals sign and no line feed, and are read.
-use Rattle.std.proofs.Common.{◌≡◌, ℕ, ◌^◌, ◌<◌, ◌∙◌, true, false, List, [], ◌∷◌, ◌++◌, refl, ap, subst, sym}
+use Rattle.std.proofs.Common.{◌≡◌, ℕ, ◌^◌, ◌<◌, ◌∙◌, true, List, [], ◌∷◌, ◌++◌, refl, ap, subst, sym}
 use Rattle.std.specs.Prelude.{codes, slice_index}
 use Rattle.std.specs.List.{list_all}
 use Rattle.source_defs.specs.Digits.{hex_word, byte_digits}
@@ -36,9 +36,7 @@ clean_name (named.Jump B) = refl
 clean_name (named.Branch true) = refl
 clean_name (named.One FETCH true) = refl
 clean_name (named.One _ true) = refl
-clean_name (named.One FETCH false) = refl
 clean_name (named.Two ADD true) = refl
-clean_name (named.Two ADD false) = refl
 clean_name (named.Two _ true) = refl
 clean_name _ = refl
 

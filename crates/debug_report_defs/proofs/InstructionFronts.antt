@@ -7,7 +7,7 @@ use Rattle.source_defs.specs.Digits.{hex_word}
 use Rattle.source_defs.specs.ListedLines.{two_texts, with_operands}
 use Rattle.tms_defs.specs.Words.{plus}
 use Rattle.tms_defs.specs.Instructions.{instr_at}
-use Rattle.tms_defs.specs.forms.Jump.{jump_target}
+use Rattle.tms_defs.specs.Jumps.{jump_target}
 use Rattle.tms_defs.specs.declared.instruction.Operation.{Operation}
 use Rattle.tms_defs.specs.declared.instruction.Operation.TheVariants as operation
 use Rattle.tms_defs.specs.declared.instruction.TwoOp.TheVariants.{SZC}
@@ -36,7 +36,6 @@ Clean text = list_all in_front text ≡ true
 clean_name : (found : Operation) → Clean (name_of found)
 clean_name (operation.Two SZC false) = refl
 clean_name (operation.Two _ false) = refl
-clean_name (operation.Two _ true) = refl
 clean_name (operation.Reg COC) = refl
 clean_name (operation.Shift SRA) = refl
 clean_name (operation.One BLWP) = refl

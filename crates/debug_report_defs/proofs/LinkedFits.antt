@@ -128,12 +128,7 @@ parts_fit defs words refs found l values all fits e =
     by (Ok a) (Ok b) (Ok c) (Ok uses) (Ok k) (Ok entry) lt e =
         let same : made uses entry ≡ l = cc in
         subst LinkedFits same (record { words = map_fits (map (filled defs uses) words) (filled_fit defs uses words values all); entry = lt entry refl })
-    by (Ok a) (Ok b) (Ok c) (Ok uses) (Ok k) (Err cause) lt e = absurd (cc)
-    by (Ok a) (Ok b) (Ok c) (Ok uses) (Err cause) entry lt e = absurd (cc)
-    by (Ok a) (Ok b) (Ok c) (Err cause) known entry lt e = absurd (cc)
-    by (Ok a) (Ok b) (Err cause) uses known entry lt e = absurd (cc)
-    by (Ok a) (Err cause) alone uses known entry lt e = absurd (cc)
-    by (Err cause) inside alone uses known entry lt e = absurd (cc)
+    by _ _ _ _ _ _ lt e = absurd (cc)
 
 modules_fit : (modules : List Module) (l : LinkedMemory) → linked modules ≡ Ok l → LinkedFits l
 unfolding linked

@@ -47,8 +47,7 @@ registers_fit before after fits n (suc count) le =
     by : (s t : Bool) → AllRegistersFit others
         → AllRegistersFit (cond (s && t) [] (record { number = n; high = slice_index after (2 * n); low = slice_index after (2 * n + 1) } ∷ []) ++ others)
     by true true rest = rest
-    by true false rest = (record { number = omega arith; high = fits (2 * n); low = fits (2 * n + 1) }, rest)
-    by false t rest = (record { number = omega arith; high = fits (2 * n); low = fits (2 * n + 1) }, rest)
+    by _ _ rest = (record { number = omega arith; high = fits (2 * n); low = fits (2 * n + 1) }, rest)
 
 -- ---- what the ports hold
 
@@ -60,14 +59,13 @@ number_fits most old new lt = by (nat_eq old new)
     by false = lt
 
 held_fits : (old new : Option ℕ) → IfSome new (λ byte. byte < 256) → HeldFits (new_held old new)
-held_fits None None lt = tt
 held_fits None (Some new) lt = lt
-held_fits (Some old) None lt = tt
 held_fits (Some old) (Some new) lt = by (nat_eq old new)
   where
     by : (same : Bool) → HeldFits (option_map Some (cond same None (Some new)))
     by true = tt
     by false = lt
+held_fits _ _ lt = tt
 
 -- the changes to a memory
 pub changes_fit : (wp : ℕ) (before : SeenMemory) (m : Memory) → IsMemory m → ChangesFit (memory_changes wp before (seen_memory m))

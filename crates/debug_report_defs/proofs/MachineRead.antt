@@ -198,8 +198,7 @@ change_read made next area end c goes f small = by (nat_eq c.at end) (nat_eq end
                 ∙ ap (λ (d : Change). read (with_bytes_of area d made) rest) (run_back c.at c.byte c.count f.byte count),
           );
     }
-    by true true e z = new
-    by false zero_end e z = new
+    by _ _ e z = new
 
 abbrev with_runs : Area → List Change → MemoryChanges → MemoryChanges
 with_runs Scratchpad cs made = record made { others = record made.others { scratchpad = made.others.scratchpad ++ cs } }
@@ -229,10 +228,7 @@ none_more Registers made = ap (λ (l : List Change). record made { others = reco
 
 small : (area : Area) → size_of area < 2 ^ 64
 small Scratchpad = omega arith
-small LowExpansion = omega arith
-small HighExpansion = omega arith
-small Video = omega arith
-small Registers = omega arith
+small _ = omega arith
 
 -- after a place where the last bytes may go on
 record ReadsFrom (made : MemoryChanges) (next : Option (Area × ℕ)) (text : List ℕ) (left : MemoryChanges) : Type 0 where

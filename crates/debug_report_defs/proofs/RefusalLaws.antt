@@ -38,18 +38,15 @@ refused_by all (Ok lines) = refused_behind all lines (settled (settle (names lin
 refused_by all (Err refusal) = refl
 
 refused_alike : (files : Files) (source : List ℕ) → (listing (of_files files) source).refusal ≡ refusal_of (module_of_files files source)
-refused_alike files source =
-    let found = copied files source in
-    refused_by found.lines (laid_copied found)
+refused_alike files source = let found = copied files source in refused_by found.lines (laid_copied found)
 
 -- two reports that say the same of what is refused
 abbrev Alike : Report → Report → Type 0
 Alike listed assembled = (status_of listed ≡ status_of assembled) × (told_of listed ≡ told_of assembled)
 
 rows_alike : (rows : List (List ℕ)) (answer : Result Module CopyRefusal) → Alike (rows_report rows (refusal_of answer)) (copy_report answer)
-rows_alike rows (Ok found) = (refl, refl)
 rows_alike rows (Err (At place cause)) = (refl, refl)
-rows_alike rows (Err TooLarge) = (refl, refl)
+rows_alike rows _ = (refl, refl)
 
 reports_alike : (files : Files) (source : List ℕ) → Alike (list_report (listing (of_files files) source)) (copy_report (module_of_files files source))
 reports_alike files source =

@@ -6,7 +6,7 @@ use Rattle.tms_defs.specs.Words.{high, low}
 use Rattle.tms_defs.specs.Bytes.{HoldsBytes, HoldsZeros}
 use Rattle.console_defs.specs.Vdp.{VdpState, IsVdp, IsNewVdp}
 use Rattle.console_defs.specs.Grom.{IsGrom, new_grom}
-use Rattle.console_defs.specs.Memory.{Memory, IsMemory, IsNewMemory, Region, Rom, LowExpansion, HighExpansion, Scratchpad, PortOf, Unmapped, region}
+use Rattle.console_defs.specs.Memory.{Memory, IsMemory, IsNewMemory, Region, Rom, LowExpansion, HighExpansion, region}
 use Rattle.console_defs.specs.Memory.{word_placed_in, cell_set}
 use Rattle.console_defs.specs.Machine.{MachineState, IsMachine}
 use Rattle.console_defs.proofs.RunLaws.{new_machine_is}
@@ -57,9 +57,7 @@ placed_fits m is (Rom at) w lt =
     }
 placed_fits m is (LowExpansion at) w lt = with_low m is _ (word_set 8192 m.low_expansion at w lt is.low_expansion)
 placed_fits m is (HighExpansion at) w lt = with_high m is _ (word_set 24576 m.high_expansion at w lt is.high_expansion)
-placed_fits m is (Scratchpad at) w lt = is
-placed_fits m is (PortOf port) w lt = is
-placed_fits m is Unmapped w lt = is
+placed_fits m is _ w lt = is
 
 words_fit : (words : List (ℕ × ℕ)) (m : Memory) → IsMemory m → AreWords words → IsMemory (with_words words m)
 words_fit [] m is fits = is

@@ -11,7 +11,13 @@ use Rattle.tms_defs.specs.Flags.{Width, Byte, Word, byte_or_word, size_of, modul
 use Rattle.tms_defs.specs.Status.{IsStatus, bit_of, with_result, with_order, with_extension, with_mask, status_word, status_at}
 use Rattle.tms_defs.specs.Logic.{swapped, complement_of, by_ones, by_zeros}
 use Rattle.tms_defs.specs.MultiplyDivide.{double_word, product_of, division_of, by_division}
+use Rattle.tms_defs.specs.Operand.{Cpu, Mode, Register, Indirect, Symbolic, Increment, mode_of, register_in, register}
+use Rattle.tms_defs.specs.Jumps.{jump_target, condition}
 use Rattle.tms_defs.specs.Shifts.{shifted}
+use Rattle.tms_defs.specs.Step.{with_word, with_words, next_word, operand, value_at, with_value, with_flags, stored}
+use Rattle.tms_defs.specs.Step.{kept_in, vector_at, kept_of, two, in_row, values_at, with_division, reg, count_of}
+use Rattle.tms_defs.specs.Step.{shift, one, jump_where, immediate, imm, bare, executed, executed_where, execution}
+use Rattle.tms_defs.specs.Step.{is_unsupported, step, step_end}
 use Rattle.tms_defs.specs.Instructions.{instr_at}
 use Rattle.tms_defs.specs.declared.status.Status.{Status}
 use Rattle.tms_defs.specs.declared.flags.Flags.{Flags}
@@ -30,18 +36,6 @@ use Rattle.tms_defs.specs.declared.instruction.BareOp.TheVariants.{LWPI, LIMI, I
 use Rattle.tms_defs.specs.declared.instruction.Instr.{Instr}
 use Rattle.tms_defs.specs.declared.instruction.Instr.TheVariants as instr
 use Rattle.tms_defs.specs.Accesses.{Answer, Gives, AtPort, NoInstruction, ◌>>=◌, Accesses}
-use Rattle.tms_defs.specs.Operand.{Cpu, Mode, Register, Indirect, Symbolic, Increment, mode_of, register_in, with_word, with_words}
-use Rattle.tms_defs.specs.Operand.{register_address, next_word, operand, value_at, with_value}
-use Rattle.tms_defs.specs.forms.Results.{with_flags, stored}
-use Rattle.tms_defs.specs.forms.ContextSwitch.{kept_in, vector_at, kept_of}
-use Rattle.tms_defs.specs.forms.Two.{two}
-use Rattle.tms_defs.specs.forms.Reg.{in_row, values_at, with_division, reg}
-use Rattle.tms_defs.specs.forms.Shift.{count_of, shift}
-use Rattle.tms_defs.specs.forms.One.{one}
-use Rattle.tms_defs.specs.forms.Jump.{jump_target, jump_where, condition}
-use Rattle.tms_defs.specs.forms.Imm.{immediate, imm}
-use Rattle.tms_defs.specs.forms.Bare.{bare}
-use Rattle.tms_defs.specs.Step.{executed, executed_where, execution, is_unsupported, step, step_end}
 use Rattle.tms_defs.proofs.WordLaws.{join-fits, plus-fits, high-fits, low-fits}
 use Rattle.tms_defs.proofs.StatusLaws.{status_at-IsStatus}
 use Rattle.gpl_step_defs.proofs.Kept.{sum_fits, difference_fits, negation_fits, complement_fits}
@@ -179,14 +173,14 @@ module _ (M : Type 0) (access : Accesses M) (P : M → Type 0)
       (λ w lt. holds (w, record x { pc = plus x.pc 2 }) (lt, with_pc x h (plus x.pc 2) (plus-fits x.pc 2)))
 
   at_operand : (x : Cpu M) → Fit P x → (o : Mode) (w : Width) (n : ℕ) → KeptPair 65536 (operand M access o w n x)
-  at_operand x h Register w n = holds (register_address M access x n, x) (plus-fits x.wp (2 * n), h)
-  at_operand x h Indirect w n = holds_then _ _ (word_fits x.memory (register_address M access x n) h.memory) (λ a lt. holds (a, x) (lt, h))
+  at_operand x h Register w n = holds (register n x, x) (plus-fits x.wp (2 * n), h)
+  at_operand x h Indirect w n = holds_then _ _ (word_fits x.memory (register n x) h.memory) (λ a lt. holds (a, x) (lt, h))
   at_operand x h Symbolic w n =
       holds_then _ _ (at_pc x h) (λ b k. holds_num {X = ℕ} _ _ (λ i. holds (plus b.0 i, b.1) (plus-fits b.0 i, k.1)))
   at_operand x h Increment w n =
-      holds_then _ _ (word_fits x.memory (register_address M access x n) h.memory) (λ a lt.
+      holds_then _ _ (word_fits x.memory (register n x) h.memory) (λ a lt.
       holds_then _ (λ (z : Cpu M). Gives (a, z))
-      (to_word x h (register_address M access x n) (plus a (size_of w)) (plus-fits a (size_of w))) (λ z k. holds (a, z) (lt, k)))
+      (to_word x h (register n x) (plus a (size_of w)) (plus-fits a (size_of w))) (λ z k. holds (a, z) (lt, k)))
 
   at_value : (x : Cpu M) → Fit P x → (b : Width) (a : ℕ) → KeptPair (modulus b) (value_at M access b a x)
   at_value x h Byte a =
@@ -229,7 +223,7 @@ module _ (M : Type 0) (access : Accesses M) (P : M → Type 0)
   do_one : (x : Cpu M) → Fit P x → (o : OneOp) (a : ℕ) → a < 65536 → Kept (one M access o a x)
   do_one x h BLWP a lt =
       holds_then _ _ (vector_fits x h a) (λ v w.
-      holds_then _ _ (to_words x h (kept_in M v.0 x) (h.wp, (h.pc, (status_fits x.status h.status, tt))))
+      holds_then _ _ (to_words x h (kept_in v.0 x) (h.wp, (h.pc, (status_fits x.status h.status, tt))))
       (λ z k. holds (record z { wp = v.0; pc = v.1 }) (record { memory = k.memory; pc = w.1; wp = w.0; status = k.status })))
   do_one x h B a lt = holds (record x { pc = even a }) (with_pc x h (even a) (omega arith))
   do_one x h X a lt = none
@@ -241,7 +235,7 @@ module _ (M : Type 0) (access : Accesses M) (P : M → Type 0)
   do_one x h DEC a lt = holds_num {X = ℕ} _ _ (λ v. to_stored x h Word a _ _ (difference_fits Word v 1))
   do_one x h DECT a lt = holds_num {X = ℕ} _ _ (λ v. to_stored x h Word a _ _ (difference_fits Word v 2))
   do_one x h BL a lt =
-      holds_then _ _ (to_word x h (register_address M access x 11) x.pc h.pc) (λ z k. holds (record z { pc = even a }) (with_pc z k (even a) (omega arith)))
+      holds_then _ _ (to_word x h (register 11 x) x.pc h.pc) (λ z k. holds (record z { pc = even a }) (with_pc z k (even a) (omega arith)))
   do_one x h SWPB a lt =
       holds_then _ _ (word_fits x.memory a h.memory)
       (λ v fits. to_word x h a (swapped v) (join-fits _ _ (low-fits v) (high-fits v fits)))
@@ -257,33 +251,33 @@ module _ (M : Type 0) (access : Accesses M) (P : M → Type 0)
       holds_then _ _ (word_fits x.memory s h.memory) (λ v p. holds_then _ _ (word_fits x.memory r h.memory) (λ f q. holds (v, f) (p, q)))
 
   do_reg : (x : Cpu M) → Fit P x → (o : RegOp) (n s : ℕ) → s < 65536 → Kept (reg M access o n s x)
-  do_reg x h COC n s lt = holds_num {X = ℕ × ℕ} _ _ (λ v. holds (with_flags M x (by_ones v.1 v.0 x.status.flags)) (with_status x h _ h.status))
-  do_reg x h CZC n s lt = holds_num {X = ℕ × ℕ} _ _ (λ v. holds (with_flags M x (by_zeros v.1 v.0 x.status.flags)) (with_status x h _ h.status))
+  do_reg x h COC n s lt = holds_num {X = ℕ × ℕ} _ _ (λ v. holds (with_flags x (by_ones v.1 v.0 x.status.flags)) (with_status x h _ h.status))
+  do_reg x h CZC n s lt = holds_num {X = ℕ × ℕ} _ _ (λ v. holds (with_flags x (by_zeros v.1 v.0 x.status.flags)) (with_status x h _ h.status))
   do_reg x h XOR n s lt =
-      holds_then _ _ (values_fit x h s (register_address M access x n))
-      (λ v k. to_stored x h Word (register_address M access x n) _ _ (xor_lt 16 v.1 v.0 k.1 k.0))
+      holds_then _ _ (values_fit x h s (register n x))
+      (λ v k. to_stored x h Word (register n x) _ _ (xor_lt 16 v.1 v.0 k.1 k.0))
   do_reg x h XOP n s lt =
       holds_then _ _ (vector_fits x h (0x0040 + 4 * n)) (λ v w.
-      holds_then _ _ (to_words x h (kept_in M v.0 x ++ ((register_in v.0 11, s) ∷ [])) (h.wp, (h.pc, (status_fits x.status h.status, (lt, tt)))))
+      holds_then _ _ (to_words x h (kept_in v.0 x ++ ((register_in v.0 11, s) ∷ [])) (h.wp, (h.pc, (status_fits x.status h.status, (lt, tt)))))
       (λ z k. holds (record z { wp = v.0; pc = v.1; status = with_extension z.status })
       (record { memory = k.memory; pc = w.1; wp = w.0; status = omega arith })))
   do_reg x h MPY n s lt =
-      holds_then _ _ (values_fit x h s (register_address M access x n))
-      (λ v k. to_words x h (in_row (register_address M access x n) (product_of v.1 v.0)) (product_high v.1 v.0 k.1 k.0, (omega arith, tt)))
+      holds_then _ _ (values_fit x h s (register n x))
+      (λ v k. to_words x h (in_row (register n x) (product_of v.1 v.0)) (product_high v.1 v.0 k.1 k.0, (omega arith, tt)))
   do_reg x h DIV n s lt =
-      holds_then _ _ (values_fit x h s (register_address M access x n)) (λ v k.
-      holds_then _ _ (word_fits x.memory (plus (register_address M access x n) 2) h.memory) (λ l fits.
-      holds_then _ _ (do_division x h (division_of v.1 l v.0) (register_address M access x n) (division_fits v.1 l v.0 fits k.0))
-      (λ z q. holds (with_flags M z (by_division v.1 l v.0 z.status.flags)) (with_status z q _ q.status))))
+      holds_then _ _ (values_fit x h s (register n x)) (λ v k.
+      holds_then _ _ (word_fits x.memory (plus (register n x) 2) h.memory) (λ l fits.
+      holds_then _ _ (do_division x h (division_of v.1 l v.0) (register n x) (division_fits v.1 l v.0 fits k.0))
+      (λ z q. holds (with_flags z (by_division v.1 l v.0 z.status.flags)) (with_status z q _ q.status))))
   do_reg x h LDCR n s lt = none
   do_reg x h STCR n s lt = none
 
   do_shift : (x : Cpu M) → Fit P x → (o : ShiftOp) (c n : ℕ) → Kept (shift M access o c n x)
   do_shift x h o c n =
-      holds_num {X = ℕ} (access.word x.memory (register_address M access x n)) _ (λ v.
-      holds_num {X = ℕ} (count_of M access c x) _ (λ p. to_stored x h Word (register_address M access x n) _ _ (shifted_fits o v p)))
+      holds_num {X = ℕ} (access.word x.memory (register n x)) _ (λ v.
+      holds_num {X = ℕ} (count_of M access c x) _ (λ p. to_stored x h Word (register n x) _ _ (shifted_fits o v p)))
 
-  do_jump : (x : Cpu M) → Fit P x → (o : Option Bool) (d : ℤ) → Kept (jump_where M o d x)
+  do_jump : (x : Cpu M) → Fit P x → (o : Option Bool) (d : ℤ) → Kept (jump_where o d x)
   do_jump x h (Some true) d = holds (record x { pc = jump_target x.pc d }) (with_pc x h _ (plus-fits x.pc _))
   do_jump x h (Some false) d = holds x h
   do_jump x h None d = none
@@ -291,25 +285,25 @@ module _ (M : Type 0) (access : Accesses M) (P : M → Type 0)
   do_immediate : (x : Cpu M) → Fit P x → (n : ℕ) → KeptTriple (immediate M access n x)
   do_immediate x h n =
       holds_then _ _ (at_pc x h) (λ w k.
-      holds_then _ _ (word_fits w.1.memory (register_address M access w.1 n) k.1.memory) (λ f lt. holds (w.0, f, w.1) (k.0, lt, k.1)))
+      holds_then _ _ (word_fits w.1.memory (register n w.1) k.1.memory) (λ f lt. holds (w.0, f, w.1) (k.0, lt, k.1)))
 
   do_imm : (x : Cpu M) → Fit P x → (o : ImmOp) (n : ℕ) → Kept (imm M access o n x)
-  do_imm x h LI n = holds_then _ _ (at_pc x h) (λ w k. to_stored w.1 k.1 Word (register_address M access w.1 n) _ _ k.0)
-  do_imm x h AI n = holds_then _ _ (do_immediate x h n) (λ w k. to_stored w.2 k.2 Word (register_address M access w.2 n) _ _ (sum_fits Word w.1 w.0))
+  do_imm x h LI n = holds_then _ _ (at_pc x h) (λ w k. to_stored w.1 k.1 Word (register n w.1) _ _ k.0)
+  do_imm x h AI n = holds_then _ _ (do_immediate x h n) (λ w k. to_stored w.2 k.2 Word (register n w.2) _ _ (sum_fits Word w.1 w.0))
   do_imm x h ANDI n =
-      holds_then _ _ (do_immediate x h n) (λ w k. to_stored w.2 k.2 Word (register_address M access w.2 n) _ _ (and_lt 16 w.1 w.0 k.1 k.0))
+      holds_then _ _ (do_immediate x h n) (λ w k. to_stored w.2 k.2 Word (register n w.2) _ _ (and_lt 16 w.1 w.0 k.1 k.0))
   do_imm x h ORI n =
-      holds_then _ _ (do_immediate x h n) (λ w k. to_stored w.2 k.2 Word (register_address M access w.2 n) _ _ (or_lt 16 w.1 w.0 k.1 k.0))
+      holds_then _ _ (do_immediate x h n) (λ w k. to_stored w.2 k.2 Word (register n w.2) _ _ (or_lt 16 w.1 w.0 k.1 k.0))
   do_imm x h CI n =
       holds_then _ _ (do_immediate x h n)
       (λ w k. holds (record w.2 { status = with_order Word w.1 w.0 w.2.status }) (with_status w.2 k.2 _ k.2.status))
-  do_imm x h STWP n = to_word x h (register_address M access x n) x.wp h.wp
-  do_imm x h STST n = to_word x h (register_address M access x n) (status_word x.status) (status_fits x.status h.status)
+  do_imm x h STWP n = to_word x h (register n x) x.wp h.wp
+  do_imm x h STST n = to_word x h (register n x) (status_word x.status) (status_fits x.status h.status)
 
   kept_fits : (x : Cpu M) → Fit P x → Holds (λ (r : ℕ × ℕ × ℕ). (r.0 < 65536) × (r.1 < 65536)) (kept_of M access x)
   kept_fits x h =
-      holds_then _ _ (word_fits x.memory (register_address M access x 13) h.memory) (λ wp p.
-      holds_then _ _ (word_fits x.memory (register_address M access x 14) h.memory) (λ pc q.
+      holds_then _ _ (word_fits x.memory (register 13 x) h.memory) (λ wp p.
+      holds_then _ _ (word_fits x.memory (register 14 x) h.memory) (λ pc q.
       holds_num {X = ℕ} _ _ (λ s. holds (wp, pc, s) (p, q))))
 
   do_bare : (x : Cpu M) → Fit P x → (o : BareOp) → Kept (bare M access o x)

@@ -15,15 +15,11 @@ use Rattle.change_defs.specs.Changes.{Change}
 use Rattle.change_defs.specs.Steps.{StepChanges}
 use Rattle.change_defs.specs.Text.{size_of, place_text, repeated_text, change_text, change_texts, part_text, step_text}
 use Rattle.debug_report_defs.specs.Reader.{Digit, sign_of, Reading, Phase, Place, Byte, Times, with_change, between, ended, after_sign, read_from, changes_of_text}
+use Rattle.debug_report_defs.proofs.Digits.{digit_back}
 
 read_append : (r : Reading) (a b : List ℕ) → read_from r (a ++ b) ≡ read_from (read_from r a) b
 read_append r [] b = refl
 read_append r (x ∷ a) b = read_append (after_sign (sign_of x) r) a b
-
-digit_back : (d : ℕ) → digit_value (hexadecimal_digit (d % 16)) ≡ d % 16
-digit_back d =
-    eqb_same _ _
-    (agree_below_at (λ d. eqb (digit_value (hexadecimal_digit d)) d) (λ d. true) 16 (d % 16) refl (omega arith))
 
 sign_digit : (d : ℕ) → sign_of (hexadecimal_digit (d % 16)) ≡ Digit (d % 16)
 sign_digit d = rw (digit_passes is_hexadecimal_digit d refl, digit_back d) refl
@@ -150,8 +146,7 @@ change_read r made p old part end c is goes f = by (nat_eq c.at end) (nat_eq end
         ap (λ (s : Reading). ended (read_from (record s { phase = Byte }) (repeated_text c.byte c.count)))
         (is ∙ ap₂ (λ (q : Part) (k : ℕ). between made q k) on.0 (on.1 ∙ sym at))
         ∙ bytes_read made part c f
-    by true true e z = new [] blank
-    by false zero_end e z = new [] blank
+    by _ _ e z = new [] blank
 
 abbrev pub with_changes : Part → List Change → StepChanges → StepChanges
 with_changes Cells cs made = record made { cells = made.cells ++ cs }

@@ -1,7 +1,8 @@
 -- The words of the command line of `ti_debug`.
 use Rattle.std.specs.Prelude.{⊤, ℕ, ◌≤◌, if◌then◌else◌, List, [], ◌∷◌, codes, Option, Some, None}
 use Rattle.std.specs.Option.{option_map}
-use Rattle.report_defs.specs.Commands.{same_word, number_word, most_instructions, most_steps}
+use Rattle.source_defs.specs.Names.{same_text}
+use Rattle.report_defs.specs.Commands.{number_word, most_instructions, most_steps}
 use Rattle.debug_report_defs.specs.declared.command.DebugCommand.{DebugCommand}
 use Rattle.debug_report_defs.specs.declared.command.DebugCommand.TheVariants.{Glist, Gsteps, Steps}
 use Rattle.debug_report_defs.specs.declared.command.DebugCommand.TheVariants as command
@@ -17,15 +18,15 @@ steps_command word = option_map Steps (number_word most_instructions word)
 -- a command of one word
 abbrev pub command_alone : List ℕ → Option DebugCommand
 command_alone name =
-    if same_word name (codes "glist") then Some Glist
-    else if same_word name (codes "list") then Some command.List
+    if same_text name (codes "glist") then Some Glist
+    else if same_text name (codes "list") then Some command.List
     else None
 
 -- a command with a word after its name
 abbrev pub command_with : List ℕ → List ℕ → Option DebugCommand
 command_with name word =
-    if same_word name (codes "gsteps") then gsteps_command word
-    else if same_word name (codes "steps") then steps_command word
+    if same_text name (codes "gsteps") then gsteps_command word
+    else if same_text name (codes "steps") then steps_command word
     else None
 
 -- words in any other shape are no command

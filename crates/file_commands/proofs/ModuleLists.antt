@@ -8,7 +8,7 @@ use Rattle.object_defs.specs.Reading.{read}
 use Rattle.asm_defs.proofs.CheckLaws.{bound}
 use Rattle.report_defs.specs.LinkedFiles.{FilesRefusal, in_file, modules_of}
 use Rattle.file_commands.specs.declared.file_text.FileText.{FileText}
-use Rattle.file_commands.specs.Reading.{defined_text, defined_texts}
+use Rattle.file_commands.specs.Reading.{model_of_text, model_of_texts}
 use Rattle.file_commands.specs.Modules.{ReportsRefused}
 use Rattle.report_defs.specs.declared.status.Status.{Status}
 use Rattle.report_defs.specs.Report.{Report}
@@ -18,8 +18,8 @@ abbrev Text : Type 0
 Text = List ℕ × List ℕ
 
 texts_more : (texts : List FileText) (text : FileText)
-    → defined_texts (texts ++ text ∷ []) ≡ defined_texts texts ++ defined_text text ∷ []
-texts_more texts text = map-append defined_text texts (text ∷ [])
+    → model_of_texts (texts ++ text ∷ []) ≡ model_of_texts texts ++ model_of_text text ∷ []
+texts_more texts text = map-append model_of_text texts (text ∷ [])
 
 abbrev Modules : Type 0
 Modules = Result (List Module) FilesRefusal
@@ -54,23 +54,23 @@ modules_stop (next ∷ front) rest text found refusal e one =
 
 pub modules_next : (front texts : List FileText) (text : FileText) (found more all : List Module)
     → texts ≡ front ++ text ∷ []
-    → all ≡ found ++ more → modules_of (defined_texts front) ≡ Ok found
+    → all ≡ found ++ more → modules_of (model_of_texts front) ≡ Ok found
     → in_file text.name (read text.bytes.items) ≡ Ok more
-    → modules_of (defined_texts texts) ≡ Ok all
+    → modules_of (model_of_texts texts) ≡ Ok all
 modules_next front texts text found more all is longer so_far one =
-    ap (λ texts. modules_of (defined_texts texts)) is
+    ap (λ texts. modules_of (model_of_texts texts)) is
     ∙ (ap modules_of (texts_more front text)
-    ∙ (modules_more (defined_texts front) (defined_text text) found more so_far one ∙ ap Ok (sym longer)))
+    ∙ (modules_more (model_of_texts front) (model_of_text text) found more so_far one ∙ ap Ok (sym longer)))
 
 pub modules_end : (front rest texts : List FileText) (text : FileText) (found : List Module) (told : Result Report Status)
-    → texts ≡ front ++ text ∷ rest → modules_of (defined_texts front) ≡ Ok found
+    → texts ≡ front ++ text ∷ rest → modules_of (model_of_texts front) ≡ Ok found
     → Reported (ReportsRefused (in_file text.name (read text.bytes.items))) WantsMemory told
-    → Reported (ReportsRefused (modules_of (defined_texts texts))) WantsMemory told
+    → Reported (ReportsRefused (modules_of (model_of_texts texts))) WantsMemory told
 modules_end front rest texts text found (Ok report) is so_far (refusal, refused, same) = (
   refusal,
-  ap (λ texts. modules_of (defined_texts texts)) is
-      ∙ (ap modules_of (map-append defined_text front (text ∷ rest))
-      ∙ modules_stop (defined_texts front) (defined_texts rest) (defined_text text) found refusal so_far refused),
+  ap (λ texts. modules_of (model_of_texts texts)) is
+      ∙ (ap modules_of (map-append model_of_text front (text ∷ rest))
+      ∙ modules_stop (model_of_texts front) (model_of_texts rest) (model_of_text text) found refusal so_far refused),
   same,
 )
 modules_end front rest texts text found (Err end) is so_far memory = memory

@@ -20,7 +20,7 @@ use Rattle.report_defs.specs.Report.{largest_input}
 use Rattle.report_defs.specs.LinkedFiles as spec
 use Rattle.report_defs.specs.LinkedFiles.{FilesRefusal, TooLarge, bytes_of, read_by}
 use Rattle.file_commands.specs.declared.file_text.FileText.{FileText}
-use Rattle.file_commands.specs.Reading.{defined_text, defined_texts, Refuses, LinkDialogue, EndsReading, Reads}
+use Rattle.file_commands.specs.Reading.{model_of_text, model_of_texts, Refuses, LinkDialogue, EndsReading, Reads}
 
 -- the question for a file that was read
 abbrev pub question_of : FileText → Question
@@ -43,7 +43,7 @@ with_others rest first = rest >>= λ others. Ok (first ∷ others)
 
 -- ---- what is read by some contents
 
-text_read : (text : FileText) (content : Option (List ℕ)) → content ≡ Some text.bytes.items → bytes_of text.name content ≡ Ok (defined_text text)
+text_read : (text : FileText) (content : Option (List ℕ)) → content ≡ Some text.bytes.items → bytes_of text.name content ≡ Ok (model_of_text text)
 text_read text content is =
     let le = text.within in
     let fits : nat_lt largest_input (length text.bytes.items) ≡ false = grind (arith, nat_tests, le) in
@@ -52,16 +52,16 @@ text_read text content is =
 module _ (contents : Contents) where
   -- one file, and then others
   read_first : (number : ℕ) (text : FileText) (names : List (List ℕ)) (others : Texts) → contents number text.name ≡ Some text.bytes.items
-      → read_by contents (number + 1) names ≡ others → read_by contents number (text.name ∷ names) ≡ with_others others (defined_text text)
+      → read_by contents (number + 1) names ≡ others → read_by contents number (text.name ∷ names) ≡ with_others others (model_of_text text)
   read_first number text names others is rest =
       ap (λ (answer : Result Text FilesRefusal). answer >>= with_others (read_by contents (number + 1) names)) (text_read text (contents number text.name) is)
-      ∙ ap (λ (rest : Texts). with_others rest (defined_text text)) rest
+      ∙ ap (λ (rest : Texts). with_others rest (model_of_text text)) rest
 
   all_read : (number : ℕ) (texts : List FileText) → Agrees largest_input contents number (questions_of texts)
-      → read_by contents number (names_in texts) ≡ Ok (defined_texts texts)
+      → read_by contents number (names_in texts) ≡ Ok (model_of_texts texts)
   all_read number [] agrees = refl
   all_read number (text ∷ texts) agrees =
-      read_first number text (names_in texts) (Ok (defined_texts texts)) agrees.0 (all_read (number + 1) texts agrees.1)
+      read_first number text (names_in texts) (Ok (model_of_texts texts)) agrees.0 (all_read (number + 1) texts agrees.1)
 
   -- the next file is not read
   read_stops : (number : ℕ) (texts : List FileText) (rest : List (List ℕ)) (name : List ℕ) (refusal : FilesRefusal)
@@ -201,7 +201,7 @@ module _ (texts : List FileText) (s t u : ShelfState) (so_far : ReadSoFar texts 
 
 -- all were read
 pub reads_all : {A : Type 0} (texts : List FileText) (s t : ShelfState) → ReadSoFar texts s t → (see : A → List (List ℕ × List ℕ)) (value : A) (names : List (List ℕ))
-    → see value ≡ defined_texts texts → names_in texts ≡ names → Reads see names (Ok value) s t
+    → see value ≡ model_of_texts texts → names_in texts ≡ names → Reads see names (Ok value) s t
 reads_all texts s t so_far see value names seen are = record {
   questions = questions_of texts;
   dialogue = record {

@@ -15,11 +15,11 @@ use Rattle.report_defs.specs.LinkedFiles.{FilesRefusal, read_by}
 use Rattle.file_commands.specs.declared.file_text.FileText.{FileText}
 
 -- a file with its name
-abbrev pub defined_text : FileText → List ℕ × List ℕ
-defined_text text = (text.name, text.bytes.items)
+abbrev pub model_of_text : FileText → List ℕ × List ℕ
+model_of_text text = (text.name, text.bytes.items)
 
-abbrev pub defined_texts : List FileText → List (List ℕ × List ℕ)
-defined_texts texts = map defined_text texts
+abbrev pub model_of_texts : List FileText → List (List ℕ × List ℕ)
+model_of_texts texts = map model_of_text texts
 
 abbrev pub Refuses : {B : Type 0} → FileError → Result B FilesRefusal → Type 0
 Refuses (Missing name) defined = defined ≡ Err (spec.Missing name)

@@ -1,10 +1,10 @@
 //! `asm` with the files that the source copies.
 
 ghost use Rattle.std.specs.Prelude.{◌≡◌, ◌≤◌, length, Err, IfOk};
-ghost use Rattle.source_defs.specs.Refusals.{seen};
+ghost use Rattle.source_defs.specs.Refusals.{map_ok};
 ghost use Rattle.object_defs.specs.Writing.{written_lines};
 ghost use Rattle.object_tags.specs.Lines.{bytes_of};
-ghost use Rattle.object_tags.specs.Seen.{defined_module};
+ghost use Rattle.object_tags.specs.Seen.{model_of_module};
 ghost use Rattle.bench_shelf.specs.Causes.{CountsGrew};
 ghost use Rattle.bench_shelf.specs.Answered.{IsOfLines};
 ghost use Rattle.report_defs.specs.Report.{largest_input};
@@ -47,7 +47,7 @@ pub fn asm_files<F: Shelf>(
 
 /// Why a source is refused, or is not assembled.
 fn refused(error: CopyError) -> CommandError
-    ensures { error_answer result ≡ seen (λ refusal. copy_report (Err refusal)) (copy_refusal error) }
+    ensures { error_answer result ≡ map_ok (λ refusal. copy_report (Err refusal)) (copy_refusal error) }
 {
     match error {
         CopyError::At { file, line, cause } => CommandError::Refused(copy_line(file, line, cause)),
@@ -59,8 +59,8 @@ fn refused(error: CopyError) -> CommandError
 
 /// The lines of the object text of a module of some lines.
 fn lines_of(alloc: Global, module: &Module) -> Result<Vec<ObjectLine>, AllocError>
-    requires { IsOfLines (defined_module «module».now) }
-    ensures { IfOk result (λ lines. bytes_of lines.items ≡ written_lines (defined_module «module».now)) }
+    requires { IsOfLines (model_of_module «module».now) }
+    ensures { IfOk result (λ lines. bytes_of lines.items ≡ written_lines (model_of_module «module».now)) }
 {
     write_lines(alloc, module)
 }

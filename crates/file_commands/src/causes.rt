@@ -2,7 +2,7 @@
 
 ghost use Rattle.std.specs.Prelude.{◌≡◌, ◌≤◌, length, Some};
 ghost use Rattle.arrayvec.specs.ArrayVec.{array_vec_len};
-ghost use Rattle.bench_shelf.specs.CopyAnswers.{defined_cause};
+ghost use Rattle.bench_shelf.specs.CopyAnswers.{model_of_cause};
 ghost use Rattle.report_defs.specs.FileLines as spec;
 ghost use Rattle.report_defs.specs.FaultLine as faults;
 ghost use Rattle.report_defs.specs.ObjectFaults as objects;
@@ -14,14 +14,14 @@ use report_lines::{Line, append, append_count, asm_line, refusal_line};
 
 /// The line of a refused line of a source, or of a file that it copies, by its number there, from 1.
 pub fn copy_line(file: Option<FileName>, line: u32, cause: CopyCause) -> Line
-    ensures { result.items ≡ spec.place_line (record { file = file; line = line }) (defined_cause cause) }
+    ensures { result.items ≡ spec.place_line (record { file = file; line = line }) (model_of_cause cause) }
 {
     in_file(file, cause_line(line, cause).as_slice())
 }
 
 /// What is said of a refused line, by its number.
 fn cause_line(number: u32, cause: CopyCause) -> Line
-    ensures line { result.items ≡ faults.refusal_line number (spec.copy_cause_text (defined_cause cause)) }
+    ensures line { result.items ≡ faults.refusal_line number (spec.copy_cause_text (model_of_cause cause)) }
     ensures short { array_vec_len result ≤ 128 }
 {
     match cause {

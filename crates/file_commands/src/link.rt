@@ -1,12 +1,12 @@
 //! `link` with files.
 
 ghost use Rattle.std.specs.Prelude.{◌≡◌, ◌≤◌, length, Err};
-ghost use Rattle.source_defs.specs.Refusals.{seen};
+ghost use Rattle.source_defs.specs.Refusals.{map_ok};
 ghost use Rattle.bench_shelf.specs.Causes.{CountsGrew};
 ghost use Rattle.report_defs.specs.ProgramCommands.{most_files};
 ghost use Rattle.report_defs.specs.LinkedFiles.{linked_texts};
 ghost use Rattle.report_defs.specs.FileReports.{files_report};
-ghost use Rattle.file_commands.specs.Reading.{defined_texts, refusal_of};
+ghost use Rattle.file_commands.specs.Reading.{model_of_texts, refusal_of};
 ghost use Rattle.file_commands.specs.Reported.{LinkReported, LinkFails};
 ghost use Rattle.reports.specs.Answers.{answer, WantsMemory, Reported, error_answer};
 
@@ -48,7 +48,7 @@ pub fn link_files<F: Shelf>(
 
 /// Why files are not read.
 fn unread(error: FileError) -> CommandError
-    ensures { error_answer result ≡ seen (λ refusal. files_report (Err refusal)) (refusal_of error) }
+    ensures { error_answer result ≡ map_ok (λ refusal. files_report (Err refusal)) (refusal_of error) }
 {
     match error {
         FileError::Missing(name) => CommandError::Refused(missing_line(name)),
@@ -62,7 +62,7 @@ fn unread(error: FileError) -> CommandError
 #[tactic(auto, using(crate::proofs::LinkLaws::bad_place, crate::proofs::LinkLaws::texts_linked))]
 fn link_texts(alloc: Global, texts: &[FileText]) -> Result<Report, CommandError>
     requires { length texts.now ≤ most_files }
-    ensures { Reported (λ report. report ≡ files_report (linked_texts (defined_texts texts.now))) WantsMemory
+    ensures { Reported (λ report. report ≡ files_report (linked_texts (model_of_texts texts.now))) WantsMemory
         (answer result) }
 {
     let modules = modules_of(alloc, texts)?;

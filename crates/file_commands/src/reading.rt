@@ -3,7 +3,7 @@
 ghost use Rattle.std.specs.Prelude.{IfErr, OnOk};
 ghost use Rattle.bench_shelf.specs.Causes.{FileCauses, CountsGrew, ReadWithinLimit};
 ghost use Rattle.report_defs.specs.Report.{largest_input};
-ghost use Rattle.file_commands.specs.Reading.{Reads, defined_texts};
+ghost use Rattle.file_commands.specs.Reading.{Reads, model_of_texts};
 
 use crate::file_text::FileText;
 use bench_shelf::{FileError, FileName, Shelf, read_named};
@@ -17,7 +17,7 @@ pub(crate) fn read_files<F: Shelf>(
     shelf: &mut F,
     names: &[FileName],
 ) -> Result<Vec<FileText>, FileError>
-    ensures reads { Reads (λ texts. defined_texts texts.items) names.now result
+    ensures reads { Reads (λ texts. model_of_texts texts.items) names.now result
         (F.shelf shelf.old) (F.shelf shelf.new) }
     ensures causes { IfErr result (λ error. FileCauses largest_input error (F.shelf shelf.old) (F.shelf shelf.new)) }
     ensures within { OnOk result (ReadWithinLimit largest_input (F.shelf shelf.old) (F.shelf shelf.new)) }

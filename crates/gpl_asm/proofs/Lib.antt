@@ -1,4 +1,3 @@
-pub mod Short
 pub mod RestLaws
 pub mod ReplayLaws
 pub mod LineLaws

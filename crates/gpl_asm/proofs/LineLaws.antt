@@ -1,9 +1,9 @@
 -- A builder behind one line more.
 use Rattle.std.proofs.Common.{◌≡◌, ℕ, ◌+◌, Bool, true, false, List, [], ◌∷◌, ◌++◌, Some, None, Ok, Err, refl, sym, ap, ◌∙◌, arith}
-use Rattle.std.specs.Prelude.{Option, Result, if◌then◌else◌}
+use Rattle.std.specs.Prelude.{Option, Result, is_some, if◌then◌else◌}
 use Rattle.source_defs.specs.Refusals.{Refusal, ◌>>=◌, at_line}
 use Rattle.source_defs.specs.Symbols.{Names, look_up}
-use Rattle.source_defs.specs.Layout.{settled, set_or, none_or, origin, since}
+use Rattle.source_defs.specs.Layout.{settled, set_or, origin, since_origin, bytes_of}
 use Rattle.gpl_source_defs.specs.declared.causes.GplCause.{GplCause}
 use Rattle.gpl_source_defs.specs.declared.causes.GplCause.TheVariants.{Overlap}
 use Rattle.gpl_source_defs.specs.declared.location.Location.{Location}
@@ -21,10 +21,12 @@ use Rattle.std.proofs.lemmas.List.{append-nil}
 use Rattle.gpl_asm.proofs.ReplayLaws.{replay_more}
 
 -- the location behind a line
-location_by : (set : Option Location) (from : Location) (bytes more : ℕ)
-    → behind (set_or set from) (none_or set bytes + more) ≡ behind (set_or set (behind from bytes)) more
-location_by (Some origin) from bytes more = ap (λ number. record { grom = origin.grom; number = origin.number + number }) (omega arith)
-location_by None from bytes more =
+location_by : (set : Option Location) (from : Location) (lines : List Line) (more : ℕ)
+    → behind (set_or set from) (bytes_of (if is_some set then [] else since_origin lines) + more)
+    ≡ behind (set_or set (behind from (bytes_of (since_origin lines)))) more
+location_by (Some origin) from lines more = ap (λ number. record { grom = origin.grom; number = origin.number + number }) (omega arith)
+location_by None from lines more =
+    let bytes = bytes_of (since_origin lines) in
     let same : from.number + (bytes + more) ≡ from.number + bytes + more = omega arith in
     ap (λ number. record { grom = from.grom; number = number }) same
 
@@ -33,7 +35,7 @@ pub location_more : (number : ℕ) (found : Checked) (lines : List Line)
     ≡ behind (set_or (origin_of (location lines) found.statement) (location lines)) (declared_size found.statement)
 location_more number found lines =
     let none : 0 + declared_size found.statement ≡ declared_size found.statement = omega arith in
-    location_by (origin_of (location lines) found.statement) (origin start behind lines) (since start behind lines) (0 + declared_size found.statement)
+    location_by (origin_of (location lines) found.statement) (origin start behind lines) lines (0 + declared_size found.statement)
     ∙ ap (behind (set_or (origin_of (location lines) found.statement) (location lines))) none
 
 -- a line's place

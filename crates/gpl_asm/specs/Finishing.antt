@@ -11,12 +11,12 @@ use Rattle.gpl_asm.specs.declared.lines.GplLines.{GplLines}
 use Rattle.gpl_asm.specs.Errors.{RefusesAt}
 use Rattle.gpl_asm.specs.Building.{HasAccepted}
 
-abbrev pub defined_program : GplProgram → Program
-defined_program program = record { image = program.image; entry = program.entry; names = program.names }
+abbrev pub model_of_program : GplProgram → Program
+model_of_program program = record { image = program.image; entry = program.entry; names = program.names }
 
 -- the program that is defined, or the refused line; if memory ran out, nothing is said
 abbrev pub GivesProgram : Result GplProgram GplError → Result Program (Refusal GplCause) → Type 0
-GivesProgram (Ok found) defined = defined ≡ Ok (defined_program found)
+GivesProgram (Ok found) defined = defined ≡ Ok (model_of_program found)
 GivesProgram (Err error) defined = RefusesAt error defined
 
 -- a line was taken after others, or the first checks refuse it there

@@ -12,7 +12,7 @@ use Rattle.gpl_source_defs.specs.FirstChecks.{parsed}
 use Rattle.gpl_source_defs.specs.SecondChecks.{Outcome, Bytes, outcome}
 use Rattle.gpl_source_defs.specs.Programs.{bytes_in, entry_by, overlaps}
 use Rattle.gpl_lines.specs.Answers.{Fails, NoMemory}
-use Rattle.gpl_lines.specs.Defined.{defined_outcome}
+use Rattle.gpl_lines.specs.Defined.{model_of_outcome}
 use Rattle.gpl_lines.specs.declared.failure.Failure.{Failure}
 use Rattle.gpl_asm.specs.declared.error.GplError.{GplError}
 use Rattle.gpl_asm.specs.declared.pending.Pending.{Pending}
@@ -40,7 +40,7 @@ put at found built =
 
 -- what is left of a line comes to, by all names
 abbrev pub answer_by : Names → Location → Rest → Result Outcome GplCause
-answer_by later at (Resolved found) = Ok (defined_outcome found)
+answer_by later at (Resolved found) = Ok (model_of_outcome found)
 answer_by later at (Refused cause) = Err cause
 answer_by later at (Unresolved text) = parsed later at text.items >>= λ statement. outcome (look_up later) at statement
 

@@ -14,7 +14,7 @@ use crate::error::GplError;
 use crate::finish::GplProgram;
 use crate::lines::GplLines;
 use crate::taken::TakenLine;
-use asm_text::Symbols;
+use asm_text::{Symbols, split_line};
 use gpl_forms::GromImage;
 use gpl_source_defs::Location;
 use std::alloc::{AllocError, Global};
@@ -56,7 +56,7 @@ impl GplLines {
         ensures lines { (lines : List Line) → IsBehind lines self.old → Takes lines line.now result self.new }
         ensures short { OnOk result (length line.now ≤ 256) }
     {
-        self.take(line)
+        self.take(&split_line(line))
     }
 
     /// The names of the lines that were taken, beside the names of registers.

@@ -8,7 +8,7 @@ ghost use Rattle.gpl_source_defs.specs.FirstChecks.{label_entry, parsed};
 ghost use Rattle.gpl_source_defs.specs.declared.location.Location.{Location};
 ghost use Rattle.gpl_source_defs.specs.SecondChecks.{Bytes, outcome};
 ghost use Rattle.gpl_source_defs.specs.Growing as growing;
-ghost use Rattle.gpl_lines.specs.Defined.{defined_statement};
+ghost use Rattle.gpl_lines.specs.Defined.{model_of_statement};
 ghost use Rattle.gpl_lines.specs.Validity.{IsValid};
 ghost use Rattle.gpl_asm.specs.Replay.{answer, WaitsForSome};
 ghost use Rattle.gpl_asm.specs.Keeping.{pending_of, StandsStill};
@@ -29,10 +29,10 @@ pub(crate) fn assemble_line(
     statement: &Statement<'_>,
 ) -> Result<Option<Rest>, AllocError>
     requires valid { IsValid statement.now }
-    requires parsed { parsed scope.now.symbols.now scope.now.at text.now ≡ Ok (defined_statement statement.now) }
+    requires parsed { parsed scope.now.symbols.now scope.now.at text.now ≡ Ok (model_of_statement statement.now) }
     ensures waits { IfOk result WaitsForSome }
     ensures answers { IfOk result (λ rest. (later : Names) → Grows scope.now.symbols.now later →
-        answer later scope.now.at rest ≡ outcome (look_up later) scope.now.at (defined_statement statement.now)) }
+        answer later scope.now.at rest ≡ outcome (look_up later) scope.now.at (model_of_statement statement.now)) }
 {
     match scope.outcome(statement) {
         Ok(Outcome::Bytes(bytes)) => Ok(assembled_bytes(bytes)),

@@ -4,7 +4,7 @@ ghost use Rattle.std.specs.Prelude.{◌≡◌, ◌≤◌, ◌+◌, ℕ, length, 
 ghost use Rattle.gpl_defs.specs.Image.{placed};
 ghost use Rattle.gpl_source_defs.specs.declared.causes.GplCause.TheVariants.{Overlap};
 ghost use Rattle.gpl_source_defs.specs.Programs.{bytes_in, overlaps};
-ghost use Rattle.gpl_lines.specs.Defined.{defined_outcome};
+ghost use Rattle.gpl_lines.specs.Defined.{model_of_outcome};
 ghost use Rattle.gpl_asm.specs.Replay.{Puts};
 
 use gpl_forms::GromImage;
@@ -22,8 +22,8 @@ pub fn put(
     at: Location,
     outcome: &Outcome,
 ) -> Result<Option<u16>, GplCause>
-    ensures { at.number + length (bytes_in (defined_outcome outcome.now)) ≤ 65536 →
-        Puts image.old entry at (defined_outcome outcome.now) result image.new }
+    ensures { at.number + length (bytes_in (model_of_outcome outcome.now)) ≤ 65536 →
+        Puts image.old entry at (model_of_outcome outcome.now) result image.new }
 {
     match outcome {
         Outcome::Bytes(bytes) => {

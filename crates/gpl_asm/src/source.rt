@@ -7,7 +7,7 @@ ghost use Rattle.gpl_asm.specs.Finishing.{GivesProgram};
 use crate::error::GplError;
 use crate::finish::GplProgram;
 use crate::lines::GplLines;
-use asm_text::lines;
+use asm_text::{lines, split_line};
 use std::alloc::Global;
 
 /// Assembles a GPL source of fewer than 2^32 bytes. Lines after END are not read.
@@ -21,7 +21,7 @@ pub fn gpl_assemble(alloc: Global, text: &[u8]) -> Result<GplProgram, GplError>
 {
     let mut builder = GplLines::new(alloc)?;
     for line in lines(text) {
-        builder.take(&text[line.span.start..line.span.end])?;
+        builder.take(&split_line(&text[line.span.start..line.span.end]))?;
         if builder.ended {
             break;
         }

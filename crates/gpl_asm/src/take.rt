@@ -4,7 +4,7 @@ ghost use Rattle.std.specs.Prelude.{◌≡◌, ◌<◌, ◌≤◌, ◌+◌, ◌-
 ghost use Rattle.source_defs.specs.Layout.{set_or};
 ghost use Rattle.gpl_source_defs.specs.Locations.{Line, behind, IsInGrom};
 ghost use Rattle.gpl_source_defs.specs.FirstChecks.{is_end};
-ghost use Rattle.gpl_lines.specs.Defined.{defined_statement};
+ghost use Rattle.gpl_lines.specs.Defined.{model_of_statement};
 ghost use Rattle.gpl_asm.specs.Keeping.{Counts, SameLists};
 ghost use Rattle.gpl_asm.specs.Building.{IsBehind, Takes};
 
@@ -12,28 +12,28 @@ use crate::error::{GplError, refusal_at};
 use crate::keep::assemble_line;
 use crate::lines::GplLines;
 use crate::taken::TakenLine;
-use asm_text::is_comment_line;
+use asm_text::SplitLine;
 use gpl_lines::{Checked, Scope};
 use gpl_source_defs::Location;
 
 impl GplLines {
     /// Takes a line after those that were taken, and returns where it is placed. A refused line leaves the builder as
     /// before.
-    pub(crate) fn take(&mut self, text: &[u8]) -> Result<TakenLine, GplError>
+    pub(crate) fn take(&mut self, line: &SplitLine<'_>) -> Result<TakenLine, GplError>
         requires { self.old.taken < 2 ^ 32 - 1 }
-        ensures takes { (lines : List Line) → IsBehind lines self.old → Takes lines text.now result self.new }
-        ensures short { OnOk result (length text.now ≤ 256) }
+        ensures takes { (lines : List Line) → IsBehind lines self.old → Takes lines line.now.text.now result self.new }
+        ensures short { OnOk result (length line.now.text.now ≤ 256) }
     {
-        if is_comment_line(text) {
+        if line.is_comment() {
             self.count();
             return Ok(self.nothing_taken());
         }
         let scope = self.scope();
-        let checked = match scope.checked(text) {
+        let checked = match scope.checked(line) {
             Ok(checked) => checked,
             Err(failure) => return Err(refusal_at(self.taken + 1, failure)),
         };
-        let rest = assemble_line(&scope, text, &checked.statement)?;
+        let rest = assemble_line(&scope, line.text, &checked.statement)?;
         let at = self.location;
         let origin = checked.origin(at);
         let value = checked.label_value(at);
@@ -87,7 +87,7 @@ impl GplLines {
         requires place { IsInGrom (behind (set_or origin self.old.location) checked.now.size) }
         ensures location { self.new.location ≡ behind (set_or origin self.old.location) checked.now.size }
         ensures taken { self.new.taken ≡ self.old.taken + 1 }
-        ensures ended { self.new.ended ≡ (is_end (defined_statement checked.now.statement) || self.old.ended) }
+        ensures ended { self.new.ended ≡ (is_end (model_of_statement checked.now.statement) || self.old.ended) }
         ensures waiting { SameLists self.old self.new }
     {
         let from = match origin {

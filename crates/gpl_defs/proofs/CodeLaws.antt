@@ -1,157 +1,76 @@
 -- Laws of the table of codes: each code byte of an operation's row is that operation's, and says the bits of its form.
-use Rattle.std.proofs.Common.{◌≡◌, ℕ, zero, suc, ◌+◌, ◌-◌, ◌*◌, ◌/◌, ◌%◌, ◌<◌, ◌≤◌, Bool, true, false, ◌&&◌, ◌||◌, not, refl, arith}
+use Rattle.std.proofs.Common.{◌≡◌, ℕ, ◌+◌, ◌-◌, ◌*◌, ◌/◌, ◌%◌, ◌<◌, ◌≤◌, Bool, true, false, ◌&&◌, ◌||◌, not, cond, refl, sym, ap, ◌∙◌, arith, List, [], ◌∷◌}
 use Rattle.std.proofs.Common.{Option, Some, None}
-use Rattle.std.specs.Prelude.{◌==◌, is_some, nat_le, nat_lt}
-use Rattle.std.proofs.lemmas.Bool.{agree_below_at}
-use Rattle.gpl_defs.specs.declared.instruction.PlainOp.{PlainOp}
-use Rattle.gpl_defs.specs.declared.instruction.PlainOp.TheVariants.{RTN, RTNC, H, GT, EXIT, CARRY, OVF}
-use Rattle.gpl_defs.specs.declared.instruction.ByteOp.{ByteOp}
-use Rattle.gpl_defs.specs.declared.instruction.ByteOp.TheVariants.{RAND, BACK, ALL}
-use Rattle.gpl_defs.specs.declared.instruction.GoOp.{GoOp}
-use Rattle.gpl_defs.specs.declared.instruction.GoOp.TheVariants.{B, CALL}
-use Rattle.gpl_defs.specs.declared.instruction.OneName.{OneName}
-use Rattle.gpl_defs.specs.declared.instruction.OneName.TheVariants.{
-  ABS,
-  NEG,
-  INV,
-  CLR,
-  CASE,
-  CZ,
-  INC,
-  DEC,
-  INCT,
-  DECT,
-  FETCH,
-  PUSH,
-}
-use Rattle.gpl_defs.specs.declared.instruction.TwoName.{TwoName}
-use Rattle.gpl_defs.specs.declared.instruction.TwoName.TheVariants.{
-  ADD,
-  SUB,
-  MUL,
-  DIV,
-  AND,
-  OR,
-  XOR,
-  ST,
-  EX,
-  CH,
-  CHE,
-  CGT,
-  CGE,
-  CEQ,
-  CLOG,
-  SRA,
-  SLL,
-  SRL,
-  SRC,
-}
-use Rattle.gpl_defs.specs.declared.instruction.MoveKind.{MoveKind}
-use Rattle.gpl_defs.specs.declared.instruction.MoveKind.TheVariants.{
-  GromToMemory,
-  GromIndexedToMemory,
-  MemoryToMemory,
-  GromToRegisters,
-}
+use Rattle.std.specs.Prelude.{◌==◌, is_some, nat_le, nat_lt, find}
+use Rattle.std.specs.List.{list_all}
+use Rattle.std.specs.Cmp.{first_so, second_so}
+use Rattle.std.proofs.lemmas.Bool.{agree_below, agree_below_at}
+use Rattle.std.proofs.lemmas.Bool.Decides.{nat_tests}
+use Rattle.gpl_defs.specs.declared.instruction.PlainOp.TheVariants.{RTN}
+use Rattle.gpl_defs.specs.declared.instruction.ByteOp.TheVariants.{RAND}
+use Rattle.gpl_defs.specs.declared.instruction.GoOp.TheVariants.{B}
+use Rattle.gpl_defs.specs.declared.instruction.OneName.TheVariants.{ABS}
+use Rattle.gpl_defs.specs.declared.instruction.TwoName.TheVariants.{ADD}
+use Rattle.gpl_defs.specs.declared.instruction.MoveKind.TheVariants.{GromToMemory}
 use Rattle.gpl_defs.specs.declared.instruction.GplOperation.{GplOperation}
 use Rattle.gpl_defs.specs.declared.instruction.GplOperation.TheVariants.{Plain, Byte, Jump, Branch, One, Two, Move}
-use Rattle.gpl_defs.specs.Codes.{row_of, plain_row, byte_row, go_row, branch_row, one_row, two_row, move_row, operation_at}
+use Rattle.gpl_defs.specs.Codes.{row_of, plain_row, byte_row, go_row, branch_row, one_row, two_row, move_row, operations, has_code, operation_at}
 use Rattle.gpl_defs.specs.Valid.{has_words, has_immediate}
 
--- the operation of so many code bytes behind the first of its row
+-- a row is found by its first code byte
+own_row : (operation : GplOperation) → operation_at (row_of operation).code ≡ Some operation
+own_row (Plain RTN) = refl
+own_row (Byte RAND) = refl
+own_row (Jump B) = refl
+own_row (Branch false) = refl
+own_row (One ABS) = refl
+own_row (Two ADD) = refl
+own_row (Move GromToMemory) = refl
+own_row _ = refl
 
-once : (operation : GplOperation) → operation_at ((row_of operation).code + 0) ≡ Some operation → (variant : ℕ) →
-    variant < 1 → operation_at ((row_of operation).code + variant) ≡ Some operation
-once operation here zero lt = here
-once operation here (suc variant) lt = absurd (omega arith)
+-- the row that is found passes a test that all rows pass
+found_passes : (test is_found : GplOperation → Bool) (rows : List GplOperation) (operation : GplOperation) → list_all test rows ≡ true →
+    find is_found rows ≡ Some operation → test operation ≡ true
+found_passes test is_found [] operation all e = absurd (cc)
+found_passes test is_found (row ∷ rows) operation all e =
+    by (found_passes test is_found rows operation (second_so (test row) (list_all test rows) all)) (is_found row) e
+  where
+    by : (find is_found rows ≡ Some operation → test operation ≡ true) → (b : Bool) →
+        cond b (Some row) (find is_found rows) ≡ Some operation → test operation ≡ true
+    by rest true found =
+        let same : row ≡ operation = cc in rw (← same) (first_so (test row) (list_all test rows) all)
+    by rest false found = rest found
 
-twice : (operation : GplOperation) → operation_at ((row_of operation).code + 0) ≡ Some operation →
-    operation_at ((row_of operation).code + 1) ≡ Some operation → (variant : ℕ) → variant < 2 →
-    operation_at ((row_of operation).code + variant) ≡ Some operation
-twice operation here next zero lt = here
-twice operation here next (suc zero) lt = next
-twice operation here next (suc (suc variant)) lt = absurd (omega arith)
+-- a test that each row passes is passed by each operation
+pub each_operation : (test : GplOperation → Bool) → list_all test operations ≡ true → (operation : GplOperation) →
+    test operation ≡ true
+each_operation test all operation =
+    found_passes test (λ row. has_code row (row_of operation).code) operations operation all (own_row operation)
 
-four : (operation : GplOperation) → operation_at ((row_of operation).code + 0) ≡ Some operation →
-    operation_at ((row_of operation).code + 1) ≡ Some operation →
-    operation_at ((row_of operation).code + 2) ≡ Some operation →
-    operation_at ((row_of operation).code + 3) ≡ Some operation → (variant : ℕ) → variant < 4 →
-    operation_at ((row_of operation).code + variant) ≡ Some operation
-four operation here next third last zero lt = here
-four operation here next third last (suc zero) lt = next
-four operation here next third last (suc (suc zero)) lt = third
-four operation here next third last (suc (suc (suc zero))) lt = last
-four operation here next third last (suc (suc (suc (suc variant)))) lt = absurd (omega arith)
+-- the row whose first code byte it is
+abbrev begins_at : ℕ → Option GplOperation → Bool
+begins_at code None = false
+begins_at code (Some operation) = (row_of operation).code == code
 
-abbrev is_branch : Bool → Option GplOperation → Bool
-is_branch false (Some (Branch false)) = true
-is_branch true (Some (Branch true)) = true
-is_branch _ _ = false
+begins-own : (operation : GplOperation) (found : Option GplOperation) → begins_at (row_of operation).code found ≡ true →
+    found ≡ Some operation
+begins-own operation None e = absurd (cc)
+begins-own operation (Some row) e =
+    let same : (row_of row).code ≡ (row_of operation).code = grind (arith, nat_tests) in
+    sym (own_row row) ∙ ap operation_at same ∙ own_row operation
 
-branch_is : (on : Bool) (found : Option GplOperation) → is_branch on found ≡ true → found ≡ Some (Branch on)
-branch_is false (Some (Branch false)) e = refl
-branch_is true (Some (Branch true)) e = refl
-branch_is false _ e = absurd (cc)
-branch_is true _ e = absurd (cc)
-
-branch_found : (on : Bool) (variant : ℕ) → variant < 32 → operation_at ((branch_row on).code + variant) ≡ Some (Branch on)
-branch_found false variant lt =
-    branch_is false _ (agree_below_at (λ v. is_branch false (operation_at (0x40 + v))) (λ v. true) 32 variant refl lt)
-branch_found true variant lt =
-    branch_is true _ (agree_below_at (λ v. is_branch true (operation_at (0x60 + v))) (λ v. true) 32 variant refl lt)
+abbrev finds_row : GplOperation → Bool
+finds_row operation =
+    agree_below (λ variant. begins_at (row_of operation).code (operation_at ((row_of operation).code + variant)))
+    (λ variant. true) (row_of operation).count
 
 -- each code byte of an operation's row is that operation's
 pub found : (operation : GplOperation) (variant : ℕ) → variant < (row_of operation).count →
     operation_at ((row_of operation).code + variant) ≡ Some operation
-found (Plain RTN) = once (Plain RTN) refl
-found (Plain RTNC) = once (Plain RTNC) refl
-found (Plain H) = once (Plain H) refl
-found (Plain GT) = once (Plain GT) refl
-found (Plain EXIT) = once (Plain EXIT) refl
-found (Plain CARRY) = once (Plain CARRY) refl
-found (Plain OVF) = once (Plain OVF) refl
-found (Byte RAND) = once (Byte RAND) refl
-found (Byte BACK) = once (Byte BACK) refl
-found (Byte ALL) = once (Byte ALL) refl
-found (Jump B) = once (Jump B) refl
-found (Jump CALL) = once (Jump CALL) refl
-found (Branch false) = branch_found false
-found (Branch true) = branch_found true
-found (One ABS) = twice (One ABS) refl refl
-found (One NEG) = twice (One NEG) refl refl
-found (One INV) = twice (One INV) refl refl
-found (One CLR) = twice (One CLR) refl refl
-found (One FETCH) = once (One FETCH) refl
-found (One CASE) = twice (One CASE) refl refl
-found (One PUSH) = once (One PUSH) refl
-found (One CZ) = twice (One CZ) refl refl
-found (One INC) = twice (One INC) refl refl
-found (One DEC) = twice (One DEC) refl refl
-found (One INCT) = twice (One INCT) refl refl
-found (One DECT) = twice (One DECT) refl refl
-found (Two ADD) = four (Two ADD) refl refl refl refl
-found (Two SUB) = four (Two SUB) refl refl refl refl
-found (Two MUL) = four (Two MUL) refl refl refl refl
-found (Two DIV) = four (Two DIV) refl refl refl refl
-found (Two AND) = four (Two AND) refl refl refl refl
-found (Two OR) = four (Two OR) refl refl refl refl
-found (Two XOR) = four (Two XOR) refl refl refl refl
-found (Two ST) = four (Two ST) refl refl refl refl
-found (Two EX) = twice (Two EX) refl refl
-found (Two CH) = four (Two CH) refl refl refl refl
-found (Two CHE) = four (Two CHE) refl refl refl refl
-found (Two CGT) = four (Two CGT) refl refl refl refl
-found (Two CGE) = four (Two CGE) refl refl refl refl
-found (Two CEQ) = four (Two CEQ) refl refl refl refl
-found (Two CLOG) = four (Two CLOG) refl refl refl refl
-found (Two SRA) = four (Two SRA) refl refl refl refl
-found (Two SLL) = four (Two SLL) refl refl refl refl
-found (Two SRL) = four (Two SRL) refl refl refl refl
-found (Two SRC) = four (Two SRC) refl refl refl refl
-found (Move GromToMemory) = twice (Move GromToMemory) refl refl
-found (Move GromIndexedToMemory) = twice (Move GromIndexedToMemory) refl refl
-found (Move MemoryToMemory) = twice (Move MemoryToMemory) refl refl
-found (Move GromToRegisters) = twice (Move GromToRegisters) refl refl
+found operation variant lt =
+    begins-own operation _
+    (agree_below_at (λ v. begins_at (row_of operation).code (operation_at ((row_of operation).code + v))) (λ v. true)
+    (row_of operation).count variant (each_operation finds_row refl operation) lt)
 
 -- The bits of a code byte of an operation: behind the first of its row stands the one that they number, and an operation has
 -- no form of words or of an immediate source that it should not have.
@@ -197,41 +116,16 @@ found_at operation code from below =
     let there : (row_of operation).code + (code - (row_of operation).code) ≡ code = omega arith in
     rw there at (found operation (code - (row_of operation).code) variant)
 
--- the code bytes of a row are bytes
+-- a row has a code byte, and its code bytes are bytes
+abbrev fits_bytes : GplOperation → Bool
+fits_bytes operation = nat_lt 0 (row_of operation).count && nat_le ((row_of operation).code + (row_of operation).count) 256
 
-plain_ends : (op : PlainOp) → (plain_row op).code + (plain_row op).count ≤ 256
-plain_ends RTN = omega arith
-plain_ends _ = omega arith
-
-byte_ends : (op : ByteOp) → (byte_row op).code + (byte_row op).count ≤ 256
-byte_ends RAND = omega arith
-byte_ends _ = omega arith
-
-go_ends : (op : GoOp) → (go_row op).code + (go_row op).count ≤ 256
-go_ends B = omega arith
-go_ends _ = omega arith
-
-branch_ends : (on : Bool) → (branch_row on).code + (branch_row on).count ≤ 256
-branch_ends false = omega arith
-branch_ends true = omega arith
-
-one_ends : (op : OneName) → (one_row op).code + (one_row op).count ≤ 256
-one_ends ABS = omega arith
-one_ends _ = omega arith
-
-two_ends : (op : TwoName) → (two_row op).code + (two_row op).count ≤ 256
-two_ends ADD = omega arith
-two_ends _ = omega arith
-
-move_ends : (kind : MoveKind) → (move_row kind).code + (move_row kind).count ≤ 256
-move_ends GromToMemory = omega arith
-move_ends _ = omega arith
+pub row_begins : (operation : GplOperation) → 0 < (row_of operation).count
+row_begins operation =
+    let some = first_so (nat_lt 0 (row_of operation).count) _ (each_operation fits_bytes refl operation) in
+    grind (arith, nat_tests)
 
 pub row_ends : (operation : GplOperation) → (row_of operation).code + (row_of operation).count ≤ 256
-row_ends (Plain op) = plain_ends op
-row_ends (Byte op) = byte_ends op
-row_ends (Jump op) = go_ends op
-row_ends (Branch on) = branch_ends on
-row_ends (One op) = one_ends op
-row_ends (Two op) = two_ends op
-row_ends (Move kind) = move_ends kind
+row_ends operation =
+    let few = second_so (nat_lt 0 (row_of operation).count) _ (each_operation fits_bytes refl operation) in
+    grind (arith, nat_tests)

@@ -16,12 +16,6 @@ use Rattle.gpl_defs.specs.declared.instruction.MoveSource.{MoveSource}
 use Rattle.gpl_defs.specs.declared.instruction.MoveSource.TheVariants as from
 use Rattle.gpl_defs.specs.declared.instruction.MoveKind.{MoveKind}
 use Rattle.gpl_defs.specs.declared.instruction.MoveKind.TheVariants.{GromToMemory}
-use Rattle.gpl_defs.specs.declared.instruction.PlainOp.{PlainOp}
-use Rattle.gpl_defs.specs.declared.instruction.PlainOp.TheVariants.{RTN}
-use Rattle.gpl_defs.specs.declared.instruction.ByteOp.{ByteOp}
-use Rattle.gpl_defs.specs.declared.instruction.ByteOp.TheVariants.{RAND}
-use Rattle.gpl_defs.specs.declared.instruction.GoOp.{GoOp}
-use Rattle.gpl_defs.specs.declared.instruction.GoOp.TheVariants.{B}
 use Rattle.gpl_defs.specs.declared.instruction.OneName.{OneName}
 use Rattle.gpl_defs.specs.declared.instruction.OneName.TheVariants.{FETCH, PUSH}
 use Rattle.gpl_defs.specs.declared.instruction.TwoName.{TwoName}
@@ -29,7 +23,7 @@ use Rattle.gpl_defs.specs.declared.instruction.TwoName.TheVariants.{EX}
 use Rattle.gpl_defs.specs.declared.instruction.GplInstr.{GplInstr}
 use Rattle.gpl_defs.specs.declared.instruction.GplInstr.TheVariants.{Plain, Byte, Jump, Branch, One, Two, Move}
 use Rattle.gpl_defs.specs.declared.instruction.GplRead.TheVariants.{Instr}
-use Rattle.gpl_defs.specs.Codes.{row_of, plain_row, byte_row, go_row, branch_row, one_row, two_row, move_row, operation_at}
+use Rattle.gpl_defs.specs.Codes.{row_of, branch_row, one_row, two_row, move_row, operation_at}
 use Rattle.gpl_defs.specs.Valid.{is_valid, is_valid_source, is_valid_move, has_words}
 use Rattle.gpl_defs.specs.Bytes.{word_bytes, value_bytes, from_bytes, kind_of, operation_of, is_immediate, is_counted}
 use Rattle.gpl_defs.specs.Bytes.{variant_of, code_of}
@@ -37,7 +31,7 @@ use Rattle.gpl_defs.specs.Spellings.{SpellsSource, SpellsLength, SpellsTarget, S
 use Rattle.gpl_defs.specs.Spellings.{Stand, Holds, Joined, Means}
 use Rattle.gpl_defs.specs.Reading.{word_at, value_at, source_at, length_at, target_at, from_at, move_at, instr_at, operand_at}
 use Rattle.gpl_defs.specs.Reading.{reading}
-use Rattle.gpl_defs.proofs.CodeLaws.{found, rows_fit, row_fits, row_ends}
+use Rattle.gpl_defs.proofs.CodeLaws.{found, rows_fit, row_fits, row_begins, row_ends}
 use Rattle.gpl_defs.proofs.StandLaws.{holds_part}
 use Rattle.gpl_defs.proofs.OperandLaws.{operand_back}
 use Rattle.count_defs.specs.Counts.{one_if}
@@ -140,18 +134,6 @@ two_count _ false (source.At operand) valid = omega arith
 two_count _ true (source.Immediate value) valid = omega arith
 two_count _ false (source.Immediate value) valid = omega arith
 
-plain_count : (op : PlainOp) → 0 < (plain_row op).count
-plain_count RTN = omega arith
-plain_count _ = omega arith
-
-byte_count : (op : ByteOp) → 0 < (byte_row op).count
-byte_count RAND = omega arith
-byte_count _ = omega arith
-
-go_count : (op : GoOp) → 0 < (go_row op).count
-go_count B = omega arith
-go_count _ = omega arith
-
 branch_count : (on : Bool) (offset : ℕ) → offset < 0x2000 → high offset < (branch_row on).count
 branch_count true offset lt = omega arith
 branch_count false offset lt = omega arith
@@ -163,13 +145,11 @@ move_count _ true = omega arith
 move_count _ false = omega arith
 
 in_row : (instr : GplInstr) → IsTrue (is_valid instr) → variant_of instr < (row_of (operation_of instr)).count
-in_row (Plain op) valid = plain_count op
-in_row (Byte op value) valid = byte_count op
-in_row (Jump op to) valid = go_count op
 in_row (Branch on offset) valid = branch_count on offset (grind (arith, nat_tests, valid))
 in_row (One op word operand) valid = one_count op word valid
 in_row (Two op word dst src) valid = two_count op word src valid
 in_row (Move count to source) valid = move_count (kind_of to source) (is_counted count)
+in_row instr valid = row_begins (operation_of instr)
 
 record HasRow (instr : GplInstr) : Type 0 where
   row : operation_at (code_of instr) ≡ Some (operation_of instr)

@@ -11,9 +11,43 @@ use Rattle.gpl_defs.specs.declared.instruction.GplOperand.{GplOperand}
 use Rattle.gpl_defs.specs.Bytes.{is_vdp, form_bits, index_bytes}
 use Rattle.gpl_defs.specs.Bytes.{fits_one_byte}
 use Rattle.gpl_defs.specs.Spellings.{Spelling, OneByte, TwelveBits, SixteenBits, may_have, spelled, SpellsOperand, Stand, Holds}
-use Rattle.gpl_defs.specs.Reading.{space_of, address_at, index_by, index_at, with_index, with_address, plain_operand, word_at}
-use Rattle.gpl_defs.specs.Reading.{operand_from, operand_at}
+use Rattle.gpl_defs.specs.Reading.{Read, ◌>>=◌, give, read_as, byte_at, space_of, space_at, address_at, index_by, plain_operand}
+use Rattle.gpl_defs.specs.Reading.{word_at, operand_at}
 use Rattle.count_defs.specs.Counts.{one_if}
+
+abbrev pub index_at : ℕ → Read (Option ℕ)
+index_at first = index_by (first / 64 % 2 == 1)
+
+-- a long operand by its first byte, its address, and its index with the address after it
+abbrev pub with_index : ℕ → ℕ → Option ℕ × ℕ → GplOperand × ℕ
+with_index first address index = (
+  record {
+    space = space_at first;
+    indirect = first / 16 % 2 == 1;
+    address = address;
+    index = index.0;
+  },
+  index.1,
+)
+
+abbrev with_address : ℕ → List ℕ → ℕ × ℕ → GplOperand × ℕ
+with_address first image address = with_index first address.0 (index_at first image address.1)
+
+-- an operand's address, by whether its first byte ends in ones, and an operand, by whether its first byte is its address
+abbrev pub address_by : Bool → ℕ → Read ℕ
+address_by ones first = if ones then word_at else read_as (join (first % 16)) byte_at
+
+abbrev long_operand : ℕ → Read GplOperand
+long_operand first = do
+  address ← address_at first
+  index ← index_at first
+  give (record { space = space_at first; indirect = first / 16 % 2 == 1; address = address; index = index })
+
+abbrev pub operand_by : Bool → ℕ → Read GplOperand
+operand_by small first = if small then give (plain_operand first) else long_operand first
+
+abbrev operand_from : ℕ → Read GplOperand
+operand_from first = operand_by (nat_lt first 0x80) first
 
 -- the bits of the first byte of an operand, by what it says
 record Bits (first index vdp indirect top : ℕ) : Type 0 where
@@ -247,9 +281,7 @@ operand_read image at fits = by (nat_lt (slice_index image at) 0x80) refl
 
     by_top : 128 ≤ slice_index image at → (ones : Bool) → (slice_index image at % 16 == 15) ≡ ones →
         HoldsRead image at
-        (with_address (slice_index image at) image
-        (if ones then word_at image (next_in_grom at)
-        else (join (slice_index image at % 16) (slice_index image (next_in_grom at)), next_in_grom (next_in_grom at))))
+        (with_address (slice_index image at) image (address_by ones (slice_index image at) image (next_in_grom at)))
     by_top from true e =
         sixteen_read image at from (fits at) (fits (next_in_grom at)) (fits (next_in_grom (next_in_grom at)))
         (grind (arith, nat_tests))
@@ -258,8 +290,6 @@ operand_read image at fits = by (nat_lt (slice_index image at) 0x80) refl
         twelve_read image at from lt (fits (next_in_grom at)) (grind (arith, nat_tests))
 
     by : (small : Bool) → nat_lt (slice_index image at) 0x80 ≡ small →
-        HoldsRead image at
-        (if small then (plain_operand (slice_index image at), next_in_grom at)
-        else with_address (slice_index image at) image (address_at (slice_index image at) image (next_in_grom at)))
+        HoldsRead image at (operand_by small (slice_index image at) image (next_in_grom at))
     by true e = small_read image at (grind (arith, nat_tests))
     by false e = by_top (grind (arith, nat_tests)) (slice_index image at % 16 == 15) refl

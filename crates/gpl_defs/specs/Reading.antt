@@ -2,6 +2,7 @@
 use Rattle.std.specs.Prelude.{◌≡◌, ℕ, ◌/◌, ◌%◌, ◌==◌, ◌&&◌, Bool, true, false, nat_lt, if◌then◌else◌, List, [], ◌∷◌}
 use Rattle.std.specs.Prelude.{slice_index, Option, Some, None}
 use Rattle.tms_defs.specs.Words.{join}
+use Rattle.tms_defs.specs.Status.{is_set}
 use Rattle.grom_defs.specs.Addresses.{next_in_grom}
 use Rattle.gpl_defs.specs.declared.instruction.Space.{Space}
 use Rattle.gpl_defs.specs.declared.instruction.Space.TheVariants.{Cpu, Vdp}
@@ -27,112 +28,110 @@ use Rattle.gpl_defs.specs.Codes.{operation_at}
 use Rattle.gpl_defs.specs.Bytes.{operation_of, bytes_of}
 use Rattle.gpl_defs.specs.Spellings.{Stand, Means}
 
--- Each of the following gives what is read from an address on, and the address after its bytes.
+-- Something that is read from an address of an image on, with the address after its bytes.
+abbrev pub Read : Type 0 → Type 0
+Read A = List ℕ → ℕ → A × ℕ
+
+-- a value for which no byte is read
+abbrev pub give : {A : Type 0} → A → Read A
+give value image at = (value, at)
+
+-- one after the other
+abbrev pub ◌>>=◌ : {A B : Type 0} → Read A → (A → Read B) → Read B
+◌>>=◌ first next image at = let found = first image at in next found.0 image found.1
+
+-- what is made of something that is read
+abbrev pub read_as : {A B : Type 0} → (A → B) → Read A → Read B
+read_as make read image at = let found = read image at in (make found.0, found.1)
+
+abbrev pub byte_at : Read ℕ
+byte_at image at = (slice_index image at, next_in_grom at)
 
 -- the high byte of a word first
-abbrev pub word_at : List ℕ → ℕ → ℕ × ℕ
-word_at image at =
-    (join (slice_index image at) (slice_index image (next_in_grom at)), next_in_grom (next_in_grom at))
+abbrev pub word_at : Read ℕ
+word_at = do
+  high ← byte_at
+  low ← byte_at
+  give (join high low)
 
 abbrev pub space_of : Bool → Space
 space_of true = Vdp
 space_of false = Cpu
 
 abbrev pub space_at : ℕ → Space
-space_at first = space_of (first / 32 % 2 == 1)
+space_at first = space_of (is_set first 0x20)
 
 -- Profile: the bits of an operand's first byte, as `Bytes` writes them. The low four begin its address, unless they are
--- ones.
-abbrev pub address_at : ℕ → List ℕ → ℕ → ℕ × ℕ
-address_at first image at =
-    if first % 16 == 15 then word_at image at else (join (first % 16) (slice_index image at), next_in_grom at)
+-- ones: then the address follows in two bytes. The index stands last.
+abbrev pub address_at : ℕ → Read ℕ
+address_at first = if first % 16 == 15 then word_at else read_as (join (first % 16)) byte_at
 
-abbrev pub index_by : Bool → List ℕ → ℕ → Option ℕ × ℕ
-index_by true image at = (Some (slice_index image at), next_in_grom at)
-index_by false image at = (None, at)
-
-abbrev pub index_at : ℕ → List ℕ → ℕ → Option ℕ × ℕ
-index_at first image at = index_by (first / 64 % 2 == 1) image at
-
-abbrev pub with_index : ℕ → ℕ → Option ℕ × ℕ → GplOperand × ℕ
-with_index first address index = (
-  record {
-    space = space_at first;
-    indirect = first / 16 % 2 == 1;
-    address = address;
-    index = index.0;
-  },
-  index.1,
-)
-
-abbrev pub with_address : ℕ → List ℕ → ℕ × ℕ → GplOperand × ℕ
-with_address first image address = with_index first address.0 (index_at first image address.1)
+abbrev pub index_by : Bool → Read (Option ℕ)
+index_by true = read_as Some byte_at
+index_by false = give None
 
 abbrev pub plain_operand : ℕ → GplOperand
 plain_operand address = record { space = Cpu; indirect = false; address = address; index = None }
 
-abbrev pub operand_from : ℕ → List ℕ → ℕ → GplOperand × ℕ
-operand_from first image at =
-    if nat_lt first 0x80 then (plain_operand first, at) else with_address first image (address_at first image at)
+unfoldable pub operand_at : Read GplOperand
+operand_at = do
+  first ← byte_at
+  if nat_lt first 0x80 then give (plain_operand first) else (do
+    address ← address_at first
+    index ← index_by (is_set first 0x40)
+    give (record { space = space_at first; indirect = is_set first 0x10; address = address; index = index }))
 
-unfoldable pub operand_at : List ℕ → ℕ → GplOperand × ℕ
-operand_at image at = operand_from (slice_index image at) image (next_in_grom at)
-
-abbrev pub value_at : Bool → List ℕ → ℕ → ℕ × ℕ
-value_at true image at = word_at image at
-value_at false image at = (slice_index image at, next_in_grom at)
+abbrev pub value_at : Bool → Read ℕ
+value_at true = word_at
+value_at false = byte_at
 
 -- whether the source is immediate, and whether the operands are words
-abbrev pub source_at : Bool → Bool → List ℕ → ℕ → GplSource × ℕ
-source_at true word image at = let value = value_at word image at in (source.Immediate value.0, value.1)
-source_at false word image at = let operand = operand_at image at in (source.At operand.0, operand.1)
+abbrev pub source_at : Bool → Bool → Read GplSource
+source_at true word = read_as source.Immediate (value_at word)
+source_at false word = read_as source.At operand_at
 
 -- whether the length is immediate
-abbrev pub length_at : Bool → List ℕ → ℕ → MoveLength × ℕ
-length_at true image at = let count = word_at image at in (counted.Immediate count.0, count.1)
-length_at false image at = let operand = operand_at image at in (counted.At operand.0, operand.1)
+abbrev pub length_at : Bool → Read MoveLength
+length_at true = read_as counted.Immediate word_at
+length_at false = read_as counted.At operand_at
 
-abbrev pub target_at : MoveKind → List ℕ → ℕ → MoveTarget × ℕ
-target_at GromToRegisters image at = (target.Register (slice_index image at), next_in_grom at)
-target_at _ image at = let operand = operand_at image at in (target.At operand.0, operand.1)
+abbrev pub target_at : MoveKind → Read MoveTarget
+target_at GromToRegisters = read_as target.Register byte_at
+target_at _ = read_as target.At operand_at
 
-abbrev pub from_at : MoveKind → List ℕ → ℕ → MoveSource × ℕ
-from_at MemoryToMemory image at = let operand = operand_at image at in (from.At operand.0, operand.1)
-from_at GromIndexedToMemory image at =
-    let address = word_at image at in
-    (from.GromIndexed address.0 (slice_index image address.1), next_in_grom address.1)
-from_at _ image at = let address = word_at image at in (from.Grom address.0, address.1)
+abbrev pub from_at : MoveKind → Read MoveSource
+from_at MemoryToMemory = read_as from.At operand_at
+from_at GromIndexedToMemory = do
+  address ← word_at
+  index ← byte_at
+  give (from.GromIndexed address index)
+from_at _ = read_as from.Grom word_at
 
-abbrev pub move_at : MoveKind → Bool → List ℕ → ℕ → GplInstr × ℕ
-move_at kind immediate image at =
-    let length = length_at immediate image at in
-    let target = target_at kind image length.1 in
-    let source = from_at kind image target.1 in
-    (Move length.0 target.0 source.0, source.1)
+abbrev pub move_at : MoveKind → Bool → Read GplInstr
+move_at kind immediate = do
+  length ← length_at immediate
+  target ← target_at kind
+  source ← from_at kind
+  give (Move length target source)
 
 -- The low bit of a code byte is the form of words, the next an immediate source; for MOVE the low bit is an immediate
 -- length, and for BR and BS the low five bits are the high ones of the target. The address is the one after the code
 -- byte.
-abbrev pub instr_at : GplOperation → ℕ → List ℕ → ℕ → GplInstr × ℕ
-instr_at (operation.Plain op) code image at = (Plain op, at)
-instr_at (operation.Byte op) code image at = (Byte op (slice_index image at), next_in_grom at)
-instr_at (operation.Jump op) code image at = let to = word_at image at in (Jump op to.0, to.1)
-instr_at (operation.Branch on) code image at =
-    (Branch on (join (code % 32) (slice_index image at)), next_in_grom at)
-instr_at (operation.One op) code image at =
-    let operand = operand_at image at in (One op (code % 2 == 1) operand.0, operand.1)
-instr_at (operation.Two op) code image at =
-    let dst = operand_at image at in
-    let src = source_at (code / 2 % 2 == 1) (code % 2 == 1) image dst.1 in
-    (Two op (code % 2 == 1) dst.0 src.0, src.1)
-instr_at (operation.Move kind) code image at = move_at kind (code % 2 == 1) image at
-
-abbrev pub read_as : GplInstr × ℕ → GplRead
-read_as found = Instr found.0 found.1
+abbrev pub instr_at : GplOperation → ℕ → Read GplInstr
+instr_at (operation.Plain op) code = give (Plain op)
+instr_at (operation.Byte op) code = read_as (Byte op) byte_at
+instr_at (operation.Jump op) code = read_as (Jump op) word_at
+instr_at (operation.Branch on) code = read_as (λ low. Branch on (join (code % 32) low)) byte_at
+instr_at (operation.One op) code = read_as (One op (code % 2 == 1)) operand_at
+instr_at (operation.Two op) code = do
+  dst ← operand_at
+  src ← source_at (code / 2 % 2 == 1) (code % 2 == 1)
+  give (Two op (code % 2 == 1) dst src)
+instr_at (operation.Move kind) code = move_at kind (code % 2 == 1)
 
 abbrev pub read_by : Option GplOperation → ℕ → List ℕ → ℕ → GplRead
 read_by None code image at = Refused code
-read_by (Some operation) code image at = read_as (instr_at operation code image at)
+read_by (Some operation) code image at = let found = instr_at operation code image at in Instr found.0 found.1
 
 -- the instruction at an address with the address after it, or the code byte there where it is no instruction's
 unfoldable pub reading : List ℕ → ℕ → GplRead

@@ -14,11 +14,11 @@ use Rattle.gpl_defs.specs.declared.instruction.MoveTarget.TheVariants as target
 use Rattle.gpl_defs.specs.declared.instruction.MoveSource.{MoveSource}
 use Rattle.gpl_defs.specs.declared.instruction.MoveSource.TheVariants as from
 use Rattle.gpl_defs.specs.declared.instruction.GplInstr.{GplInstr}
-use Rattle.gpl_defs.specs.declared.instruction.GplInstr.TheVariants.{Plain, Byte, Jump, Branch, One, Two, Move}
+use Rattle.gpl_defs.specs.declared.instruction.GplInstr.TheVariants.{One, Two, Move}
 use Rattle.gpl_defs.specs.declared.instruction.GplRead.TheVariants.{Instr}
 use Rattle.gpl_defs.specs.Valid.{is_valid}
 use Rattle.gpl_defs.specs.Bytes.{index_bytes, value_bytes, bytes_of}
-use Rattle.gpl_defs.specs.Spellings.{Spelling, OneByte, TwelveBits, SixteenBits, spelled}
+use Rattle.gpl_defs.specs.Spellings.{Spelling, OneByte, spelled}
 use Rattle.gpl_defs.specs.Spellings.{SpellsOperand, SpellsSource, SpellsLength}
 use Rattle.gpl_defs.specs.Spellings.{SpellsTarget, SpellsFrom, SpellsRest, Spells, Stand}
 use Rattle.gpl_defs.specs.Reading.{reading, stand, ReadsInstr}
@@ -34,8 +34,7 @@ index_few (Some index) = omega arith
 
 spelled_few : (spelling : Spelling) (operand : GplOperand) → length (spelled spelling operand) ≤ 4
 spelled_few OneByte operand = omega arith
-spelled_few TwelveBits operand = omega (arith, index_few operand.index)
-spelled_few SixteenBits operand = omega (arith, index_few operand.index)
+spelled_few _ operand = omega (arith, index_few operand.index)
 
 operand_few : (operand : GplOperand) (bytes : List ℕ) → SpellsOperand operand bytes → length bytes ≤ 4
 operand_few operand bytes spells = rw spells.is (spelled_few spells.spelling operand)
@@ -58,18 +57,13 @@ target_few (target.Register number) bytes spells = rw spells (omega arith)
 
 from_few : (source : MoveSource) (bytes : List ℕ) → SpellsFrom source bytes → length bytes ≤ 4
 from_few (from.At operand) bytes spells = operand_few operand bytes spells
-from_few (from.Grom address) bytes spells = rw spells (omega arith)
-from_few (from.GromIndexed address index) bytes spells = rw spells (omega arith)
+from_few _ bytes spells = rw spells (omega arith)
 
 both_few : (first second bytes : List ℕ) (few more : ℕ) → length first ≤ few → length second ≤ more →
     bytes ≡ first ++ second → length bytes ≤ few + more
 both_few first second bytes few more left right same = rw (same, length-append first second) (omega arith)
 
 rest_few : (instr : GplInstr) (bytes : List ℕ) → SpellsRest instr bytes → length bytes ≤ 12
-rest_few (Plain op) bytes spells = rw spells (omega arith)
-rest_few (Byte op value) bytes spells = rw spells (omega arith)
-rest_few (Jump op to) bytes spells = rw spells (omega arith)
-rest_few (Branch on offset) bytes spells = rw spells (omega arith)
 rest_few (One op word at) bytes spells = omega (arith, operand_few at bytes spells)
 rest_few (Two op word dst src) bytes spells =
     let few = both_few spells.first spells.second bytes 4 4 (operand_few dst spells.first spells.is_first)
@@ -82,6 +76,7 @@ rest_few (Move amount to source) bytes spells =
     let few = both_few spells.first spells.second bytes 4 8 (length_few amount spells.first spells.is_first) rest
     spells.is in
     omega (arith, few)
+rest_few _ bytes spells = rw spells (omega arith)
 
 pub spelled_in_13 : (instr : GplInstr) (bytes : List ℕ) → Spells instr bytes → length bytes ≤ 13
 spelled_in_13 instr bytes spells = rw spells.is (omega (arith, rest_few instr spells.rest spells.is_rest))
@@ -110,8 +105,7 @@ stand_first : (image bytes : List ℕ) (byte at : ℕ) (same stands : Bool) → 
     stand image bytes (next_in_grom at) ≡ stands → (same && stands) ≡ true →
     (slice_index image at ≡ byte) × (stand image bytes (next_in_grom at) ≡ true)
 stand_first image bytes byte at true true e f test = (same_by_test (slice_index image at) byte e, f)
-stand_first image bytes byte at true false e f test = absurd (cc)
-stand_first image bytes byte at false stands e f test = absurd (cc)
+stand_first image bytes byte at _ _ e f test = absurd (cc)
 
 -- a test that bytes stand says where they end
 test_stands : (image bytes : List ℕ) (at : ℕ) → stand image bytes at ≡ true →
@@ -155,8 +149,6 @@ stands_by_size image at next instr lt reads read =
 
     by : (stands same : Bool) → stand image (bytes_of instr) at ≡ stands →
         (length (bytes_of instr) == size_between at next) ≡ same → stands ≡ same
-    by true true e f = refl
-    by false false e f = refl
     by true false e f =
         let back = test_stands image (bytes_of instr) at e in
         let again = bytes_read instr valid image at (behind at (length (bytes_of instr))) back in
@@ -173,3 +165,4 @@ stands_by_size image at next instr lt reads read =
         let stands : Stand image (bytes_of instr) at next = rw same at reads.means.stand in
         let test = stands_test image (bytes_of instr) at next stands in
         absurd (cc)
+    by _ _ e f = refl

@@ -35,11 +35,10 @@ get-more false image at byte q other = refl
 
 get-image_from_below : (at : ℕ) (bytes : List ℕ) (marks : List Bool) (q : ℕ) → q < at → get (image_from at bytes marks) q ≡ None
 unfolding image_from
-get-image_from_below at [] marks q below = get-empty nat_cmp q
-get-image_from_below at (byte ∷ bytes) [] q below = get-empty nat_cmp q
 get-image_from_below at (byte ∷ bytes) (mark ∷ marks) q below =
     let other : q ≢ at = omega arith in
     get-more mark (image_from (at + 1) bytes marks) at byte q other ∙ get-image_from_below (at + 1) bytes marks q (omega arith)
+get-image_from_below at _ _ q below = get-empty nat_cmp q
 
 get-front : (mark : Bool) (image : Image) (at byte : ℕ) → get image at ≡ None → get (cond mark (insert image at byte) image) at ≡ cond mark (Some byte) None
 get-front true image at byte none = get-insert_same image at byte
@@ -52,8 +51,6 @@ get-image_from : (at : ℕ) (bytes : List ℕ) (marks : List Bool) (k : ℕ) →
     → get (image_from at bytes marks) (at + k) ≡ cell_of bytes marks k
 unfolding image_from
 get-image_from at [] [] k same = get-empty nat_cmp (at + k)
-get-image_from at [] (mark ∷ marks) k same = absurd (omega arith)
-get-image_from at (byte ∷ bytes) [] k same = absurd (omega arith)
 get-image_from at (byte ∷ bytes) (mark ∷ marks) zero same =
     let here : at + 0 ≡ at = omega arith in
     rw here (get-front mark (image_from (at + 1) bytes marks) at byte (get-image_from_below (at + 1) bytes marks at (omega arith)))
@@ -62,6 +59,7 @@ get-image_from at (byte ∷ bytes) (mark ∷ marks) (suc k) same =
     let other : at + 1 + k ≢ at = omega arith in
     let less : length bytes ≡ length marks = omega arith in
     rw there (get-more mark (image_from (at + 1) bytes marks) at byte (at + 1 + k) other ∙ get-image_from (at + 1) bytes marks k less)
+get-image_from at _ _ k same = absurd (omega arith)
 
 -- what an image has at an address is what its tables have there
 pub get-image_of : (bytes : List ℕ) (marks : List Bool) (k : ℕ) → length bytes ≡ length marks → get (image_of bytes marks) k ≡ cell_of bytes marks k
@@ -160,8 +158,7 @@ IsImage-more : (bs : List ℕ) (bytes : List ℕ) (marks : List Bool) (low high 
     → at + length bs ≤ 65536 → IsImage (sets bytes at bs) (sets marks at (replicate (length bs) true)) low (max high (at + length bs))
     × (image_of (sets bytes at bs) (sets marks at (replicate (length bs) true)) ≡ placed (image_of bytes marks) at bs)
 IsImage-more [] bytes marks low high at is some above within fits =
-    let still : max high (at + 0) ≡ high = omega arith in
-    (rw still is, refl)
+    let still : max high (at + 0) ≡ high = omega arith in (rw still is, refl)
 IsImage-more (b ∷ bs) bytes marks low high at is some above within fits =
     let same : length bytes ≡ length marks = omega (arith, is.bytes_size, is.marks_size) in
     let lt : at < 65536 = omega arith in

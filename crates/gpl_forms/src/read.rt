@@ -211,7 +211,7 @@ fn read_operand(image: &[u8], at: u16) -> (GplOperand, u16)
         return (operand, behind);
     }
     let (address, behind_address) = read_address(first, image, behind);
-    let (index, next) = read_index(first, image, behind_address);
+    let (index, next) = read_index(first / 64 % 2 == 1, image, behind_address);
     let operand = GplOperand {
         space: read_space(first),
         indirect: first / 16 % 2 == 1,
@@ -244,12 +244,12 @@ fn read_address(first: u8, image: &[u8], at: u16) -> (u16, u16)
     (address, next_in_grom(at))
 }
 
-/// The index of an operand after its address.
-fn read_index(first: u8, image: &[u8], at: u16) -> (Option<u8>, u16)
+/// The index of an operand after its address, if it has one.
+fn read_index(is_there: bool, image: &[u8], at: u16) -> (Option<u8>, u16)
     requires { length image.now ≡ 65536 }
-    ensures { result ≡ spec.index_at first image.now at }
+    ensures { result ≡ spec.index_by is_there image.now at }
 {
-    if first / 64 % 2 == 1 {
+    if is_there {
         (Some(image[usize::from(at)]), next_in_grom(at))
     } else {
         (None, at)

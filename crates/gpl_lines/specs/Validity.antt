@@ -4,7 +4,7 @@ use Rattle.gpl_defs.specs.Valid.{has_words, is_valid}
 use Rattle.gpl_source_defs.specs.Skeletons.{instr_by_zero}
 use Rattle.gpl_source_defs.specs.declared.mnemonic.Mnemonic.{Mnemonic}
 use Rattle.gpl_source_defs.specs.declared.mnemonic.Mnemonic.TheVariants.{One}
-use Rattle.gpl_lines.specs.Defined.{defined_skeleton}
+use Rattle.gpl_lines.specs.Defined.{model_of_skeleton}
 use Rattle.gpl_lines.specs.declared.skeleton.Skeleton.{Skeleton}
 use Rattle.gpl_lines.specs.declared.statement.Statement.{Statement}
 use Rattle.gpl_lines.specs.declared.statement.Statement.TheVariants.{Instruction, Data, Byte, Text}
@@ -18,7 +18,7 @@ abbrev pub HasForm : Mnemonic → Type 0
 HasForm named = IsTrue (has_form named)
 
 abbrev pub IsValidSkeleton : Skeleton → Type 0
-IsValidSkeleton skeleton = IsTrue (is_valid (instr_by_zero (defined_skeleton skeleton)))
+IsValidSkeleton skeleton = IsTrue (is_valid (instr_by_zero (model_of_skeleton skeleton)))
 
 abbrev pub IsValid : Statement → Type 0
 IsValid (Instruction skeleton) = IsValidSkeleton skeleton

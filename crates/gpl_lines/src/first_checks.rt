@@ -1,18 +1,18 @@
 //! The first checks of a line.
 
-ghost use Rattle.std.specs.Prelude.{◌≡◌, ◌≤◌, IfOk, IfSome};
+ghost use Rattle.std.specs.Prelude.{◌≡◌, ◌≤◌, IfOk, IfSome, length};
 ghost use Rattle.source_defs.specs.Symbols.{look_up};
 ghost use Rattle.gpl_source_defs.specs.Locations as places;
 ghost use Rattle.gpl_source_defs.specs.FirstChecks as spec;
 ghost use Rattle.gpl_source_defs.specs.Statements.{declared_size};
 ghost use Rattle.gpl_lines.specs.Answers.{Gives};
-ghost use Rattle.gpl_lines.specs.Defined.{defined_statement, defined_checked};
+ghost use Rattle.gpl_lines.specs.Defined.{model_of_statement, model_of_checked};
 ghost use Rattle.gpl_lines.specs.Validity.{IsValid};
 
 use crate::failure::Failure;
 use crate::statement::Statement;
 use crate::values::{Scope, address_of};
-use asm_text::{Name, Symbols, fields};
+use asm_text::{Name, SplitLine, Symbols, fields};
 use gpl_source_defs::{GplCause, Location};
 use grom_defs::GROM_SIZE;
 
@@ -34,21 +34,23 @@ impl Scope<'_> {
     /// `Refused` carries what the first checks refuse first, and comes exactly where they do. `Memory` is want of
     /// memory.
     #[tactic(auto, unfolding(gpl_source_defs::specs::FirstChecks::checked))]
-    pub fn checked<'b>(&self, text: &'b [u8]) -> Result<Checked<'b>, Failure>
+    pub fn checked<'b>(&self, line: &SplitLine<'b>) -> Result<Checked<'b>, Failure>
         requires { (self.now.at.grom ≤ 65535) × (self.now.at.number ≤ 65536) }
-        ensures checked { Gives defined_checked result (spec.checked self.now.symbols.now self.now.at text.now) }
+        ensures checked { Gives model_of_checked result
+            (spec.checked self.now.symbols.now self.now.at line.now.text.now) }
+        ensures short { IfOk result (λ _. length line.now.text.now ≤ 256) }
         ensures valid { IfOk result (λ checked. IsValid checked.statement) }
-        ensures size { IfOk result (λ checked. checked.size ≡ declared_size (defined_statement checked.statement)) }
+        ensures size { IfOk result (λ checked. checked.size ≡ declared_size (model_of_statement checked.statement)) }
         ensures most { IfOk result (λ checked. checked.size ≤ 65535) }
     {
-        let found = match fields(text) {
+        let found = match line.fields {
             Ok(found) => found,
             Err(error) => return Err(Failure::Refused(GplCause::Text(error))),
         };
         if is_taken(self.symbols, &found.label) {
             return Err(Failure::Refused(GplCause::DuplicateLabel));
         }
-        let statement = self.statement_at(text, &found)?;
+        let statement = self.statement_at(line.text, &found)?;
         let size = statement.size();
         if is_full(self.at, size) {
             return Err(Failure::Refused(GplCause::GromFull));
@@ -65,7 +67,7 @@ impl Scope<'_> {
 
     /// What a line says, of which the first checks let through what it said with fewer names.
     pub fn parsed<'b>(&self, text: &'b [u8]) -> Result<Statement<'b>, Failure>
-        ensures parsed { Gives defined_statement result (spec.parsed self.now.symbols.now self.now.at text.now) }
+        ensures parsed { Gives model_of_statement result (spec.parsed self.now.symbols.now self.now.at text.now) }
         ensures valid { IfOk result IsValid }
     {
         match fields(text) {
@@ -79,7 +81,7 @@ impl Checked<'_> {
     /// The location that the line sets, if it sets one.
     pub fn origin(&self, here: Location) -> Option<Location>
         requires { here.grom ≤ 65535 }
-        ensures origin { result ≡ places.origin_of here (defined_statement self.now.statement) }
+        ensures origin { result ≡ places.origin_of here (model_of_statement self.now.statement) }
         ensures address { IfSome result (λ origin. origin.grom ≤ 65535) }
     {
         match self.statement {
@@ -98,7 +100,7 @@ impl Checked<'_> {
     /// What a label of the line stands for.
     pub fn label_value(&self, here: Location) -> u16
         requires { here.grom ≤ 65535 }
-        ensures { result ≡ spec.label_value here (defined_statement self.now.statement) }
+        ensures { result ≡ spec.label_value here (model_of_statement self.now.statement) }
     {
         if let Statement::Equ(number) = self.statement {
             return number;
@@ -111,7 +113,7 @@ impl Checked<'_> {
 
     /// Whether the source ends with the line.
     pub fn is_end(&self) -> bool
-        ensures { result ≡ spec.is_end (defined_statement self.now.statement) }
+        ensures { result ≡ spec.is_end (model_of_statement self.now.statement) }
     {
         matches!(self.statement, Statement::End(_))
     }
@@ -138,7 +140,7 @@ fn is_full(here: Location, size: u32) -> bool
 
 /// Whether a directive cannot stand as it is.
 fn is_bad(label: &Option<Name>, statement: &Statement<'_>) -> bool
-    ensures { result ≡ spec.is_bad label.now (defined_statement statement.now) }
+    ensures { result ≡ spec.is_bad label.now (model_of_statement statement.now) }
 {
     match statement {
         Statement::Equ(_) => label.is_none(),

@@ -9,8 +9,8 @@ ghost use Rattle.source_defs.specs.Symbols.{look_up};
 ghost use Rattle.gpl_source_defs.specs.SecondChecks as spec;
 ghost use Rattle.gpl_source_defs.specs.Values as values;
 ghost use Rattle.gpl_lines.specs.Answers.{Gives};
-ghost use Rattle.gpl_lines.specs.Defined.{defined_outcome, defined_route, defined_skeleton, defined_source};
-ghost use Rattle.gpl_lines.specs.Defined.{defined_statement};
+ghost use Rattle.gpl_lines.specs.Defined.{model_of_outcome, model_of_route, model_of_skeleton, model_of_source};
+ghost use Rattle.gpl_lines.specs.Defined.{model_of_statement};
 ghost use Rattle.gpl_lines.specs.Validity.{IsValid, IsValidSkeleton};
 
 use crate::failure::Failure;
@@ -41,8 +41,8 @@ impl Scope<'_> {
     #[tactic(auto, unfolding(gpl_source_defs::specs::SecondChecks::outcome))]
     pub fn outcome(&self, statement: &Statement<'_>) -> Result<Outcome, Failure>
         requires { IsValid statement.now }
-        ensures { Gives defined_outcome result
-            (spec.outcome (look_up self.now.symbols.now) self.now.at (defined_statement statement.now)) }
+        ensures { Gives model_of_outcome result
+            (spec.outcome (look_up self.now.symbols.now) self.now.at (model_of_statement statement.now)) }
     {
         match statement {
             Statement::Instruction(skeleton) => {
@@ -81,7 +81,7 @@ impl Scope<'_> {
     fn instruction(&self, skeleton: &Skeleton<'_>) -> Result<GplInstr, Failure>
         requires { IsValidSkeleton skeleton.now }
         ensures found { Gives (λ instr. instr) result
-            (spec.instruction (look_up self.now.symbols.now) self.now.at (defined_skeleton skeleton.now)) }
+            (spec.instruction (look_up self.now.symbols.now) self.now.at (model_of_skeleton skeleton.now)) }
         ensures valid { IfOk result (λ instr. IsTrue (is_valid instr)) }
     {
         match *skeleton {
@@ -115,7 +115,7 @@ impl Scope<'_> {
     /// A source.
     fn source(&self, word: bool, source: Source<'_>) -> Result<GplSource, Failure>
         ensures found { Gives (λ source. source) result
-            (spec.source_value (look_up self.now.symbols.now) self.now.at word (defined_source source.entry)) }
+            (spec.source_value (look_up self.now.symbols.now) self.now.at word (model_of_source source.entry)) }
     {
         match source {
             Source::At(operand) => Ok(GplSource::At(operand)),
@@ -130,7 +130,7 @@ impl Scope<'_> {
     /// The length of MOVE.
     fn length(&self, length: Source<'_>) -> Result<MoveLength, Failure>
         ensures { Gives (λ length. length) result
-            (spec.length_value (look_up self.now.symbols.now) self.now.at (defined_source length.entry)) }
+            (spec.length_value (look_up self.now.symbols.now) self.now.at (model_of_source length.entry)) }
     {
         match length {
             Source::At(operand) => Ok(MoveLength::At(operand)),
@@ -144,7 +144,7 @@ impl Scope<'_> {
     /// MOVE, by its length, and by where it copies to and from.
     fn moved(&self, length: MoveLength, route: Route<'_>) -> Result<GplInstr, Failure>
         ensures found { Gives (λ instr. instr) result
-            (spec.moved (look_up self.now.symbols.now) self.now.at length (defined_route route.entry)) }
+            (spec.moved (look_up self.now.symbols.now) self.now.at length (model_of_route route.entry)) }
         ensures valid { IfOk result (λ instr. IsTrue (is_valid instr)) }
     {
         match route {

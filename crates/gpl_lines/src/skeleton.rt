@@ -2,7 +2,7 @@
 
 ghost use Rattle.std.specs.Prelude.{◌≡◌, ◌≤◌};
 ghost use Rattle.gpl_source_defs.specs.Skeletons as spec;
-ghost use Rattle.gpl_lines.specs.Defined.{defined_route, defined_skeleton, defined_source};
+ghost use Rattle.gpl_lines.specs.Defined.{model_of_route, model_of_skeleton, model_of_source};
 
 use gpl_defs::{
     ByteOp, GoOp, GplInstr, GplOperand, GplSource, MoveLength, MoveSource, MoveTarget, OneName,
@@ -52,7 +52,7 @@ pub enum Skeleton<'a> {
 impl Skeleton<'_> {
     /// How many bytes the instruction takes. A value has as many whatever it is.
     pub(crate) fn size(&self) -> u32
-        ensures size { result ≡ spec.size_of (defined_skeleton self.now) }
+        ensures size { result ≡ spec.size_of (model_of_skeleton self.now) }
         ensures most { result ≤ 13 }
     {
         size_of(&self.instr_by_zero())
@@ -60,7 +60,7 @@ impl Skeleton<'_> {
 
     /// An instruction that is as long, with 0 for each value that is a text yet.
     fn instr_by_zero(&self) -> GplInstr
-        ensures { result ≡ spec.instr_by_zero (defined_skeleton self.now) }
+        ensures { result ≡ spec.instr_by_zero (model_of_skeleton self.now) }
     {
         match *self {
             Skeleton::Plain(op) => GplInstr::Plain(op),
@@ -80,7 +80,7 @@ impl Skeleton<'_> {
 }
 
 fn source_by_zero(source: Source<'_>) -> GplSource
-    ensures { result ≡ spec.source_by_zero (defined_source source.entry) }
+    ensures { result ≡ spec.source_by_zero (model_of_source source.entry) }
 {
     match source {
         Source::At(operand) => GplSource::At(operand),
@@ -89,7 +89,7 @@ fn source_by_zero(source: Source<'_>) -> GplSource
 }
 
 fn length_by_zero(length: Source<'_>) -> MoveLength
-    ensures { result ≡ spec.length_by_zero (defined_source length.entry) }
+    ensures { result ≡ spec.length_by_zero (model_of_source length.entry) }
 {
     match length {
         Source::At(operand) => MoveLength::At(operand),
@@ -98,7 +98,7 @@ fn length_by_zero(length: Source<'_>) -> MoveLength
 }
 
 fn move_by_zero(length: MoveLength, route: Route<'_>) -> GplInstr
-    ensures { result ≡ spec.move_by_zero length (defined_route route.entry) }
+    ensures { result ≡ spec.move_by_zero length (model_of_route route.entry) }
 {
     let (target, source) = match route {
         Route::Within(to, from) => (MoveTarget::At(to), MoveSource::At(from)),

@@ -2,18 +2,18 @@
 
 ghost use Rattle.std.specs.Prelude.{◌≡◌, IsTrue, IfOk, IfErr};
 ghost use Rattle.source_defs.specs.Operands.{operand_texts};
-ghost use Rattle.source_defs.specs.Refusals.{seen};
+ghost use Rattle.source_defs.specs.Refusals.{map_ok};
 ghost use Rattle.source_defs.specs.Symbols.{look_up};
 ghost use Rattle.gpl_source_defs.specs.Locations.{address_of};
 ghost use Rattle.gpl_source_defs.specs.Skeletons as spec;
 ghost use Rattle.gpl_lines.specs.Answers.{Gives, NoMemory};
 ghost use Rattle.gpl_lines.specs.Defined.{
-  defined_form,
-  defined_route,
-  defined_skeleton,
-  defined_source,
-  defined_two,
-  defined_move,
+  model_of_form,
+  model_of_route,
+  model_of_skeleton,
+  model_of_source,
+  model_of_two,
+  model_of_move,
 };
 ghost use Rattle.gpl_lines.specs.Validity.{HasForm, IsValidSkeleton};
 
@@ -33,7 +33,7 @@ impl Scope<'_> {
         field: &'b [u8],
     ) -> Result<Skeleton<'b>, Failure>
         requires { HasForm named }
-        ensures found { Gives defined_skeleton result
+        ensures found { Gives model_of_skeleton result
             (spec.skeleton (look_up self.now.symbols.now) (address_of self.now.at) named field.now) }
         ensures valid { IfOk result IsValidSkeleton }
     {
@@ -63,7 +63,7 @@ impl Scope<'_> {
 
     /// A destination and a source.
     fn two<'b>(&self, op: TwoName, word: bool, field: &'b [u8]) -> Result<Skeleton<'b>, Failure>
-        ensures found { Gives defined_skeleton result
+        ensures found { Gives model_of_skeleton result
             (spec.two_skeleton (look_up self.now.symbols.now) (address_of self.now.at) op word field.now) }
         ensures valid { IfOk result IsValidSkeleton }
     {
@@ -78,7 +78,7 @@ impl Scope<'_> {
 
     /// The length, the target and the source of MOVE.
     fn move_of<'b>(&self, field: &'b [u8]) -> Result<Skeleton<'b>, Failure>
-        ensures found { Gives defined_skeleton result
+        ensures found { Gives model_of_skeleton result
             (spec.move_skeleton (look_up self.now.symbols.now) (address_of self.now.at) field.now) }
         ensures valid { IfOk result IsValidSkeleton }
     {
@@ -94,7 +94,7 @@ impl Scope<'_> {
     /// An operand in memory; no other form is taken.
     fn operand_in(&self, form: &Form<'_>) -> Result<GplOperand, Failure>
         ensures { Gives (λ operand. operand) result
-            (spec.operand_in (look_up self.now.symbols.now) (address_of self.now.at) (defined_form form.now)) }
+            (spec.operand_in (look_up self.now.symbols.now) (address_of self.now.at) (model_of_form form.now)) }
     {
         match form {
             Form::InMemory(memory) => self.operand(memory),
@@ -106,8 +106,8 @@ impl Scope<'_> {
 
     /// An operand in memory, or an immediate one.
     fn source_in<'b>(&self, form: &Form<'b>) -> Result<Source<'b>, Failure>
-        ensures { Gives defined_source result
-            (spec.source_in (look_up self.now.symbols.now) (address_of self.now.at) (defined_form form.now)) }
+        ensures { Gives model_of_source result
+            (spec.source_in (look_up self.now.symbols.now) (address_of self.now.at) (model_of_form form.now)) }
     {
         match form {
             Form::Alone(text) => Ok(Source::Immediate(text)),
@@ -120,9 +120,9 @@ impl Scope<'_> {
 
     /// The target and the source of MOVE.
     fn route_in<'b>(&self, to: &Form<'b>, from: &Form<'b>) -> Result<Route<'b>, Failure>
-        ensures { Gives defined_route result
-            (spec.route_in (look_up self.now.symbols.now) (address_of self.now.at) (defined_form to.now)
-            (defined_form from.now)) }
+        ensures { Gives model_of_route result
+            (spec.route_in (look_up self.now.symbols.now) (address_of self.now.at) (model_of_form to.now)
+            (model_of_form from.now)) }
     {
         match (to, from) {
             (Form::InMemory(to), Form::InMemory(from)) => {
@@ -144,7 +144,7 @@ impl Scope<'_> {
 
 /// The form of the one operand of a field.
 fn one_form(field: &[u8]) -> Result<Form<'_>, Failure>
-    ensures { Gives defined_form result (spec.one_form (operand_texts field.now)) }
+    ensures { Gives model_of_form result (spec.one_form (operand_texts field.now)) }
 {
     let text = one_operand(field)?;
     Ok(form_of(text))
@@ -164,7 +164,7 @@ fn text_of_one(field: &[u8]) -> Result<&[u8], Failure>
 
 /// The forms of the two operands of a field.
 fn two_forms(field: &[u8]) -> Result<(Form<'_>, Form<'_>), GplCause>
-    ensures forms { seen defined_two result ≡ spec.two_forms (operand_texts field.now) }
+    ensures forms { map_ok model_of_two result ≡ spec.two_forms (operand_texts field.now) }
     ensures cause { IfErr result NoMemory }
 {
     let mut parts = operands(field);
@@ -178,7 +178,7 @@ fn two_forms(field: &[u8]) -> Result<(Form<'_>, Form<'_>), GplCause>
 
 /// The forms of the three operands of MOVE.
 fn move_forms(field: &[u8]) -> Result<(Form<'_>, Form<'_>, Form<'_>), GplCause>
-    ensures forms { seen defined_move result ≡ spec.move_forms (operand_texts field.now) }
+    ensures forms { map_ok model_of_move result ≡ spec.move_forms (operand_texts field.now) }
     ensures cause { IfErr result NoMemory }
 {
     let mut parts = operands(field);
@@ -198,7 +198,7 @@ fn move_forms(field: &[u8]) -> Result<(Form<'_>, Form<'_>, Form<'_>), GplCause>
 
 /// The form of an operand that is not empty.
 fn written_form(text: &[u8]) -> Result<Form<'_>, GplCause>
-    ensures form { seen defined_form result ≡ spec.written_form text.now }
+    ensures form { map_ok model_of_form result ≡ spec.written_form text.now }
     ensures cause { IfErr result NoMemory }
 {
     if text.is_empty() {

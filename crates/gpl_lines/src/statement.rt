@@ -1,14 +1,14 @@
 //! What a line says.
 
 ghost use Rattle.std.specs.Prelude.{◌≡◌, ◌≤◌, length, IfOk, IsTrue};
-ghost use Rattle.asm_text.specs.GivenFields.{defined_fields, FieldsLieInside};
+ghost use Rattle.asm_text.specs.GivenFields.{model_of_fields, FieldsLieInside};
 ghost use Rattle.source_defs.specs.Operands.{operand_texts};
 ghost use Rattle.source_defs.specs.Symbols.{look_up};
 ghost use Rattle.gpl_source_defs.specs.Locations.{address_of};
 ghost use Rattle.gpl_source_defs.specs.Mnemonics.{mnemonic};
 ghost use Rattle.gpl_source_defs.specs.Statements as spec;
 ghost use Rattle.gpl_lines.specs.Answers.{Gives};
-ghost use Rattle.gpl_lines.specs.Defined.{defined_statement};
+ghost use Rattle.gpl_lines.specs.Defined.{model_of_statement};
 ghost use Rattle.gpl_lines.specs.Validity.{IsValid};
 
 use crate::directives::directive;
@@ -52,7 +52,7 @@ impl Statement<'_> {
     /// How many bytes a line takes.
     pub(crate) fn size(&self) -> u32
         requires { IsValid self.now }
-        ensures size { result ≡ spec.declared_size (defined_statement self.now) }
+        ensures size { result ≡ spec.declared_size (model_of_statement self.now) }
         ensures most { result ≤ 65535 }
     {
         match self {
@@ -79,7 +79,7 @@ impl Scope<'_> {
     ) -> Result<Statement<'b>, Failure>
         requires inside { FieldsLieInside line.now found.now }
         requires length { length line.now ≤ 256 }
-        ensures parsed { Gives defined_statement result
+        ensures parsed { Gives model_of_statement result
             (spec.statement_at (look_up self.now.symbols.now)
             (address_of self.now.at) line.now found.now.operation found.now.operands) }
         ensures valid { IfOk result IsValid }
@@ -99,7 +99,7 @@ impl Scope<'_> {
         field: &'b [u8],
     ) -> Result<Statement<'b>, Failure>
         requires { length field.now ≤ 256 }
-        ensures parsed { Gives defined_statement result
+        ensures parsed { Gives model_of_statement result
             (spec.operation_statement (look_up self.now.symbols.now) (address_of self.now.at) operation.now field.now) }
         ensures valid { IfOk result IsValid }
     {
@@ -116,7 +116,7 @@ impl Scope<'_> {
         operation: &[u8],
         field: &'b [u8],
     ) -> Result<Statement<'b>, Failure>
-        ensures parsed { Gives defined_statement result
+        ensures parsed { Gives model_of_statement result
             (spec.instruction_statement (look_up self.now.symbols.now) (address_of self.now.at)
             (mnemonic operation.now) field.now) }
         ensures valid { IfOk result IsValid }
@@ -137,7 +137,7 @@ impl Scope<'_> {
         field: &'b [u8],
     ) -> Result<Statement<'b>, Failure>
         requires { length field.now ≤ 256 }
-        ensures parsed { Gives defined_statement result
+        ensures parsed { Gives model_of_statement result
             (spec.directive_statement (look_up self.now.symbols.now) (address_of self.now.at) found
             (operand_texts field.now)) }
         ensures valid { IfOk result IsValid }

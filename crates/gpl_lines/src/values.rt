@@ -7,7 +7,7 @@ ghost use Rattle.source_defs.specs.Symbols.{look_up};
 ghost use Rattle.gpl_source_defs.specs.Locations.{address_of};
 ghost use Rattle.gpl_source_defs.specs.Values as spec;
 ghost use Rattle.gpl_lines.specs.Answers.{Gives};
-ghost use Rattle.gpl_lines.specs.Defined.{defined_memory};
+ghost use Rattle.gpl_lines.specs.Defined.{model_of_memory};
 
 use crate::failure::Failure;
 use crate::forms::Memory;
@@ -64,7 +64,7 @@ impl Scope<'_> {
     /// An operand in memory: its address, then its index.
     pub(crate) fn operand(&self, memory: &Memory<'_>) -> Result<GplOperand, Failure>
         ensures { Gives (λ operand. operand) result
-            (spec.operand (look_up self.now.symbols.now) (address_of self.now.at) (defined_memory memory.now)) }
+            (spec.operand (look_up self.now.symbols.now) (address_of self.now.at) (model_of_memory memory.now)) }
     {
         let number = self.number(memory.address)?;
         let index = self.index(memory.index)?;

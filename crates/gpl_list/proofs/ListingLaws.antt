@@ -11,26 +11,26 @@ use Rattle.gpl_source_defs.specs.Programs.{Settled, settle}
 use Rattle.gpl_list_defs.specs.Rows as spec
 use Rattle.gpl_list_defs.specs.Listing.{Listing, settled_listing, laid_listing, let_through}
 use Rattle.gpl_list.specs.declared.rows.Row.{Row}
-use Rattle.gpl_list.specs.Reading.{defined_row, Describes, DescribesAll, onto}
+use Rattle.gpl_list.specs.Reading.{model_of_row, Describes, DescribesAll, onto}
 use Rattle.gpl_list.proofs.SettleLaws.{same_row}
 
 -- ---- rows without bytes
 
 unplaced_from : (texts : List (ℕ × List ℕ)) (later : Names) (before rest : List Line) (rows : List Row) → Describes texts later before rest rows
-    → spec.rows spec.no_bytes texts before ++ map defined_row rows ≡ spec.rows spec.no_bytes texts (onto rest before)
+    → spec.rows spec.no_bytes texts before ++ map model_of_row rows ≡ spec.rows spec.no_bytes texts (onto rest before)
 unplaced_from texts later before [] [] all = append-nil (spec.rows spec.no_bytes texts before)
 unplaced_from texts later before [] (row ∷ rows) all = absurd all
 unplaced_from texts later before (line ∷ rest) [] all = absurd all
 unplaced_from texts later before (line ∷ rest) (row ∷ rows) all =
     let is = all.0 in
-    let same : defined_row row ≡ spec.row spec.no_bytes texts before line =
-    same_row texts later (defined_row row) (spec.row spec.no_bytes texts before line) is.number is.address is.bytes is.text in
-    ap (λ row. spec.rows spec.no_bytes texts before ++ row ∷ map defined_row rows) same
-    ∙ (sym (append_assoc (spec.rows spec.no_bytes texts before) (spec.row spec.no_bytes texts before line ∷ []) (map defined_row rows))
+    let same : model_of_row row ≡ spec.row spec.no_bytes texts before line =
+    same_row texts later (model_of_row row) (spec.row spec.no_bytes texts before line) is.number is.address is.bytes is.text in
+    ap (λ row. spec.rows spec.no_bytes texts before ++ row ∷ map model_of_row rows) same
+    ∙ (sym (append_assoc (spec.rows spec.no_bytes texts before) (spec.row spec.no_bytes texts before line ∷ []) (map model_of_row rows))
     ∙ unplaced_from texts later (line ∷ before) rest rows all.1)
 
 pub unplaced : (texts : List (ℕ × List ℕ)) (lines : List Line) (rows : List Row) → DescribesAll texts lines rows
-    → map defined_row rows ≡ spec.rows spec.no_bytes texts lines
+    → map model_of_row rows ≡ spec.rows spec.no_bytes texts lines
 unplaced texts lines rows (rest, are, all) =
     unplaced_from texts (names lines) [] rest rows (all (names lines) (grown_not (names lines))) ∙ ap (spec.rows spec.no_bytes texts) are
 

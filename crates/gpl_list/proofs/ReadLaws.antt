@@ -15,7 +15,7 @@ use Rattle.gpl_list_defs.specs.Rows as spec
 use Rattle.gpl_list.specs.declared.rows.Row.{Row}
 use Rattle.gpl_list.specs.declared.rows.NameRow.{NameRow}
 use Rattle.gpl_list.specs.declared.read.ReadLines.{ReadLines}
-use Rattle.gpl_list.specs.Reading.{defined_address, defined_name, named, IsTaken, OneMore, RowOf, Describes, DescribesAll, Keeps}
+use Rattle.gpl_list.specs.Reading.{model_of_address, model_of_name, named, IsTaken, OneMore, RowOf, Describes, DescribesAll, Keeps}
 use Rattle.gpl_list.proofs.RowLaws.{onto_more, describes_more, names_are, checked_of, row_of}
 
 pub keeps_none : (texts : List (ℕ × List ℕ)) (read : ReadLines) → IsBehind [] read.builder → read.rows.items ≡ [] → read.names.items ≡ []
@@ -23,19 +23,19 @@ pub keeps_none : (texts : List (ℕ × List ℕ)) (read : ReadLines) → IsBehin
 keeps_none texts read behind rows names = record {
   behind = behind;
   rows = ([], refl, λ later grows. subst (Describes texts later [] []) (sym rows) tt);
-  names = ap (map defined_name) names;
+  names = ap (map model_of_name) names;
 }
 
 module _ (texts : List (ℕ × List ℕ)) (lines : List Line) (text : List ℕ) (told : TakenLine) (number : ℕ)
     (is : number ≡ length lines + 1) (there : spec.text_of texts number ≡ text) where
   rows_more : (found : Checked) (old new : List Row) → checked (names lines) (location lines) text ≡ Ok found
-      → Tells lines (line_of (location lines) (length lines + 1) found) told → OneMore number told.at (defined_address told) text old new
+      → Tells lines (line_of (location lines) (length lines + 1) found) told → OneMore number told.at (model_of_address told) text old new
       → DescribesAll texts lines old → DescribesAll texts (line_of (location lines) (length lines + 1) found ∷ lines) new
   rows_more found old new e tells (row, more, taken) (rest, are, all) =
       let line = line_of (location lines) (length lines + 1) found in
       let fresh = (is_let_through (names lines) (location lines) text found e).fresh in
       let grows : Grows (names lines) (names (line ∷ lines)) = label_grows (names lines) found.label (label_value (location lines) found.statement) fresh in
-      let taken' : IsTaken (length lines + 1) told.at (defined_address told) text row = subst (λ n. IsTaken n told.at (defined_address told) text row) is taken in
+      let taken' : IsTaken (length lines + 1) told.at (model_of_address told) text row = subst (λ n. IsTaken n told.at (model_of_address told) text row) is taken in
       let there' : spec.text_of texts (length lines + 1) ≡ text = subst (λ n. spec.text_of texts n ≡ text) is there in (
         rest ++ line ∷ [],
         onto_more [] rest line ∙ ap (λ before. line ∷ before) are,
@@ -47,8 +47,8 @@ module _ (texts : List (ℕ × List ℕ)) (lines : List Line) (text : List ℕ) 
       )
 
   names_more : (line : Line) (old new : List NameRow) → line.number ≡ number → Tells lines line told
-      → map defined_name new ≡ map defined_name old ++ named told.label told.value number → map defined_name old ≡ spec.name_rows lines
-      → map defined_name new ≡ spec.name_rows (line ∷ lines)
+      → map model_of_name new ≡ map model_of_name old ++ named told.label told.value number → map model_of_name old ≡ spec.name_rows lines
+      → map model_of_name new ≡ spec.name_rows (line ∷ lines)
   names_more line old new same tells more are =
       let entries : spec.names_in line ≡ named told.label told.value number =
       ap (λ (entries : List (List ℕ × Value)). map (λ entry. record { name = entry.0; value = entry.1; line = line.number }) entries) tells.names
@@ -56,8 +56,8 @@ module _ (texts : List (ℕ × List ℕ)) (lines : List Line) (text : List ℕ) 
       more ∙ (ap (λ names. names ++ named told.label told.value number) are ∙ ap (λ names. spec.name_rows lines ++ names) (sym entries))
 
   pub keeps_more : (line : Line) (old new : ReadLines) → check lines (length lines + 1) text ≡ Ok line → IsBehind (line ∷ lines) new.builder
-      → Tells lines line told → OneMore number told.at (defined_address told) text old.rows.items new.rows.items
-      → map defined_name new.names.items ≡ map defined_name old.names.items ++ named told.label told.value number
+      → Tells lines line told → OneMore number told.at (model_of_address told) text old.rows.items new.rows.items
+      → map model_of_name new.names.items ≡ map model_of_name old.names.items ++ named told.label told.value number
       → Keeps texts lines old → Keeps texts (line ∷ lines) new
   keeps_more line old new e behind tells more named keeps =
       let b = checked_of lines (length lines + 1) text line e in

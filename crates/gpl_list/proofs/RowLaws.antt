@@ -21,7 +21,7 @@ use Rattle.gpl_asm.proofs.LineLaws.{place_is}
 use Rattle.gpl_asm.proofs.TakeLaws.{label_grows}
 use Rattle.gpl_list_defs.specs.Rows as spec
 use Rattle.gpl_list.specs.declared.rows.Row.{Row}
-use Rattle.gpl_list.specs.Reading.{defined_address, named, IsTaken, RowOf, Describes, onto}
+use Rattle.gpl_list.specs.Reading.{model_of_address, named, IsTaken, RowOf, Describes, onto}
 
 pub onto_more : (before rest : List Line) (line : Line) → onto (rest ++ line ∷ []) before ≡ line ∷ onto rest before
 onto_more before [] line = refl
@@ -54,7 +54,7 @@ checked_of lines number text line e =
 module _ (texts : List (ℕ × List ℕ)) (lines : List Line) (text : List ℕ) (found : Checked) (told : TakenLine) (row : Row)
     (e : checked (names lines) (location lines) text ≡ Ok found)
     (tells : Tells lines (line_of (location lines) (length lines + 1) found) told)
-    (taken : IsTaken (length lines + 1) told.at (defined_address told) text row)
+    (taken : IsTaken (length lines + 1) told.at (model_of_address told) text row)
     (there : spec.text_of texts (length lines + 1) ≡ text) where
   abbrev line : Line
   line = line_of (location lines) (length lines + 1) found

@@ -18,7 +18,7 @@ use Rattle.gpl_asm.specs.Errors.{refusal_at}
 use Rattle.gpl_asm.specs.declared.error.GplError.{GplError}
 use Rattle.gpl_list_defs.specs.Rows as spec
 use Rattle.gpl_list.specs.declared.rows.Row.{Row}
-use Rattle.gpl_list.specs.Reading.{defined_row, RowOf, Describes, onto}
+use Rattle.gpl_list.specs.Reading.{model_of_row, RowOf, Describes, onto}
 use Rattle.gpl_list.specs.Settling.{SettledAs, SettlesLine, SettlesLines}
 
 pub none_left : (rows : List Row) → length rows ≡ 0 → rows ≡ []
@@ -87,7 +87,7 @@ module _ (texts : List (ℕ × List ℕ)) (known : Names) where
     pub earlier : List Settled
     pub settled_is : settled (settle known) done ≡ Ok earlier
     pub made_is : made ≡ image earlier
-    pub rows_are : map defined_row rows ≡ shown done
+    pub rows_are : map model_of_row rows ≡ shown done
 
   pub going_start : (rest : List Line) (left : List Row) (made : Image) (rows : List Row) → Describes texts known [] rest left → made ≡ image [] → rows ≡ []
       → Going (onto rest []) left made rows
@@ -100,7 +100,7 @@ module _ (texts : List (ℕ × List ℕ)) (known : Names) where
     earlier = [];
     settled_is = refl;
     made_is = none;
-    rows_are = ap (map defined_row) empty;
+    rows_are = ap (map model_of_row) empty;
   }
 
   pub going_end : {A : Type 0} (value : A) (lines : List Line) (made : Image) (rows : List Row) → Going lines [] made rows
@@ -149,8 +149,8 @@ module _ (texts : List (ℕ × List ℕ)) (known : Names) where
         by (line ∷ rest) are all =
             let is = all.0 in
             let c = came g line (Ok value) is settles in
-            let same : defined_row new ≡ spec.row (spec.placed_bytes known) texts g.done line =
-            same_row (defined_row new) (spec.row (spec.placed_bytes known) texts g.done line)
+            let same : model_of_row new ≡ spec.row (spec.placed_bytes known) texts g.done line =
+            same_row (model_of_row new) (spec.row (spec.placed_bytes known) texts g.done line)
             (given.number ∙ is.number) (given.address ∙ is.address) (given.bytes_are ∙ c.3) (given.text ∙ is.text) in
             record {
               done = line ∷ g.done;
@@ -161,9 +161,9 @@ module _ (texts : List (ℕ × List ℕ)) (known : Names) where
               earlier = c.0 ∷ g.earlier;
               settled_is = one_settled known g.done line g.earlier (Ok c.0) g.settled_is c.1;
               made_is = c.2;
-              rows_are = ap (map defined_row) more
-                  ∙ (map-append defined_row rows (new ∷ [])
-                  ∙ (ap (λ rows. rows ++ defined_row new ∷ []) g.rows_are ∙ ap (λ row. shown g.done ++ row ∷ []) same));
+              rows_are = ap (map model_of_row) more
+                  ∙ (map-append model_of_row rows (new ∷ [])
+                  ∙ (ap (λ rows. rows ++ model_of_row new ∷ []) g.rows_are ∙ ap (λ row. shown g.done ++ row ∷ []) same));
             }
 
     pub going_refused : (B : Type 0) (failed : Failure) → Going lines (row ∷ next) made rows → Asked (Err failed)

@@ -19,14 +19,14 @@ use Rattle.gpl_list.specs.declared.rows.Row.{Row}
 use Rattle.gpl_list.specs.declared.rows.NameRow.{NameRow}
 use Rattle.gpl_list.specs.declared.read.ReadLines.{ReadLines}
 
-abbrev pub defined_row : Row → spec.Row
-defined_row row = record { number = row.number; at = row.address; bytes = row.bytes.items; text = row.text.items }
+abbrev pub model_of_row : Row → spec.Row
+model_of_row row = record { number = row.number; at = row.address; bytes = row.bytes.items; text = row.text.items }
 
-abbrev pub defined_name : NameRow → spec.NameRow
-defined_name row = record { name = row.name; value = Absolute row.value; line = row.line }
+abbrev pub model_of_name : NameRow → spec.NameRow
+model_of_name row = record { name = row.name; value = Absolute row.value; line = row.line }
 
-abbrev pub defined_address : TakenLine → ℕ
-defined_address told = (set_or told.origin told.at).number
+abbrev pub model_of_address : TakenLine → ℕ
+model_of_address told = (set_or told.origin told.at).number
 
 -- the name of a line, if it has one
 abbrev pub named : Option (List ℕ) → ℕ → ℕ → List spec.NameRow
@@ -80,7 +80,7 @@ DescribesAll texts lines rows =
 pub record Keeps (texts : List (ℕ × List ℕ)) (lines : List Line) (read : ReadLines) : Type 0 where
   pub behind : IsBehind lines read.builder
   pub rows : DescribesAll texts lines read.rows.items
-  pub names : map defined_name read.names.items ≡ spec.name_rows lines
+  pub names : map model_of_name read.names.items ≡ spec.name_rows lines
 
 -- no line was taken
 pub record KeepsNone (read : ReadLines) : Type 0 where

@@ -11,20 +11,20 @@ use Rattle.gpl_source_defs.specs.FirstChecks.{parsed}
 use Rattle.gpl_source_defs.specs.SecondChecks.{outcome}
 use Rattle.gpl_source_defs.specs.Programs.{Settled, settle, settle_at, image}
 use Rattle.gpl_lines.specs.Answers.{Fails, Gives}
-use Rattle.gpl_lines.specs.Defined.{defined_outcome}
+use Rattle.gpl_lines.specs.Defined.{model_of_outcome}
 use Rattle.gpl_lines.specs.declared.failure.Failure.{Failure}
 use Rattle.gpl_lines.specs.declared.second_checks.Outcome.{Outcome}
 use Rattle.gpl_asm.specs.declared.error.GplError.{GplError}
 use Rattle.gpl_asm.specs.declared.error.GplError.TheVariants.{At, Memory}
 use Rattle.gpl_list_defs.specs.Rows as spec
 use Rattle.gpl_list.specs.declared.rows.Row.{Row}
-use Rattle.gpl_list.specs.Reading.{defined_row}
+use Rattle.gpl_list.specs.Reading.{model_of_row}
 
 -- what a line comes to that says something by all names
 abbrev pub ComesTo : Names → Location → List ℕ → Result Outcome Failure → Type 0
 ComesTo known at text result =
     (statement : Statement) → parsed known at text ≡ Ok statement
-    → Gives defined_outcome result (outcome (look_up known) at statement)
+    → Gives model_of_outcome result (outcome (look_up known) at statement)
 
 -- a line was settled after others, and its bytes were placed
 abbrev pub SettledAs : {A : Type 0} → (A → List ℕ) → Names → Location → Statement → List Settled → Result A Failure → Image → Type 0
@@ -44,8 +44,8 @@ SettlesLine bytes known at text old result left =
 abbrev pub SettlesLines : {A : Type 0} → List (ℕ × List ℕ) → Names → List Line → Result A GplError → List Row → Type 0
 SettlesLines texts known lines (Ok done) rows =
     (found : List Settled) × (settled (settle known) lines ≡ Ok found)
-    × (map defined_row rows ≡ spec.rows (spec.placed_bytes known) texts lines)
+    × (map model_of_row rows ≡ spec.rows (spec.placed_bytes known) texts lines)
 SettlesLines texts known lines (Err (At number cause)) rows =
     (settled (settle known) lines ≡ Err (record { line = number; cause = cause }))
-    × (map defined_row rows ≡ spec.rows (spec.placed_bytes known) texts (spec.lines_before number lines))
+    × (map model_of_row rows ≡ spec.rows (spec.placed_bytes known) texts (spec.lines_before number lines))
 SettlesLines texts known lines (Err Memory) rows = ⊤

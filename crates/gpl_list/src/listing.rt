@@ -9,7 +9,7 @@ ghost use Rattle.bench_io.specs.Written.{Written};
 ghost use Rattle.gpl_list_defs.specs.Text.{listing_lines};
 ghost use Rattle.gpl_list_defs.specs.Listing.{listing_of, settled_listing};
 ghost use Rattle.gpl_list.specs.Reading.{Keeps};
-ghost use Rattle.gpl_list.specs.Listings.{defined_listing, refused_by};
+ghost use Rattle.gpl_list.specs.Listings.{model_of_listing, refused_by};
 
 use crate::read::ReadLines;
 use crate::rows::{NameRow, Row};
@@ -44,7 +44,7 @@ pub struct Refused {
 /// `AllocError` means out of memory.
 pub fn list_source(alloc: Global, text: &[u8]) -> Result<GplListing, AllocError>
     requires { length text.now < 2 ^ 32 }
-    ensures { IfOk result (λ listing. defined_listing listing ≡ listing_of text.now) }
+    ensures { IfOk result (λ listing. model_of_listing listing ≡ listing_of text.now) }
 {
     let mut read = ReadLines::new(alloc)?;
     match read.read(text) {
@@ -61,7 +61,7 @@ pub fn list_source(alloc: Global, text: &[u8]) -> Result<GplListing, AllocError>
 /// The listing of lines that the first checks let through.
 fn settled_listing(read: ReadLines) -> Result<GplListing, AllocError>
     ensures { (texts : List (ℕ × List ℕ)) → (lines : List Line) → Keeps texts lines read →
-        IfOk result (λ listing. defined_listing listing
+        IfOk result (λ listing. model_of_listing listing
         ≡ settled_listing texts lines (settled (settle (names lines)) lines)) }
 {
     let ReadLines {
@@ -90,7 +90,7 @@ impl GplListing {
     /// Writes the rows and the names, each line by one call. It takes no memory.
     pub fn write<O: Sink>(&self, out: &mut O) -> Result<(), Failed>
         ensures { Written result (O.state out.old) (O.state out.new)
-            (listing_lines (defined_listing self.now).rows (defined_listing self.now).names) }
+            (listing_lines (model_of_listing self.now).rows (model_of_listing self.now).names) }
     {
         put_rows(self.rows.as_slice(), out)?;
         put_names(self.names.as_slice(), out)
@@ -98,7 +98,7 @@ impl GplListing {
 
     /// The refused line, if one is refused.
     pub fn refused(&self) -> Option<Refused>
-        ensures { refused_by result ≡ (defined_listing self.now).refused }
+        ensures { refused_by result ≡ (model_of_listing self.now).refused }
     {
         self.refused
     }

@@ -5,7 +5,7 @@ ghost use Rattle.source_defs.specs.Layout.{line_texts, set_or};
 ghost use Rattle.gpl_source_defs.specs.Locations.{Line};
 ghost use Rattle.gpl_asm.specs.Building.{CanCount, IsOpen};
 ghost use Rattle.gpl_list_defs.specs.Rows.{text_of};
-ghost use Rattle.gpl_list.specs.Reading.{Keeps, KeepsNone, ReadsLine, ReadsLines, defined_name, named};
+ghost use Rattle.gpl_list.specs.Reading.{Keeps, KeepsNone, ReadsLine, ReadsLines, model_of_name, named};
 ghost use Rattle.gpl_list.specs.Reading.{OneMore};
 
 use crate::rows::{NameRow, Row};
@@ -102,8 +102,8 @@ impl ReadLines {
     fn keep_name(&mut self, label: Option<Name>, value: u16, line: u32) -> Result<(), AllocError>
         ensures builder { self.new.builder ≡ self.old.builder }
         ensures rows { self.new.rows.items ≡ self.old.rows.items }
-        ensures names { OnOk result (map defined_name self.new.names.items
-            ≡ map defined_name self.old.names.items ++ named label value line) }
+        ensures names { OnOk result (map model_of_name self.new.names.items
+            ≡ map model_of_name self.old.names.items ++ named label value line) }
     {
         let Some(name) = label else {
             return Ok(());

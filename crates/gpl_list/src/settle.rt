@@ -3,7 +3,7 @@
 ghost use Rattle.std.specs.Prelude.{◌≡◌, ℕ, List, [], ◌∷◌, ◌++◌, OnOk};
 ghost use Rattle.gpl_source_defs.specs.Locations.{Line};
 ghost use Rattle.gpl_source_defs.specs.Programs.{bytes_in};
-ghost use Rattle.gpl_lines.specs.Defined.{defined_outcome};
+ghost use Rattle.gpl_lines.specs.Defined.{model_of_outcome};
 ghost use Rattle.gpl_asm.specs.Errors.{refusal_at};
 ghost use Rattle.gpl_list.specs.Reading.{Describes, onto};
 ghost use Rattle.gpl_list.specs.Settling.{ComesTo, SettlesLine, SettlesLines};
@@ -95,7 +95,7 @@ fn outcome_of(alloc: Global, names: &Symbols, at: Location, text: &[u8]) -> Resu
 
 /// The bytes that a line places.
 fn bytes_of(alloc: Global, outcome: Outcome) -> Vec<u8>
-    ensures { result.items ≡ bytes_in (defined_outcome outcome) }
+    ensures { result.items ≡ bytes_in (model_of_outcome outcome) }
 {
     match outcome {
         Outcome::Bytes(bytes) => bytes,

@@ -4,7 +4,7 @@ ghost use Rattle.std.specs.Prelude.{◌≡◌, ◌≤◌, ◌+◌, ◌%◌, ◌+
 ghost use Rattle.source_defs.specs.Digits.{hex_word};
 ghost use Rattle.arrayvec.specs.ArrayVec.{array_vec_len};
 ghost use Rattle.gpl_list_defs.specs.Text as spec;
-ghost use Rattle.gpl_list.specs.Reading.{defined_name, defined_row};
+ghost use Rattle.gpl_list.specs.Reading.{model_of_name, model_of_row};
 
 use crate::rows::{NameRow, Row};
 use arrayvec::ArrayVec;
@@ -26,7 +26,7 @@ pub(crate) type RowLine = ArrayVec<u8, 352>;
 /// The first line of a row: its number, its address, its first bytes and its text.
 #[tactic(auto, using(std::proofs::Common::append_assoc), unfolding(gpl_list_defs::specs::Text::line_text))]
 pub(crate) fn line_text(row: &Row) -> RowLine
-    ensures { result.items ≡ spec.line_text (defined_row row.now) }
+    ensures { result.items ≡ spec.line_text (model_of_row row.now) }
 {
     let front = line_front(row);
     let mut line = RowLine::new();
@@ -39,7 +39,7 @@ pub(crate) fn line_text(row: &Row) -> RowLine
 /// What stands before the text.
 #[tactic(auto, using(std::proofs::Common::append_assoc), unfolding(gpl_list_defs::specs::Text::line_front))]
 fn line_front(row: &Row) -> Line
-    ensures text { result.items ≡ spec.line_front (defined_row row.now) }
+    ensures text { result.items ≡ spec.line_front (model_of_row row.now) }
     ensures len { array_vec_len result ≤ 80 }
 {
     let mut line = Line::new();
@@ -128,7 +128,7 @@ pub(crate) fn further_line(at: u16, bytes: &[u8]) -> Line
 /// The line of a name.
 #[tactic(auto, using(std::proofs::Common::append_assoc), unfolding(gpl_list_defs::specs::Text::name_line))]
 pub(crate) fn name_line(row: &NameRow) -> Line
-    ensures { result.items ≡ spec.name_line (defined_name row.now) }
+    ensures { result.items ≡ spec.name_line (model_of_name row.now) }
 {
     let mut line = Line::new();
     append(&mut line, b"name ");

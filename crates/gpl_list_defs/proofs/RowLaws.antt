@@ -12,7 +12,7 @@ use Rattle.gpl_defs.specs.Image.{Image, placed}
 use Rattle.gpl_source_defs.specs.declared.causes.GplCause.{GplCause}
 use Rattle.gpl_source_defs.specs.declared.causes.GplCause.TheVariants.{Overlap}
 use Rattle.gpl_source_defs.specs.declared.location.Location.{Location}
-use Rattle.gpl_source_defs.specs.Statements.{Statement, Nothing, Instruction, Grom, Aorg, Equ, Bss, Data, Byte, Text, End}
+use Rattle.gpl_source_defs.specs.Statements.{Statement, Grom, Aorg}
 use Rattle.gpl_source_defs.specs.Locations.{Line, place}
 use Rattle.gpl_source_defs.specs.FirstChecks.{check, names}
 use Rattle.gpl_source_defs.specs.SecondChecks.{Outcome, outcome}
@@ -50,14 +50,7 @@ at_address : (look : List ℕ → Option Value) (at : Location) (statement : Sta
 unfolding outcome
 at_address look at (Grom number) to found e = cc e
 at_address look at (Aorg number) to found e = cc e
-at_address look at Nothing to found e = refl
-at_address look at (Instruction skeleton) to found e = refl
-at_address look at (Equ number) to found e = refl
-at_address look at (Bss number) to found e = refl
-at_address look at (Data texts) to found e = refl
-at_address look at (Byte texts) to found e = refl
-at_address look at (Text quoted) to found e = refl
-at_address look at (End text) to found e = refl
+at_address look at _ to found e = refl
 
 -- what a line came to
 record Came (known : Names) (at : Location) (statement : Statement) (line : Settled) : Type 0 where
@@ -103,9 +96,7 @@ module _ (known : Names) (texts : List (ℕ × List ℕ)) where
       ∙ ap (λ at. placed (image earlier) at (bytes_in found.outcome)) (sym came.at_is))))
 
   pub rows_give : (lines : List Line) (found : List Settled) → settled (settle known) lines ≡ Ok found → with_rows empty (shown lines) ≡ image found
-  rows_give [] found e =
-      let same : [] ≡ found = cc e in
-      ap image same
+  rows_give [] found e = let same : [] ≡ found = cc e in ap image same
   rows_give (line ∷ before) found e =
       let b = bound (settled (settle known) before) _ found e in
       let c = bound (at_line line.number (settle known before b.0 line)) _ found b.2 in

@@ -1,9 +1,7 @@
 -- Bytes that are placed one behind the other, where nothing is placed, and what is listed at an address.
 use Rattle.std.proofs.Common.{◌≡◌, ℕ, ◌/◌, ◌%◌, ◌<◌, Bool, true, false, List, refl, subst, Option, Some, None, arith}
 use Rattle.std.specs.Prelude.{◌==◌, if◌then◌else◌, nat_lt, slice_index, is_some, IsTrue, nat_le}
-use Rattle.tms_defs.specs.Words.{join}
 use Rattle.grom_defs.specs.Addresses.{next_in_grom}
-use Rattle.gpl_defs.specs.declared.instruction.GplOperand.{GplOperand}
 use Rattle.gpl_defs.specs.declared.instruction.MoveKind.{MoveKind}
 use Rattle.gpl_defs.specs.declared.instruction.MoveKind.TheVariants.{GromIndexedToMemory, MemoryToMemory, GromToRegisters}
 use Rattle.gpl_defs.specs.declared.instruction.GplInstr.{GplInstr}
@@ -12,7 +10,7 @@ use Rattle.gpl_defs.specs.declared.instruction.GplOperation.TheVariants as opera
 use Rattle.gpl_defs.specs.declared.instruction.GplRead.{GplRead}
 use Rattle.gpl_defs.specs.declared.instruction.GplRead.TheVariants.{Instr, Refused}
 use Rattle.gpl_defs.specs.Codes.{operation_at}
-use Rattle.gpl_defs.specs.Reading.{word_at, address_at, index_by, with_address, plain_operand, operand_at}
+use Rattle.gpl_defs.specs.Reading.{word_at, address_at, index_by, operand_at}
 use Rattle.gpl_defs.specs.Reading.{source_at, length_at, target_at, from_at, instr_at, read_by, reading}
 use Rattle.gpl_listing_defs.proofs.Operands.{IndexFits, OperandFits}
 use Rattle.gpl_listing_defs.proofs.Instructions.{SourceFits, LengthFits, TargetFits, FromFits, InstrFits}
@@ -26,6 +24,7 @@ use Rattle.std.proofs.lemmas.Grind.{common_steps}
 use Rattle.gpl_defs.specs.Image.{Image, placed}
 use Rattle.gpl_defs.specs.Reading.{stand, IsReadAt, ReadsInstr}
 use Rattle.gpl_defs.proofs.ImageLaws.{ties-other}
+use Rattle.gpl_defs.proofs.OperandLaws.{address_by, operand_by}
 use Rattle.gpl_source_defs.specs.Programs.{overlaps}
 use Rattle.listed_lines.proofs.Scans.{and_left, and_right}
 use Rattle.gpl_defs.specs.Bytes.{bytes_of}
@@ -45,8 +44,7 @@ module _ (image : List ℕ) (bytes : (k : ℕ) → slice_index image k < 256) wh
   address_fits first at = by (first % 16 == 15)
     where
       by : (test : Bool) →
-          ((if◌then◌else◌ {A = ℕ × ℕ} test (word_at image at)
-          (join (first % 16) (slice_index image at), next_in_grom at)).0) < 65536
+          (address_by test first image at).0 < 65536
       by true = word_fits at
       by false = let a = bytes at in omega arith
 
@@ -55,8 +53,7 @@ module _ (image : List ℕ) (bytes : (k : ℕ) → slice_index image k < 256) wh
   operand_fits at = by (nat_lt (slice_index image at) 0x80) refl
     where
       by : (small : Bool) → nat_lt (slice_index image at) 0x80 ≡ small →
-          OperandFits ((if◌then◌else◌ {A = GplOperand × ℕ} small (plain_operand (slice_index image at), next_in_grom at)
-          (with_address (slice_index image at) image (address_at (slice_index image at) image (next_in_grom at)))).0)
+          OperandFits (operand_by small (slice_index image at) image (next_in_grom at)).0
       by true e = record { address = (let a = bytes at in omega arith); index = tt }
       by false e =
           let address = address_at (slice_index image at) image (next_in_grom at) in

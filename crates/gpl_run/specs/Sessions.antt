@@ -40,5 +40,5 @@ address_in None x = (shown_by x.cpu.memory).pc
 address_in (Some reason) x = word_in x.cpu.memory.scratchpad (entry_cell + 2)
 
 -- the state that a session shows
-abbrev pub seen : SessionState → GplState
-seen session = record (shown_by session.machine.cpu.memory) { pc = address_in session.ended session.machine }
+abbrev pub gpl_state_of : SessionState → GplState
+gpl_state_of session = record (shown_by session.machine.cpu.memory) { pc = address_in session.ended session.machine }

@@ -3,7 +3,7 @@
 ghost use Rattle.std.specs.Prelude.{◌≡◌, [], ◌∷◌, ◌++◌, ℕ, List, Ok, map, OnOk, IfOk};
 ghost use Rattle.asm_defs.specs.Modules.{module_of_source};
 ghost use Rattle.native_interp.specs.Source.{lines, source};
-ghost use Rattle.object_tags.specs.Seen.{defined_module};
+ghost use Rattle.object_tags.specs.Seen.{model_of_module};
 ghost use Rattle.gpl_run.specs.Feeding.{HasLeft};
 
 use crate::error::BuildError;
@@ -14,7 +14,7 @@ use std::alloc::Global;
 
 /// The module of the interpreter's source, whose lines the assembler takes one at a time.
 pub(crate) fn interpreter_module(alloc: Global) -> Result<Module, BuildError>
-    ensures { IfOk result (λ found. module_of_source source ≡ Ok (defined_module found)) }
+    ensures { IfOk result (λ found. module_of_source source ≡ Ok (model_of_module found)) }
 {
     let mut builder = AsmLines::new(alloc);
     take_source(&mut builder)?;

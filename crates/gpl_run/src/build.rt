@@ -2,9 +2,9 @@
 
 ghost use Rattle.std.specs.Prelude.{◌≡◌, ◌∷◌, [], Ok, IfOk};
 ghost use Rattle.interp_build_defs.specs.Interpreter.{IsInterpreter, SourceGivesWords};
-ghost use Rattle.object_tags.specs.Seen.{defined_module};
+ghost use Rattle.object_tags.specs.Seen.{model_of_module};
 ghost use Rattle.link_defs.specs.LinkedMemory.{LinkedMemory, linked};
-ghost use Rattle.link_loader.specs.View.{defined_linked};
+ghost use Rattle.link_loader.specs.View.{model_of_linked};
 
 use crate::assembling::interpreter_module;
 use crate::error::BuildError;
@@ -21,7 +21,7 @@ use std::alloc::Global;
 pub fn build_interp(alloc: Global) -> Result<Linked, BuildError>
     // the source has such a memory, whether or not it is found here
     ensures law { SourceGivesWords }
-    ensures built { IfOk result (λ linked. IsInterpreter (defined_linked linked)) }
+    ensures built { IfOk result (λ linked. IsInterpreter (model_of_linked linked)) }
 {
     source_gives_words();
     link_module(alloc, interpreter_module(alloc)?)
@@ -29,8 +29,8 @@ pub fn build_interp(alloc: Global) -> Result<Linked, BuildError>
 
 /// The linked memory of a module that is linked where it stands alone.
 fn link_module(alloc: Global, module: Module) -> Result<Linked, BuildError>
-    requires { (memory : LinkedMemory) × linked (defined_module «module» ∷ []) ≡ Ok memory }
-    ensures { IfOk result (λ memory. linked (defined_module «module» ∷ []) ≡ Ok (defined_linked memory)) }
+    requires { (memory : LinkedMemory) × linked (model_of_module «module» ∷ []) ≡ Ok memory }
+    ensures { IfOk result (λ memory. linked (model_of_module «module» ∷ []) ≡ Ok (model_of_linked memory)) }
 {
     let mut modules = Vec::new(alloc);
     modules.push(module)?;

@@ -3,7 +3,7 @@
 ghost use Rattle.std.specs.Prelude.{◌≡◌, length, IfOk};
 ghost use Rattle.interp_build_defs.specs.Interpreter.{IsInterpreter};
 ghost use Rattle.interp_defs.specs.Boot.{IsBoot};
-ghost use Rattle.link_loader.specs.View.{defined_linked};
+ghost use Rattle.link_loader.specs.View.{model_of_linked};
 
 use interp_boot_defs::loaded_interpreters_boot;
 use link_loader::Linked;
@@ -20,7 +20,7 @@ pub fn load_interpreter(
     grom: &[u8],
     entry: u16,
 ) -> Result<Machine, AllocError>
-    requires built { IsInterpreter (defined_linked interpreter.now) }
+    requires built { IsInterpreter (model_of_linked interpreter.now) }
     requires size { length grom.now ≡ 65536 }
     ensures { IfOk result (IsBoot grom.now entry) }
 {

@@ -94,15 +94,8 @@ module _ (look more : List ℕ → Option Value) (grows : (name : List ℕ) (val
         stays_then is_unresolved (operand look here to) (operand more here to) _ _ (operand_stays to)
         (λ target. on (operand look here from) (operand more here from) _ (operand_stays from))
     route_stays (InMemory to) (InGrom address index) = on (operand look here to) (operand more here to) _ (operand_stays to)
-    route_stays (InMemory to) (Register number) = stays_same is_unresolved _
-    route_stays (InMemory to) (Alone text) = stays_same is_unresolved _
-    route_stays (InGrom address index) from = stays_same is_unresolved _
     route_stays (Register number) (InGrom address None) = stays_same is_unresolved _
-    route_stays (Register number) (InGrom address (Some index)) = stays_same is_unresolved _
-    route_stays (Register number) (InMemory from) = stays_same is_unresolved _
-    route_stays (Register number) (Register from) = stays_same is_unresolved _
-    route_stays (Register number) (Alone text) = stays_same is_unresolved _
-    route_stays (Alone text) from = stays_same is_unresolved _
+    route_stays _ _ = stays_same is_unresolved _
 
     two_stays : (op : TwoName) (word : Bool) (field : List ℕ) → Stays is_unresolved (two_skeleton look here op word field) (two_skeleton more here op word field)
     two_stays op word field =
@@ -121,14 +114,11 @@ module _ (look more : List ℕ → Option Value) (grows : (name : List ℕ) (val
         (λ length. on (route_in look here forms.to forms.from) (route_in more here forms.to forms.from) _ (route_stays forms.to forms.from))))
 
     skeleton_stays : (found : Mnemonic) (field : List ℕ) → Stays is_unresolved (skeleton look here found field) (skeleton more here found field)
-    skeleton_stays (instr.Plain op) field = stays_same is_unresolved _
-    skeleton_stays (instr.Byte op) field = stays_same is_unresolved _
-    skeleton_stays (instr.Jump op) field = stays_same is_unresolved _
-    skeleton_stays (instr.Branch on) field = stays_same is_unresolved _
     skeleton_stays (instr.One op word) field =
         behind (one_form (operand_texts field)) _ _ (λ form. on (operand_in look here form) (operand_in more here form) _ (operand_in_stays form))
     skeleton_stays (instr.Two op word) field = two_stays op word field
     skeleton_stays instr.Move field = move_stays field
+    skeleton_stays _ field = stays_same is_unresolved _
 
     one_stays : (texts : List (List ℕ)) → Stays is_unresolved (number_of_one look here texts) (number_of_one more here texts)
     one_stays texts = behind (as_operand (one_operand texts)) _ _ number_stays
@@ -190,17 +180,11 @@ module _ (look more : List ℕ → Option Value) (grows : (name : List ℕ) (val
 
     pub outcome_stays : (statement : Statement) → Stays is_unresolved (outcome look at statement) (outcome more at statement)
     unfolding outcome
-    outcome_stays Nothing = stays_same is_unresolved _
     outcome_stays (Instruction found) = on (instruction look at found) (instruction more at found) _ (instr_stays found)
-    outcome_stays (Grom number) = stays_same is_unresolved _
-    outcome_stays (Aorg number) = stays_same is_unresolved _
-    outcome_stays (Equ number) = stays_same is_unresolved _
-    outcome_stays (Bss number) = stays_same is_unresolved _
     outcome_stays (Data texts) = on (numbers look (address_of at) texts) (numbers more (address_of at) texts) _ (numbers_stays (address_of at) texts)
     outcome_stays (statements.Byte texts) = on (numbers look (address_of at) texts) (numbers more (address_of at) texts) _ (numbers_stays (address_of at) texts)
-    outcome_stays (Text quoted) = stays_same is_unresolved _
-    outcome_stays (End None) = stays_same is_unresolved _
     outcome_stays (End (Some text)) = on (value look at text) (value more at text) _ (value_stays text)
+    outcome_stays _ = stays_same is_unresolved _
 
 pub said_stays : (known more : Names) → Grows known more → (here : Location) (text : List ℕ) → Stays is_unresolved (parsed known here text) (parsed more here text)
 said_stays known more grows here text =

@@ -1,7 +1,7 @@
 -- The forms of operands.
 use Rattle.std.specs.Prelude.{ℕ, ◌+◌, ◌==◌, Bool, true, false, ◌&&◌, ◌||◌, if◌then◌else◌, List, slice_index}
 use Rattle.std.specs.Prelude.{slice_range, take, drop, Option, Some, None}
-use Rattle.source_defs.specs.Characters.{upper_case}
+use Rattle.source_defs.specs.Characters.{is_asterisk, is_at_sign, upper_case}
 use Rattle.source_defs.specs.Parentheses.{last_place, opening, has_parentheses}
 use Rattle.gpl_defs.specs.declared.instruction.Space.{Space}
 use Rattle.gpl_defs.specs.declared.instruction.Space.TheVariants.{Cpu, Vdp}
@@ -23,12 +23,6 @@ pub data Form : Type 0 where
   Register : List ℕ → Form
   Alone : List ℕ → Form
 
-abbrev pub is_at : ℕ → Bool
-is_at byte = byte == 0x40
-
-abbrev pub is_star : ℕ → Bool
-is_star byte = byte == 0x2A
-
 -- the letters V, G and R, in upper case
 abbrev pub video_letter : ℕ
 video_letter = 0x56
@@ -43,7 +37,7 @@ register_letter = 0x52
 -- Profile: it is cut at the first parenthesis that opens outside quotes; one that stands elsewhere belongs to an
 -- expression, which is refused for it.
 abbrev pub has_index : List ℕ → Bool
-has_index text = has_parentheses text && is_at (slice_index text (opening text + 1))
+has_index text = has_parentheses text && is_at_sign (slice_index text (opening text + 1))
 
 abbrev pub address_text : List ℕ → List ℕ
 address_text text = if has_index text then take (opening text) text else text
@@ -58,10 +52,10 @@ in_memory space indirect text =
 -- the form of an operand that begins with a letter, by that letter in upper case, the sign after it and the rest
 abbrev pub signed_form : List ℕ → ℕ → ℕ → List ℕ → Form
 signed_form text letter sign rest =
-    if (letter == video_letter) && is_at sign then in_memory Vdp false rest
-    else if (letter == video_letter) && is_star sign then in_memory Vdp true rest
-    else if (letter == grom_letter) && is_at sign then InGrom (address_text rest) (index_text rest)
-    else if (letter == register_letter) && is_at sign then Register rest
+    if (letter == video_letter) && is_at_sign sign then in_memory Vdp false rest
+    else if (letter == video_letter) && is_asterisk sign then in_memory Vdp true rest
+    else if (letter == grom_letter) && is_at_sign sign then InGrom (address_text rest) (index_text rest)
+    else if (letter == register_letter) && is_at_sign sign then Register rest
     else Alone text
 
 abbrev pub lettered_form : List ℕ → Form
@@ -72,8 +66,8 @@ lettered_form text = signed_form text (upper_case (slice_index text 0)) (slice_i
 -- taken as upper case, and V* is no product.
 unfoldable pub form_of : List ℕ → Form
 form_of text =
-    if is_at (slice_index text 0) then in_memory Cpu false (drop 1 text)
-    else if is_star (slice_index text 0) then in_memory Cpu true (drop 1 text)
+    if is_at_sign (slice_index text 0) then in_memory Cpu false (drop 1 text)
+    else if is_asterisk (slice_index text 0) then in_memory Cpu true (drop 1 text)
     else lettered_form text
 
 abbrev pub is_in_memory : Form → Bool

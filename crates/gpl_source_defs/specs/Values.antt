@@ -3,6 +3,7 @@ use Rattle.std.specs.Prelude.{ℕ, ◌+◌, ◌-◌, ◌%◌, ◌&&◌, Bool, tr
 use Rattle.std.specs.Prelude.{Some, None, Result, Ok, Err}
 use Rattle.source_defs.specs.declared.causes.ExprError.{ExprError}
 use Rattle.source_defs.specs.Refusals.{◌>>=◌}
+use Rattle.source_defs.specs.ByteValues.{number_as_byte, numbers_as_bytes}
 use Rattle.source_defs.specs.Expression.{Value, Absolute, absolute, expression}
 use Rattle.gpl_defs.specs.declared.instruction.Space.{Space}
 use Rattle.gpl_defs.specs.declared.instruction.Space.TheVariants.{Cpu, Vdp}
@@ -29,18 +30,11 @@ abbrev pub index_of : ℕ → Result ℕ GplCause
 index_of number =
     if nat_le SCRATCHPAD number && nat_le number (SCRATCHPAD + 255) then Ok (number - SCRATCHPAD) else Err BadOperand
 
--- Profile: a byte value is from -128 to 255.
 abbrev pub byte_of : ℕ → Result ℕ GplCause
-byte_of number =
-    if nat_le number 0xFF then Ok number else if nat_le 0xFF80 number then Ok (number % 256) else Err BadOperand
+byte_of = number_as_byte BadOperand
 
--- the numbers as bytes
 abbrev pub bytes_of : List ℕ → Result (List ℕ) GplCause
-bytes_of [] = Ok []
-bytes_of (number ∷ numbers) = do
-  byte ← byte_of number
-  bytes ← bytes_of numbers
-  Ok (byte ∷ bytes)
+bytes_of = numbers_as_bytes BadOperand
 
 -- by what each name stands for, and the address that $ stands for
 module _ (look : List ℕ → Option Value) (here : ℕ) where

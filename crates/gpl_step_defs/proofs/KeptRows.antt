@@ -26,7 +26,7 @@ use Rattle.gpl_defs.specs.declared.instruction.GoOp.TheVariants.{B, CALL}
 use Rattle.gpl_defs.specs.declared.instruction.OneName.{OneName}
 use Rattle.gpl_defs.specs.declared.instruction.OneName.TheVariants.{ABS, NEG, INV, CLR, CASE, CZ, INC, DEC, INCT, DECT, FETCH, PUSH}
 use Rattle.gpl_defs.specs.declared.instruction.TwoName.{TwoName}
-use Rattle.gpl_defs.specs.declared.instruction.TwoName.TheVariants.{ADD, SUB, MUL, DIV, AND, OR, XOR, ST, EX, CH, CHE, CGT, CGE, CEQ, CLOG, SRA, SLL, SRL, SRC}
+use Rattle.gpl_defs.specs.declared.instruction.TwoName.TheVariants.{ADD, SUB, MUL, DIV, AND, OR, XOR, ST, EX, SRA, SLL, SRL, SRC}
 use Rattle.gpl_defs.specs.Valid.{has_words}
 use Rattle.gpl_step_defs.specs.declared.cells.TheConstants.{VALUE_STACK, RETURN_STACK, RANDOM, SEED}
 use Rattle.gpl_step_defs.specs.declared.reason.Reason.{Reason}
@@ -113,16 +113,11 @@ two_keeps OR width at x source c p q h = with_value_keeps width at _ c (or_fits 
 two_keeps XOR width at x source c p q h = with_value_keeps width at _ c (xor_fits width x source.number p q) h
 two_keeps ST width at x source c p q h = with_value_keeps width at _ c q h
 two_keeps EX width at x source c p q h = exchanged_keeps width at x source source.place c p q h
-two_keeps CH width at x source c p q h = with_condition_keeps _ c h
-two_keeps CHE width at x source c p q h = with_condition_keeps _ c h
-two_keeps CGT width at x source c p q h = with_condition_keeps _ c h
-two_keeps CGE width at x source c p q h = with_condition_keeps _ c h
-two_keeps CEQ width at x source c p q h = with_condition_keeps _ c h
-two_keeps CLOG width at x source c p q h = with_condition_keeps _ c h
 two_keeps SRA width at x source c p q h = with_value_keeps width at _ c (right_fits width (repeated_sign width x) x (count_of source.number)) h
 two_keeps SLL width at x source c p q h = with_value_keeps width at _ c (left_fits width x (count_of source.number)) h
 two_keeps SRL width at x source c p q h = with_value_keeps width at _ c (right_fits width 0 x (count_of source.number)) h
 two_keeps SRC width at x source c p q h = with_value_keeps width at _ c (right_fits width (repeated width x) x (count_of source.number)) h
+two_keeps comparison width at x source c p q h = with_condition_keeps _ c h
 
 -- ---- flow
 

@@ -1,22 +1,20 @@
 -- A step leaves a state a state.
-use Rattle.std.proofs.Common.{◌≡◌, ℕ, zero, suc, ◌/◌, ◌%◌, ◌<◌, Bool, true, false, cond, List, Option, Some, None, Result, Ok, Err, IfOk, arith}
+use Rattle.std.proofs.Common.{◌≡◌, ℕ, zero, suc, ◌/◌, ◌%◌, ◌<◌, Bool, true, false, List, Option, Some, None, Result, Ok, Err, IfOk, arith}
 use Rattle.std.specs.Prelude.{nat_lt, not, ◌||◌, ◌==◌, slice_index, slice_set}
 use Rattle.std.proofs.lemmas.Bool.Decides.{nat_tests}
-use Rattle.tms_defs.specs.Words.{join}
 use Rattle.tms_defs.specs.Bytes.{HoldsBytes}
 use Rattle.tms_defs.proofs.ByteLaws.{replicated_zeros}
 use Rattle.grom_defs.specs.Addresses.{next_in_grom}
 use Rattle.tms_defs.specs.Flags.{Width, modulus, size_of}
 use Rattle.tms_defs.proofs.WordLaws.{join-fits}
 use Rattle.grom_defs.proofs.AddressLaws.{next-fits}
-use Rattle.gpl_defs.specs.declared.instruction.GplOperand.{GplOperand}
 use Rattle.gpl_defs.specs.declared.instruction.GplSource.{GplSource}
 use Rattle.gpl_defs.specs.declared.instruction.GplSource.TheVariants as source
 use Rattle.gpl_defs.specs.declared.instruction.MoveLength.{MoveLength}
 use Rattle.gpl_defs.specs.declared.instruction.MoveTarget.{MoveTarget}
 use Rattle.gpl_defs.specs.declared.instruction.MoveSource.{MoveSource}
 use Rattle.gpl_defs.specs.declared.instruction.MoveKind.{MoveKind}
-use Rattle.gpl_defs.specs.declared.instruction.MoveKind.TheVariants.{GromToMemory, GromIndexedToMemory, MemoryToMemory, GromToRegisters}
+use Rattle.gpl_defs.specs.declared.instruction.MoveKind.TheVariants.{GromIndexedToMemory, MemoryToMemory, GromToRegisters}
 use Rattle.gpl_defs.specs.declared.instruction.GplInstr.{GplInstr}
 use Rattle.gpl_defs.specs.declared.instruction.GplInstr.TheVariants.{Plain, Byte as OfByte, Jump, Branch, One, Two, Move}
 use Rattle.gpl_defs.specs.declared.instruction.GplOperation.{GplOperation}
@@ -25,9 +23,10 @@ use Rattle.gpl_defs.specs.declared.instruction.GplRead.{GplRead}
 use Rattle.gpl_defs.specs.declared.instruction.GplRead.TheVariants.{Instr, Refused}
 use Rattle.gpl_defs.specs.Valid.{has_words}
 use Rattle.gpl_defs.specs.Codes.{operation_at}
-use Rattle.gpl_defs.specs.Reading.{word_at, address_at, index_by, index_at, with_address, operand_at, source_at, length_at, target_at}
+use Rattle.gpl_defs.specs.Reading.{word_at, address_at, index_by, operand_at, source_at, length_at, target_at}
 use Rattle.gpl_defs.specs.Reading.{from_at, instr_at, read_by, reading}
 use Rattle.gpl_defs.proofs.CodeLaws.{row_fits, rows_fit}
+use Rattle.gpl_defs.proofs.OperandLaws.{index_at, address_by, operand_by}
 use Rattle.gpl_step_defs.specs.State.{GplState, IsState, zeros, start}
 use Rattle.gpl_step_defs.specs.declared.cells.TheConstants.{VISIBLE_CELLS, VALUE_STACK, RETURN_STACK}
 use Rattle.gpl_step_defs.specs.Laws.{StepsKeepStates}
@@ -69,7 +68,7 @@ module _ (image : List ℕ) (fits : (k : ℕ) → slice_index image k < 256) whe
   address_next : (first at : ℕ) → at < 65536 → (address_at first image at).1 < 65536
   address_next first at lt = by (first % 16 == 15)
     where
-      by : (b : Bool) → (cond {A = ℕ × ℕ} b (word_at image at) (join (first % 16) (slice_index image at), next_in_grom at)).1 < 65536
+      by : (b : Bool) → (address_by b first image at).1 < 65536
       by true = word_next at lt
       by false = next-fits at lt
 
@@ -84,7 +83,7 @@ module _ (image : List ℕ) (fits : (k : ℕ) → slice_index image k < 256) whe
   unfolding operand_at
   operand_next at lt = by (nat_lt (slice_index image at) 0x80)
     where
-      by : (b : Bool) → (cond {A = GplOperand × ℕ} b (Rattle.gpl_defs.specs.Reading.plain_operand (slice_index image at), next_in_grom at) (with_address (slice_index image at) image (address_at (slice_index image at) image (next_in_grom at)))).1 < 65536
+      by : (b : Bool) → (operand_by b (slice_index image at) image (next_in_grom at)).1 < 65536
       by true = next-fits at lt
       by false = index_next (slice_index image at) (address_at (slice_index image at) image (next_in_grom at)).1 (address_next (slice_index image at) (next_in_grom at) (next-fits at lt))
 
@@ -104,15 +103,12 @@ module _ (image : List ℕ) (fits : (k : ℕ) → slice_index image k < 256) whe
 
   target_next : (kind : MoveKind) (at : ℕ) → at < 65536 → (target_at kind image at).1 < 65536
   target_next GromToRegisters at lt = next-fits at lt
-  target_next GromToMemory at lt = operand_next at lt
-  target_next GromIndexedToMemory at lt = operand_next at lt
-  target_next MemoryToMemory at lt = operand_next at lt
+  target_next memory at lt = operand_next at lt
 
   from_next : (kind : MoveKind) (at : ℕ) → at < 65536 → (from_at kind image at).1 < 65536
   from_next MemoryToMemory at lt = operand_next at lt
   from_next GromIndexedToMemory at lt = next-fits (word_at image at).1 (word_next at lt)
-  from_next GromToMemory at lt = word_next at lt
-  from_next GromToRegisters at lt = word_next at lt
+  from_next grom at lt = word_next at lt
 
   instr_fits : (found : GplOperation) (code at : ℕ) → row_fits (Some found) code ≡ true → InstrFits (instr_at found code image at).0
   instr_fits (operation.Plain op) code at fit = tt

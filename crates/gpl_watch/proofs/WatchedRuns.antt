@@ -14,7 +14,7 @@ use Rattle.interp_defs.specs.Turned.{Turned, TurnedBy, whole_turn}
 use Rattle.interp_defs.specs.Programs.{RunsSteps}
 use Rattle.sim_steps.specs.Running.{RunsTurns}
 use Rattle.sim_steps.proofs.TurnRuns.{Stepping, none_yet, stepped, stopped, whole, last_is, done_at_least}
-use Rattle.gpl_run.specs.Sessions.{SessionState, IsSession, seen, address_in, ended_by}
+use Rattle.gpl_run.specs.Sessions.{SessionState, IsSession, gpl_state_of, address_in, ended_by}
 use Rattle.watch_defs.specs.declared.item.Item.{Item}
 use Rattle.watch_defs.specs.declared.found.Found.{Found}
 use Rattle.watch_defs.specs.declared.found.Found.TheVariants as result
@@ -25,7 +25,7 @@ use Rattle.gpl_watch.specs.Watches.{WatchedItem, watching, items_of, Keeps, at_a
 use Rattle.gpl_watch.specs.Watches.{bounds, RunsWithin, Watches}
 use Rattle.gpl_watch.proofs.Kept.{keeps, first_is, change_kept, still_kept, same_watching}
 
-seen_running : (t : SessionState) → t.ended ≡ None → seen t ≡ shown_by t.machine.cpu.memory
+seen_running : (t : SessionState) → t.ended ≡ None → gpl_state_of t ≡ shown_by t.machine.cpu.memory
 seen_running t e =
     ap (λ (o : Option Reason). record (shown_by t.machine.cpu.memory) { pc = address_in o t.machine }) e
 
@@ -45,31 +45,31 @@ turns_bounded r (suc i) within =
     omega arith
 
 within_bounds : (limit : ℕ) (x y : SessionState) (before after done : ℕ)
-    → RunsTurns (seen x) limit x.machine y.machine before after done y.ended
+    → RunsTurns (gpl_state_of x) limit x.machine y.machine before after done y.ended
     → RunsWithin limit x y before after done
 within_bounds limit x y before after done r =
-    let few = turns_bounded r.runs (turns limit (seen x)) (omega arith) in
+    let few = turns_bounded r.runs (turns limit (gpl_state_of x)) (omega arith) in
     let all = r.runs.all in
     let sum = r.counted in
     record { runs = r; within = omega arith }
 
 -- with as many steps as the run makes
 within_run : (limit : ℕ) (x y : SessionState) (before after done : ℕ)
-    → RunsTurns (seen x) limit x.machine y.machine before after done y.ended
+    → RunsTurns (gpl_state_of x) limit x.machine y.machine before after done y.ended
     → Watches limit x y before after result.None
 within_run limit x y before after done r =
-    within_bounds limit x y before after (run limit (seen x)).done
-    (subst (λ (n : ℕ). RunsTurns (seen x) limit x.machine y.machine before after n y.ended) r.done_is r)
+    within_bounds limit x y before after (run limit (gpl_state_of x)).done
+    (subst (λ (n : ℕ). RunsTurns (gpl_state_of x) limit x.machine y.machine before after n y.ended) r.done_is r)
 
 -- So many steps were made, and no item held at any of them.
 pub record Watching (items : List Item) (x y : SessionState) (t u made : ℕ) (watched : List WatchedItem) : Type 0 where
-  pub stepping : Stepping made (seen x) x.machine y.machine t u
+  pub stepping : Stepping made (gpl_state_of x) x.machine y.machine t u
   pub running : y.ended ≡ None
-  pub kept : watched ≡ watching items (seen y)
-  pub none : hits items (seen x) made ≡ []
+  pub kept : watched ≡ watching items (gpl_state_of y)
+  pub none : hits items (gpl_state_of x) made ≡ []
 
 pub begun : (x : SessionState) (t : ℕ) (watched : List WatchedItem) → x.ended ≡ None
-    → IsSession x.machine x.ended → Keeps watched (seen x) → Watching (items_of watched) x x t t 0 watched
+    → IsSession x.machine x.ended → Keeps watched (gpl_state_of x) → Watching (items_of watched) x x t t 0 watched
 begun x t watched e h is = record {
   stepping =
       subst (λ (s : GplState). Stepping 0 s x.machine x.machine t t) (sym (seen_running x e))
@@ -89,14 +89,14 @@ halted_by items z w u v reason (Err other) t =
 
 -- the first that holds, where the address that a session stands at was told
 pub first_told : (z : SessionState) (watched : List WatchedItem) {pc : ℕ} {o : Option ℕ}
-    → pc ≡ address_in z.ended z.machine → o ≡ first_kept (at_address pc (seen z)) watched
-    → first_kept (seen z) watched ≡ o
-first_told z watched e is = sym (is ∙ ap (λ (n : ℕ). first_kept (at_address n (seen z)) watched) e)
+    → pc ≡ address_in z.ended z.machine → o ≡ first_kept (at_address pc (gpl_state_of z)) watched
+    → first_kept (gpl_state_of z) watched ≡ o
+first_told z watched e is = sym (is ∙ ap (λ (n : ℕ). first_kept (at_address n (gpl_state_of z)) watched) e)
 
 module _ {items : List Item} {x y : SessionState} {t u made : ℕ} {watched : List WatchedItem} (z : SessionState)
     (v : ℕ) (p : Watching items x y t u made watched) where
   -- the state before the step
-  before_is : seen y ≡ behind (seen x) made
+  before_is : gpl_state_of y ≡ behind (gpl_state_of x) made
   before_is =
       seen_running y p.running ∙ p.stepping.matches.shows
       ∙ sym (last_is made p.stepping z.machine v)
@@ -111,56 +111,56 @@ module _ {items : List Item} {x y : SessionState} {t u made : ℕ} {watched : Li
     abbrev stops : Made (Stopped reason)
     stops = subst Made is turned
 
-    stops_run : (limit : ℕ) → made < limit → RunsTurns (seen x) limit x.machine z.machine t v made z.ended
+    stops_run : (limit : ℕ) → made < limit → RunsTurns (gpl_state_of x) limit x.machine z.machine t v made z.ended
     stops_run limit less =
-        subst (RunsTurns (seen x) limit x.machine z.machine t v made) (sym (ended ∙ ap ended_by is))
+        subst (RunsTurns (gpl_state_of x) limit x.machine z.machine t v made) (sym (ended ∙ ap ended_by is))
         (stopped made p.stepping z.machine v limit reason less stops)
 
     pub stops_runs : (limit : ℕ) → made < limit → Watches limit x z t v result.None
     stops_runs limit less = within_run limit x z t v made (stops_run limit less)
 
-    pub stops_found : (limit : ℕ) → made < limit → found items limit (seen x) ≡ result.None
-    stops_found limit less = none_found items (seen x) made limit p.none (stops_run limit less).done_is
+    pub stops_found : (limit : ℕ) → made < limit → found items limit (gpl_state_of x) ≡ result.None
+    stops_found limit less = none_found items (gpl_state_of x) made limit p.none (stops_run limit less).done_is
 
-    pub stops_kept : Keeps watched (seen z)
+    pub stops_kept : Keeps watched (gpl_state_of z)
     stops_kept =
-        keeps items (seen z) watched
-        (p.kept ∙ same_watching items (seen y) (shown_by y.machine.cpu.memory) refl refl
+        keeps items (gpl_state_of z) watched
+        (p.kept ∙ same_watching items (gpl_state_of y) (shown_by y.machine.cpu.memory) refl refl
         ∙ halted_by items y.machine z.machine u v reason (step (shown_by y.machine.cpu.memory)) stops
-        ∙ same_watching items (shown_by z.machine.cpu.memory) (seen z) refl refl)
+        ∙ same_watching items (shown_by z.machine.cpu.memory) (gpl_state_of z) refl refl)
 
   -- a step that is made
   module _ {turn : Turn} (is : turn ≡ Stepped) (turned : Made turn) (ended : z.ended ≡ ended_by turn) where
-    more : Stepping (made + 1) (seen x) x.machine z.machine t v
+    more : Stepping (made + 1) (gpl_state_of x) x.machine z.machine t v
     more = stepped made p.stepping z.machine v (subst Made is turned)
 
     runs_on : z.ended ≡ None
     runs_on = ended ∙ ap ended_by is
 
-    after_is : seen z ≡ behind (seen x) (made + 1)
+    after_is : gpl_state_of z ≡ behind (gpl_state_of x) (made + 1)
     after_is =
         seen_running z runs_on ∙ more.matches.shows
         ∙ sym (last_is (made + 1) more z.machine v)
 
     -- the hit of the step, if it has one, by the place of the item
     hit_by : ℕ → Found
-    hit_by place = result.Hit (made + 1) (seen y).pc (place + 1) (change_at items place (seen y) (seen z))
+    hit_by place = result.Hit (made + 1) (gpl_state_of y).pc (place + 1) (change_at items place (gpl_state_of y) (gpl_state_of z))
 
-    hit_of : (o : Option ℕ) → first_kept (seen z) watched ≡ o → hit_at items (seen x) (made + 1) ≡ option_map hit_by o
+    hit_of : (o : Option ℕ) → first_kept (gpl_state_of z) watched ≡ o → hit_at items (gpl_state_of x) (made + 1) ≡ option_map hit_by o
     unfolding hit_by
     hit_of o first =
-        hit_is items (seen x) made (seen y) (seen z) before_is after_is
-        ∙ ap (option_map hit_by) (sym (first_is items (seen y) watched (seen z) p.kept) ∙ first)
+        hit_is items (gpl_state_of x) made (gpl_state_of y) (gpl_state_of z) before_is after_is
+        ∙ ap (option_map hit_by) (sym (first_is items (gpl_state_of y) watched (gpl_state_of z) p.kept) ∙ first)
 
     -- no item holds
-    pub goes_on : first_kept (seen z) watched ≡ None → Watching items x z t v (made + 1) watched
+    pub goes_on : first_kept (gpl_state_of z) watched ≡ None → Watching items x z t v (made + 1) watched
     goes_on none = record {
       stepping = more;
       running = runs_on;
       kept =
-          still_kept items (seen y) (seen z) watched p.kept
-          (sym (first_is items (seen y) watched (seen z) p.kept) ∙ none);
-      none = none_more items (seen x) made p.none (hit_of None none);
+          still_kept items (gpl_state_of y) (gpl_state_of z) watched p.kept
+          (sym (first_is items (gpl_state_of y) watched (gpl_state_of z) p.kept) ∙ none);
+      none = none_more items (gpl_state_of x) made p.none (hit_of None none);
     }
 
     -- an item holds
@@ -169,22 +169,22 @@ module _ {items : List Item} {x y : SessionState} {t u made : ℕ} {watched : Li
     hit_runs limit is =
         subst (Watches limit x z t v) (sym is) (
           within_bounds (made + 1) x z t v (made + 1)
-              (subst (RunsTurns (seen x) (made + 1) x.machine z.machine t v (made + 1)) (sym runs_on)
+              (subst (RunsTurns (gpl_state_of x) (made + 1) x.machine z.machine t v (made + 1)) (sym runs_on)
               (whole (made + 1) more)),
           runs_on,
         )
 
     pub hit_found : (place limit : ℕ) {w : WatchedItem} {hit : Found} {from : ℕ} {shown : Option (ℕ × ℕ)}
-        → first_kept (seen z) watched ≡ Some place → made < limit → slice_get watched place ≡ Some w
+        → first_kept (gpl_state_of z) watched ≡ Some place → made < limit → slice_get watched place ≡ Some w
         → hit ≡ result.Hit (made + 1) from (place + 1) shown → from ≡ address_in y.ended y.machine
-        → shown ≡ change_since w.item w.kept (seen z) → hit ≡ found items limit (seen x)
+        → shown ≡ change_since w.item w.kept (gpl_state_of z) → hit ≡ found items limit (gpl_state_of x)
     unfolding hit_by
     hit_found place limit {w} {hit} {from} {shown} first less at is from_is shown_is =
         is ∙ ap (λ n. result.Hit (made + 1) n (place + 1) shown) from_is
-        ∙ ap (λ (c : Option (ℕ × ℕ)). result.Hit (made + 1) (seen y).pc (place + 1) c)
-        (shown_is ∙ change_kept items (seen y) watched (seen z) place w p.kept at)
-        ∙ sym (first_found items (seen x) made limit (hit_by place) p.none (hit_of (Some place) first)
-        (done_at_least (made + 1) limit (seen x) more.now more.steps_are (omega arith)))
+        ∙ ap (λ (c : Option (ℕ × ℕ)). result.Hit (made + 1) (gpl_state_of y).pc (place + 1) c)
+        (shown_is ∙ change_kept items (gpl_state_of y) watched (gpl_state_of z) place w p.kept at)
+        ∙ sym (first_found items (gpl_state_of x) made limit (hit_by place) p.none (hit_of (Some place) first)
+        (done_at_least (made + 1) limit (gpl_state_of x) more.now more.steps_are (omega arith)))
 
 -- all steps were made, and no item held
 module _ {items : List Item} {limit made : ℕ} {x y : SessionState} {t u : ℕ} {watched : List WatchedItem}
@@ -192,13 +192,13 @@ module _ {items : List Item} {limit made : ℕ} {x y : SessionState} {t u : ℕ}
   all_made : Watching items x y t u limit watched
   all_made = subst (λ (m : ℕ). Watching items x y t u m watched) all p
 
-  all_run : RunsTurns (seen x) limit x.machine y.machine t u limit y.ended
+  all_run : RunsTurns (gpl_state_of x) limit x.machine y.machine t u limit y.ended
   all_run =
-      subst (RunsTurns (seen x) limit x.machine y.machine t u limit) (sym all_made.running)
+      subst (RunsTurns (gpl_state_of x) limit x.machine y.machine t u limit) (sym all_made.running)
       (whole limit all_made.stepping)
 
   pub all_runs : Watches limit x y t u result.None
   all_runs = within_run limit x y t u limit all_run
 
-  pub none_is_found : found items limit (seen x) ≡ result.None
-  none_is_found = none_found items (seen x) limit limit all_made.none all_run.done_is
+  pub none_is_found : found items limit (gpl_state_of x) ≡ result.None
+  none_is_found = none_found items (gpl_state_of x) limit limit all_made.none all_run.done_is

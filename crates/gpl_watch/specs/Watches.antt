@@ -3,7 +3,7 @@ use Rattle.std.specs.Prelude.{◌≡◌, ◌≤◌, ℕ, zero, suc, ◌+◌, Lis
 use Rattle.gpl_step_defs.specs.State.{GplState}
 use Rattle.gpl_step_defs.specs.Run.{run, turns, bound}
 use Rattle.sim_steps.specs.Running.{RunsTurns}
-use Rattle.gpl_run.specs.Sessions.{SessionState, seen}
+use Rattle.gpl_run.specs.Sessions.{SessionState, gpl_state_of}
 use Rattle.watch_defs.specs.declared.item.Item.{Item}
 use Rattle.watch_defs.specs.declared.item.Item.TheVariants.{Range, Pc}
 use Rattle.watch_defs.specs.declared.found.Found.{Found}
@@ -54,11 +54,11 @@ bounds (suc count) s = bounds count s + bound (run count s).last
 -- A run of up to `limit` steps was made from x to y, with its answers: the turns are those of the run, a counter shows
 -- their instructions, and these are at most as many as the bounds of the turns allow.
 pub record RunsWithin (limit : ℕ) (x y : SessionState) (before after done : ℕ) : Type 0 where
-  pub runs : RunsTurns (seen x) limit x.machine y.machine before after done y.ended
-  pub within : after ≤ before + bounds (turns limit (seen x)) (seen x)
+  pub runs : RunsTurns (gpl_state_of x) limit x.machine y.machine before after done y.ended
+  pub within : after ≤ before + bounds (turns limit (gpl_state_of x)) (gpl_state_of x)
 
 -- A program was run up to the first hit, whose step was made last, and it is running; or up to its end or to the limit.
 abbrev pub Watches : ℕ → SessionState → SessionState → ℕ → ℕ → Found → Type 0
 Watches limit x y before after (found.Hit step from item change) =
     RunsWithin step x y before after step × (y.ended ≡ None)
-Watches limit x y before after found.None = RunsWithin limit x y before after (run limit (seen x)).done
+Watches limit x y before after found.None = RunsWithin limit x y before after (run limit (gpl_state_of x)).done

@@ -1,7 +1,7 @@
 //! The bytes that a program shows.
 
 ghost use Rattle.std.specs.Prelude.{◌≡◌, ◌↔◌, length, IsTrue};
-ghost use Rattle.gpl_run.specs.Sessions.{seen};
+ghost use Rattle.gpl_run.specs.Sessions.{gpl_state_of};
 ghost use Rattle.watch_defs.specs.Items.{IsItem, IsRange, base_of, bytes_in, bytes_of, size_of};
 ghost use Rattle.watch_defs.specs.declared.item.Item.TheVariants.{Range};
 ghost use Rattle.gpl_watch.specs.Watches.{count_of};
@@ -13,7 +13,7 @@ use watch_defs::Item;
 
 /// The bytes of a memory that a program sees.
 fn shown_bytes(session: &Session, space: Space) -> &[u8]
-    ensures bytes { result.now ≡ bytes_in space (seen session.now) }
+    ensures bytes { result.now ≡ bytes_in space (gpl_state_of session.now) }
     ensures size { length result.now ≡ size_of space }
 {
     let bus = session.machine().bus();
@@ -46,7 +46,7 @@ fn size_of(space: Space) -> u16
 /// The bytes of a range that a program shows.
 pub(crate) fn range_bytes(session: &Session, space: Space, at: u16, len: u16) -> &[u8]
     requires { IsRange space at len }
-    ensures bytes { result.now ≡ bytes_of (Range space at len) (seen session.now) }
+    ensures bytes { result.now ≡ bytes_of (Range space at len) (gpl_state_of session.now) }
     ensures size { length result.now ≡ len }
 {
     let start = (at - base_of(space)) as usize;
@@ -56,7 +56,7 @@ pub(crate) fn range_bytes(session: &Session, space: Space, at: u16, len: u16) ->
 /// The bytes of an item's range that a program shows. An address has none.
 pub(crate) fn item_bytes(session: &Session, item: Item) -> &[u8]
     requires { IsItem item }
-    ensures bytes { result.now ≡ bytes_of item (seen session.now) }
+    ensures bytes { result.now ≡ bytes_of item (gpl_state_of session.now) }
     ensures size { length result.now ≡ count_of item }
 {
     match item {

@@ -2,7 +2,7 @@
 
 ghost use Rattle.std.specs.Prelude.{◌≡◌, ◌≤◌, ◌<◌, ◌+◌, length, map, IfSome};
 ghost use Rattle.watch_defs.specs.declared.found.Found.TheVariants as result_of;
-ghost use Rattle.gpl_run.specs.Sessions.{seen};
+ghost use Rattle.gpl_run.specs.Sessions.{gpl_state_of};
 ghost use Rattle.watch_defs.specs.Hits as hits;
 ghost use Rattle.gpl_watch.specs.Watches.{Keeps, Watches, at_address, first_kept, items_of, watched_in};
 
@@ -22,11 +22,11 @@ pub(crate) fn run_watched<L: Ledger>(
 ) -> Found
     requires few { length watched.old ≤ 8 }
     requires running { session.old.ended ≡ None }
-    requires kept { Keeps watched.old (seen session.old) }
-    ensures found { result ≡ hits.found (items_of watched.old) limit (seen session.old) }
+    requires kept { Keeps watched.old (gpl_state_of session.old) }
+    ensures found { result ≡ hits.found (items_of watched.old) limit (gpl_state_of session.old) }
     ensures runs { Watches limit session.old session.new steps.old steps.new result }
     ensures items { items_of watched.new ≡ items_of watched.old }
-    ensures kept { Keeps watched.new (seen session.new) }
+    ensures kept { Keeps watched.new (gpl_state_of session.new) }
 {
     session.holds_match();
     for made in 0..limit {
@@ -47,7 +47,7 @@ pub(crate) fn run_watched<L: Ledger>(
 /// The place in the list of the first item that holds at the step that the program has just made, and that led to
 /// `behind`.
 fn first_that_holds(watched: &[Watched], session: &Session, behind: u16) -> Option<usize>
-    ensures first { result ≡ first_kept (at_address behind (seen session.now)) watched.now }
+    ensures first { result ≡ first_kept (at_address behind (gpl_state_of session.now)) watched.now }
     ensures within { IfSome result (λ place. place < length watched.now) }
 {
     watched.iter().position(|one| one.holds(session, behind))
@@ -68,7 +68,7 @@ fn hit(step: u32, from: u16, place: usize, change: Option<(u16, u8)>) -> Found
 
 /// Keeps what the program shows now of all items.
 fn keep_all(watched: &mut [Watched], session: &Session)
-    ensures { watched.new ≡ map (λ w. watched_in (seen session.now) w.item) watched.old }
+    ensures { watched.new ≡ map (λ w. watched_in (gpl_state_of session.now) w.item) watched.old }
 {
     for one in watched.iter_mut() {
         one.keep(session);

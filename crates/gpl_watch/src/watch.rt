@@ -1,7 +1,7 @@
 //! What is watched of a program.
 
 ghost use Rattle.std.specs.Prelude.{◌≡◌, IfOk};
-ghost use Rattle.gpl_run.specs.Sessions.{seen};
+ghost use Rattle.gpl_run.specs.Sessions.{gpl_state_of};
 ghost use Rattle.watch_defs.specs.Items.{AreItems};
 ghost use Rattle.watch_defs.specs.Hits as hits;
 ghost use Rattle.gpl_watch.specs.Watches.{Keeps, Watches, items_of};
@@ -42,7 +42,7 @@ impl Watch {
     pub fn new(alloc: Global, items: &Vec<Item>, session: &Session) -> Result<Watch, AllocError>
         requires { AreItems items.now.items }
         ensures items { IfOk result (λ watch. items_of watch ≡ items.now.items) }
-        ensures kept { IfOk result (λ watch. Keeps watch (seen session.now)) }
+        ensures kept { IfOk result (λ watch. Keeps watch (gpl_state_of session.now)) }
     {
         let mut watched = Vec::with_capacity(alloc, items.len())?;
         for item in items {
@@ -63,11 +63,11 @@ impl Watch {
         steps: &mut Steps<L>,
     ) -> Found
         requires running { session.old.ended ≡ None }
-        requires kept { Keeps self.old (seen session.old) }
-        ensures found { result ≡ hits.found (items_of self.old) limit (seen session.old) }
+        requires kept { Keeps self.old (gpl_state_of session.old) }
+        ensures found { result ≡ hits.found (items_of self.old) limit (gpl_state_of session.old) }
         ensures runs { Watches limit session.old session.new steps.old steps.new result }
         ensures items { items_of self.new ≡ items_of self.old }
-        ensures kept { Keeps self.new (seen session.new) }
+        ensures kept { Keeps self.new (gpl_state_of session.new) }
     {
         run_watched(&mut self.watched, session, limit, steps)
     }

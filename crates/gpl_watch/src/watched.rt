@@ -1,7 +1,7 @@
 //! An item that is watched.
 
 ghost use Rattle.std.specs.Prelude.{◌≡◌, IfOk};
-ghost use Rattle.gpl_run.specs.Sessions.{seen};
+ghost use Rattle.gpl_run.specs.Sessions.{gpl_state_of};
 ghost use Rattle.watch_defs.specs.Items.{IsItem, holds_since, change_since};
 ghost use Rattle.gpl_watch.specs.Watches.{at_address, watched_in};
 
@@ -33,7 +33,7 @@ impl Watched {
     /// Keeps the bytes of an item's range that a program shows.
     pub(crate) fn new(alloc: Global, item: Item, session: &Session) -> Result<Watched, AllocError>
         requires { IsItem item }
-        ensures { IfOk result (λ watched. watched ≡ watched_in (seen session.now) item) }
+        ensures { IfOk result (λ watched. watched ≡ watched_in (gpl_state_of session.now) item) }
     {
         let kept = Vec::from_slice(alloc, item_bytes(session, item))?;
         Ok(Watched { item, kept })
@@ -41,7 +41,7 @@ impl Watched {
 
     /// Whether the item holds at the step that the program has just made, and that led to `behind`.
     pub(crate) fn holds(&self, session: &Session, behind: u16) -> bool
-        ensures { result ≡ holds_since self.now.item self.now.kept (at_address behind (seen session.now)) }
+        ensures { result ≡ holds_since self.now.item self.now.kept (at_address behind (gpl_state_of session.now)) }
     {
         match self.item {
             Item::Range { space, at, len } => first_difference(
@@ -54,7 +54,7 @@ impl Watched {
 
     /// The lowest address of the range at which the program shows another byte than was kept, and that byte.
     pub(crate) fn change(&self, session: &Session) -> Option<(u16, u8)>
-        ensures { result ≡ change_since self.now.item self.now.kept (seen session.now) }
+        ensures { result ≡ change_since self.now.item self.now.kept (gpl_state_of session.now) }
     {
         let Item::Range { space, at, len } = self.item else {
             return None;
@@ -66,7 +66,7 @@ impl Watched {
 
     /// Keeps what the program shows now of the range.
     pub(crate) fn keep(&mut self, session: &Session)
-        ensures { self.new ≡ watched_in (seen session.now) self.old.item }
+        ensures { self.new ≡ watched_in (gpl_state_of session.now) self.old.item }
     {
         let now = item_bytes(session, self.item);
         if first_difference(&self.kept, now).is_some() {

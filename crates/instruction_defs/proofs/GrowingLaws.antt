@@ -1,5 +1,5 @@
 -- An instruction whose names are known has the words that it has when more are known.
-use Rattle.std.proofs.Common.{◌≡◌, ℕ, List, [], ◌∷◌, Some, Ok, Err, ap}
+use Rattle.std.proofs.Common.{◌≡◌, ℕ, List, ◌∷◌, Some, Ok, Err, ap}
 use Rattle.std.specs.Prelude.{Option, Result}
 use Rattle.source_defs.specs.declared.causes.ExprError.{ExprError}
 use Rattle.source_defs.specs.Expression.{Value, absolute, expression}
@@ -48,13 +48,12 @@ module _ (look more : List ℕ → Option Value) (grows : (name : List ℕ) (val
       stays_then is_unresolved (value_of look here (text_in form)) (value_of more here (text_in form)) _ _ (value_stays (text_in form)) (λ value. stays_same is_unresolved _)
 
   all_valued_stay : (kinds : List OperandKind) (forms : List Form) → Stays is_unresolved (all_valued look here kinds forms) (all_valued more here kinds forms)
-  all_valued_stay [] forms = stays_same is_unresolved _
-  all_valued_stay (kind ∷ kinds) [] = stays_same is_unresolved _
   all_valued_stay (kind ∷ kinds) (form ∷ forms) =
       stays_then is_unresolved (valued look here kind form) (valued more here kind form) _ _ (valued_stays kind form)
       (λ operand.
       stays_then is_unresolved (all_valued look here kinds forms) (all_valued more here kinds forms) _ _ (all_valued_stay kinds forms)
       (λ operands. stays_same is_unresolved _))
+  all_valued_stay _ _ = stays_same is_unresolved _
 
   pub words_stay : (skeleton : Skeleton) → Stays is_unresolved (second_checks look here skeleton) (second_checks more here skeleton)
   unfolding second_checks

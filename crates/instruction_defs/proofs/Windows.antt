@@ -5,7 +5,7 @@ use Rattle.std.proofs.lemmas.Bool.Decides.{nat_tests}
 use Rattle.tms_defs.specs.Instructions.{instr_at, operation_of}
 use Rattle.tms_defs.specs.declared.instruction.Place.{Place}
 use Rattle.tms_defs.specs.declared.instruction.Instr.{Instr}
-use Rattle.tms_defs.specs.declared.instruction.Instr.TheVariants.{Two, Reg, Shift, One, Jump, Imm, Bare}
+use Rattle.tms_defs.specs.declared.instruction.Instr.TheVariants.{Two, Reg, One, Imm, Bare}
 use Rattle.instruction_defs.specs.Operations.{name_of}
 use Rattle.instruction_defs.specs.Operands.{following_words, has_immediate, has_value, words_of}
 use Rattle.instruction_defs.specs.Printed.{printed, printed_where, operands_text, operand_text, two_texts, with_operands}
@@ -26,20 +26,14 @@ one_if_few false = omega arith
 pub words_few : (instr : Instr) → words_of instr ≤ 3
 words_few (Two op byte dst src) = omega (arith, following_few src, following_few dst)
 words_few (Reg op number src) = omega (arith, following_few src)
-words_few (Shift op count number) = omega arith
 words_few (One op place) = omega (arith, following_few place)
-words_few (Jump op disp) = omega arith
 words_few (Imm op number) = omega (arith, one_if_few (has_immediate op))
 words_few (Bare op) = omega (arith, one_if_few (has_value op))
+words_few _ = omega arith
 
 pub words_some : (instr : Instr) → 1 ≤ words_of instr
 words_some (Two op byte dst src) = omega arith
-words_some (Reg op number src) = omega arith
-words_some (Shift op count number) = omega arith
-words_some (One op place) = omega arith
-words_some (Jump op disp) = omega arith
-words_some (Imm op number) = omega arith
-words_some (Bare op) = omega arith
+words_some _ = omega arith
 
 module _ (a b c : ℕ) (rest : List ℕ) where
   -- the word of a second operand is the second or the third
@@ -51,12 +45,7 @@ module _ (a b c : ℕ) (rest : List ℕ) where
   same_operands : (instr : Instr) (at : ℕ) → operands_text instr at (a ∷ b ∷ c ∷ []) ≡ operands_text instr at (a ∷ b ∷ c ∷ rest)
   same_operands (Two op byte dst src) at =
       ap (λ word. Some (two_texts (operand_text src b) (operand_text dst word))) (second (following_words src) (following_few src))
-  same_operands (Reg op number src) at = refl
-  same_operands (Shift op count number) at = refl
-  same_operands (One op place) at = refl
-  same_operands (Jump op disp) at = refl
-  same_operands (Imm op number) at = refl
-  same_operands (Bare op) at = refl
+  same_operands instr at = refl
 
   same_where : (found : Option Instr) (at : ℕ) → printed_where found at (a ∷ b ∷ c ∷ []) ≡ printed_where found at (a ∷ b ∷ c ∷ rest)
   same_where None at = refl

@@ -2,6 +2,7 @@
 -- their forms.
 use Rattle.std.specs.Prelude.{ℕ, ◌+◌, ◌*◌, ◌==◌, Bool, ◌||◌, if◌then◌else◌, List, [], ◌∷◌, length, slice_index, Option}
 use Rattle.std.specs.Prelude.{Some, None, Result, Ok, Err}
+use Rattle.source_defs.specs.Characters.{is_asterisk, is_at_sign}
 use Rattle.source_defs.specs.Refusals.{◌>>=◌}
 use Rattle.source_defs.specs.Operands.{operand_texts}
 use Rattle.tms_defs.specs.declared.instruction.Operation.{Operation}
@@ -10,11 +11,10 @@ use Rattle.instruction_defs.specs.declared.causes.FormError.TheVariants.{Unknown
 use Rattle.instruction_defs.specs.declared.mnemonic.Mnemonic.{Mnemonic}
 use Rattle.instruction_defs.specs.declared.mnemonic.Mnemonic.TheVariants.{Of, Fixed}
 use Rattle.instruction_defs.specs.declared.operand_kind.OperandKind.{OperandKind}
-use Rattle.instruction_defs.specs.declared.operand_kind.OperandKind.TheVariants.{General, Register, Count, Immediate}
-use Rattle.instruction_defs.specs.declared.operand_kind.OperandKind.TheVariants.{Target, Displacement}
+use Rattle.instruction_defs.specs.declared.operand_kind.OperandKind.TheVariants.{General, Immediate}
 use Rattle.instruction_defs.specs.Operations.{mnemonic}
 use Rattle.instruction_defs.specs.Operands.{kinds_of}
-use Rattle.instruction_defs.specs.Forms.{Form, Plain, Indirect, Increment, Symbolic, Indexed, form_of, is_star, is_at}
+use Rattle.instruction_defs.specs.Forms.{Form, Plain, Indirect, Increment, Symbolic, Indexed, form_of}
 
 -- What the first checks leave of a line: a word that has a name of its own, or an operation with the forms of its
 -- operands.
@@ -24,18 +24,14 @@ pub data Skeleton : Type 0 where
 
 -- An expression alone begins with neither * nor @. Profile: an operand that does is refused for its form.
 abbrev pub is_mode_sign : ℕ → Bool
-is_mode_sign byte = is_star byte || is_at byte
+is_mode_sign byte = is_asterisk byte || is_at_sign byte
 
 abbrev pub form_without_mode : List ℕ → Result Form FormError
 form_without_mode text = if is_mode_sign (slice_index text 0) then Err BadOperand else Ok (Plain text)
 
 abbrev pub form_by : OperandKind → List ℕ → Result Form FormError
 form_by General text = Ok (form_of text)
-form_by Register text = form_without_mode text
-form_by Count text = form_without_mode text
-form_by Immediate text = form_without_mode text
-form_by Target text = form_without_mode text
-form_by Displacement text = form_without_mode text
+form_by _ text = form_without_mode text
 
 -- Profile: an empty operand is refused for its form.
 abbrev pub form_in : OperandKind → List ℕ → Result Form FormError
@@ -80,23 +76,20 @@ form_words (Increment text) = 0
 form_words (Symbolic text) = 1
 form_words (Indexed text index) = 1
 
-abbrev pub following : OperandKind → Form → ℕ
-following General form = form_words form
-following Register form = 0
-following Count form = 0
-following Immediate form = 1
-following Target form = 0
-following Displacement form = 0
+abbrev pub words_after : OperandKind → Form → ℕ
+words_after General form = form_words form
+words_after Immediate form = 1
+words_after _ form = 0
 
-abbrev pub all_following : List OperandKind → List Form → ℕ
-all_following [] forms = 0
-all_following (kind ∷ kinds) [] = 0
-all_following (kind ∷ kinds) (form ∷ forms) = following kind form + all_following kinds forms
+abbrev pub all_words_after : List OperandKind → List Form → ℕ
+all_words_after [] forms = 0
+all_words_after (kind ∷ kinds) [] = 0
+all_words_after (kind ∷ kinds) (form ∷ forms) = words_after kind form + all_words_after kinds forms
 
 -- how many bytes the words of a line take
 abbrev pub size_of : Skeleton → ℕ
 size_of (Word word) = 2
-size_of (Instruction operation forms) = 2 * (1 + all_following (kinds_of operation) forms)
+size_of (Instruction operation forms) = 2 * (1 + all_words_after (kinds_of operation) forms)
 
 -- the size of an instruction line, or why the first checks refuse it
 abbrev pub line_size : List ℕ → List ℕ → Result ℕ FormError

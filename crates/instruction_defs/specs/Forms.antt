@@ -1,5 +1,6 @@
 -- The forms of operands.
 use Rattle.std.specs.Prelude.{ℕ, ◌+◌, ◌==◌, Bool, if◌then◌else◌, List, slice_index, slice_range, take, drop}
+use Rattle.source_defs.specs.Characters.{is_asterisk, is_at_sign}
 use Rattle.source_defs.specs.Parentheses.{last_place, opening, has_parentheses}
 
 -- How an operand is written, by the texts of its expressions: an expression alone, *R, *R+, @e, and @e(R).
@@ -11,14 +12,8 @@ pub data Form : Type 0 where
   Symbolic : List ℕ → Form
   Indexed : List ℕ → List ℕ → Form
 
-abbrev pub is_star : ℕ → Bool
-is_star byte = byte == 0x2A
-
 abbrev pub is_plus : ℕ → Bool
 is_plus byte = byte == 0x2B
-
-abbrev pub is_at : ℕ → Bool
-is_at byte = byte == 0x40
 
 -- the text without its last byte
 abbrev pub without_last : List ℕ → List ℕ
@@ -41,6 +36,6 @@ symbolic_form text =
 -- the form of an operand that is not empty
 unfoldable pub form_of : List ℕ → Form
 form_of text =
-    if is_star (slice_index text 0) then starred_form (drop 1 text)
-    else if is_at (slice_index text 0) then symbolic_form (drop 1 text)
+    if is_asterisk (slice_index text 0) then starred_form (drop 1 text)
+    else if is_at_sign (slice_index text 0) then symbolic_form (drop 1 text)
     else Plain text

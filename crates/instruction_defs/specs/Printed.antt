@@ -9,7 +9,7 @@ use Rattle.source_defs.specs.Digits.{hex_word}
 pub use Rattle.source_defs.specs.ListedLines.{two_texts, with_operands}
 use Rattle.tms_defs.specs.Words.{plus}
 use Rattle.tms_defs.specs.Instructions.{instr_at, operation_of}
-use Rattle.tms_defs.specs.forms.Jump.{jump_target}
+use Rattle.tms_defs.specs.Jumps.{jump_target}
 use Rattle.tms_defs.specs.declared.instruction.Place.{Place}
 use Rattle.tms_defs.specs.declared.instruction.RegOp.{RegOp}
 use Rattle.tms_defs.specs.declared.instruction.RegOp.TheVariants.{XOP, LDCR, STCR}

@@ -1,6 +1,6 @@
 -- Pairs of a list whose first numbers rise, as the entries of a map.
 use Rattle.std.proofs.Common.{◌≡◌, ℕ, Bool, true, false, cond, T, ◌⊎◌, inl, inr, List, [], ◌∷◌, refl, sym, ap, ◌∙◌}
-use Rattle.std.proofs.Common.{Option, Some, None, Ordering, Less, Equal, Greater, is_eq, is_lt, nat_cmp, eqb-true}
+use Rattle.std.proofs.Common.{Option, Some, None, Ordering, Less, is_eq, is_lt, nat_cmp, eqb-true}
 use Rattle.std.specs.Prelude.{◌&&◌}
 use Rattle.std.specs.Ordering.{eq_by_cmp}
 use Rattle.std.specs.Cmp.{unsigned_tied, nat_cmp_total}
@@ -20,8 +20,7 @@ second false b p = absurd p
 -- a smaller number does not tie
 skips : (order : Ordering) (here other : Option ℕ) → T (is_lt order) → cond (is_eq order) here other ≡ other
 skips Less here other below = refl
-skips Equal here other below = absurd below
-skips Greater here other below = absurd below
+skips _ here other below = absurd below
 
 -- a number below all is not found
 none_below : (at : ℕ) (pairs : List (ℕ × ℕ)) → T (below_all nat_cmp at pairs) → find nat_cmp at pairs ≡ None

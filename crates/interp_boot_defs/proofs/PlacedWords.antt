@@ -98,8 +98,7 @@ placed_word shipped pair pairs before after put few size inside at placed = reco
 pub all_placed : (shipped : List ℕ) (pairs : List (ℕ × ℕ)) (memory : Memory) → length shipped ≤ 4096 → length memory.low_expansion ≡ 8192
     → Every (IsWord shipped) pairs → Placed shipped pairs memory (with_words pairs memory)
 all_placed shipped [] memory few size every = placed_none shipped memory
-all_placed shipped (pair ∷ pairs) memory few size (is, every) =
-    by (λ next. all_placed shipped pairs next few)
+all_placed shipped (pair ∷ pairs) memory few size (is, every) = by (λ next. all_placed shipped pairs next few)
   where
     by : ((next : Memory) → length next.low_expansion ≡ 8192 → Every (IsWord shipped) pairs → Placed shipped pairs next (with_words pairs next))
         → Placed shipped (pair ∷ pairs) memory (with_words pairs (word_placed memory pair.0 pair.1))

@@ -6,7 +6,7 @@ use Rattle.std.specs.Prelude.{◌&&◌}
 use Rattle.std.specs.List.{slice_get}
 use Rattle.std.specs.FinMap.{get-entries, entries, entries_sorted, find}
 use Rattle.std.proofs.lemmas.Bool.Decides.{nat_tests}
-use Rattle.std.proofs.lemmas.Option.{get_or_from_slice_get, slice_get-get_or, slice_get_past}
+use Rattle.std.proofs.lemmas.Option.{get_or_from_slice_get, slice_get-get_or, slice_get_within}
 use Rattle.link_defs.specs.LinkedMemory.{LinkedMemory}
 use Rattle.native_interp.specs.Words.{words}
 use Rattle.interp_build_defs.specs.Building.{shipped_at, HasShipped}
@@ -20,16 +20,6 @@ pub record IsWord (shipped : List ℕ) (pair : ℕ × ℕ) : Type 0 where
   pub inside : number < length shipped
   pub address : pair.0 ≡ ORIGIN + 2 * number
   pub word : pair.1 ≡ slice_index shipped number
-
--- a word that is found is inside the list
-inside_of : (shipped : List ℕ) (number word : ℕ) → slice_get shipped number ≡ Some word → number < length shipped
-inside_of shipped number word found = by (nat_le (length shipped) number) refl
-  where
-    by : (past : Bool) → nat_le (length shipped) number ≡ past → number < length shipped
-    by true past =
-        let le : length shipped ≤ number = grind (arith, nat_tests) in
-        absurd (none_is_not word (slice_get shipped number) (slice_get_past shipped number le) found)
-    by false past = grind (arith, nat_tests)
 
 -- the test for an address of one of the words
 from_test : (at : ℕ) → (nat_le ORIGIN at && (at % 2 == 0)) ≡ true → (ORIGIN ≤ at) × (at % 2 ≡ 0)
@@ -52,7 +42,7 @@ is_word shipped at word is = by (nat_le ORIGIN at && (at % 2 == 0)) refl is
         let tested : (ORIGIN ≤ at) × (at % 2 ≡ 0) = from_test at holds in
         record {
           number = (at - ORIGIN) / 2;
-          inside = inside_of shipped ((at - ORIGIN) / 2) word found;
+          inside = slice_get_within shipped ((at - ORIGIN) / 2) word found;
           address = omega arith;
           word = sym (get_or_from_slice_get shipped ((at - ORIGIN) / 2) word 0 found);
         }

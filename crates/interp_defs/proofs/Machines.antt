@@ -162,9 +162,7 @@ run_made (suc limit) s (suc i) within = by (λ next below. run_made limit next i
     by : ((next : GplState) → i ≤ (run limit next).done → ((run i next).done ≡ i) × ((run i next).stop ≡ None))
         → (r : Result GplState Reason) → step s ≡ r
         → suc i ≤ done_of (run_by limit s r) → MadeAll (suc i) (run_by i s r)
-    by go (Ok next) is within =
-        let r = go next (omega (arith, within)) in
-        (omega (arith, r.0), r.1)
+    by go (Ok next) is within = let r = go next (omega (arith, within)) in (omega (arith, r.0), r.1)
     by go (Err reason) is within = absurd (omega (arith, within))
 
 -- the run that was made is at the last state
@@ -219,8 +217,7 @@ module _ (s : GplState) (limit count : ℕ) (x y : MachineState) (w : TurnsMade 
 -- the first machine is the one that the run begins with
 begins : {s : GplState} {limit count : ℕ} {x y : MachineState} (r : RunsSteps s limit count x y) → x ≡ r.machine 0
 begins {x = x} r =
-    let given : Gives x ≡ Gives (r.machine 0) =
-    ap (λ n. steps n x) (sym r.none) ∙ r.machines.leads 0 (omega arith) in
+    let given : Gives x ≡ Gives (r.machine 0) = ap (λ n. steps n x) (sym r.none) ∙ r.machines.leads 0 (omega arith) in
     cc given
 
 -- what is counted from a later number on

@@ -1,8 +1,9 @@
 -- The interpreter begins on one machine.
-use Rattle.std.proofs.Common.{◌≡◌, ℕ, suc, ◌<◌, ◌≤◌, ◌+◌, ◌*◌, ◌/◌, List, [], ◌∷◌, length, Bool, true, false}
+use Rattle.std.proofs.Common.{◌≡◌, ℕ, ◌<◌, ◌≤◌, ◌+◌, ◌*◌, ◌/◌, List, length, Bool, true, false}
 use Rattle.std.proofs.Common.{refl, sym, ap, ◌∙◌, arith}
 use Rattle.std.specs.Prelude.{nat_lt, slice_index}
 use Rattle.std.proofs.lemmas.Bool.Decides.{nat_tests}
+use Rattle.std.proofs.lemmas.List.{ext_get_or}
 use Rattle.tms_defs.specs.Bytes.{HoldsBytes, HoldsZeros, word_in}
 use Rattle.console_defs.specs.Vdp.{VdpState, IsNewVdp}
 use Rattle.console_defs.specs.Memory.{Memory}
@@ -14,12 +15,7 @@ use Rattle.interp_defs.specs.Boot.{HoldsEntry, HoldsWords, IsBoot}
 -- Lists of one length are equal where they agree at each index.
 pub same_list : (xs ys : List ℕ) → length xs ≡ length ys →
     ((at : ℕ) → at < length xs → slice_index xs at ≡ slice_index ys at) → xs ≡ ys
-same_list [] [] size all = refl
-same_list [] (y ∷ ys) size all = absurd (omega arith)
-same_list (x ∷ xs) [] size all = absurd (omega arith)
-same_list (x ∷ xs) (y ∷ ys) size all =
-    ap (λ head. head ∷ xs) (all 0 (omega arith))
-    ∙ ap (λ (tail : List ℕ). y ∷ tail) (same_list xs ys (omega arith) (λ at below. all (suc at) (omega arith)))
+same_list xs ys size all = ext_get_or 0 xs ys size all
 
 -- Zeros are one list.
 pub one_zeros : (count : ℕ) (xs ys : List ℕ) → HoldsZeros count xs → HoldsZeros count ys → xs ≡ ys
@@ -52,17 +48,13 @@ module _ (xs ys : List ℕ) (fits : (at : ℕ) → slice_index xs at < 256) (fit
       ((k : ℕ) → k < place → slice_index xs k ≡ 0) → ((k : ℕ) → k < place → slice_index ys k ≡ 0) →
       ((k : ℕ) → place + 2 ≤ k → slice_index xs k ≡ 0) → ((k : ℕ) → place + 2 ≤ k → slice_index ys k ≡ 0) →
       slice_index xs at ≡ slice_index ys at
-  one_word place at same before before_too behind behind_too =
-      by (nat_lt at place) refl (nat_lt at (place + 2)) refl
+  one_word place at same before before_too behind behind_too = by (nat_lt at place) refl (nat_lt at (place + 2)) refl
     where
       by : (first : Bool) → nat_lt at place ≡ first → (inside : Bool) → nat_lt at (place + 2) ≡ inside →
           slice_index xs at ≡ slice_index ys at
-      by true f inside i =
-          let lt : at < place = grind (arith, nat_tests) in before at lt ∙ sym (before_too at lt)
-      by false f true i =
-          bytes_of_word place at same (grind (arith, nat_tests)) (grind (arith, nat_tests))
-      by false f false i =
-          let le : place + 2 ≤ at = grind (arith, nat_tests) in behind at le ∙ sym (behind_too at le)
+      by true f inside i = let lt : at < place = grind (arith, nat_tests) in before at lt ∙ sym (before_too at lt)
+      by false f true i = bytes_of_word place at same (grind (arith, nat_tests)) (grind (arith, nat_tests))
+      by false f false i = let le : place + 2 ≤ at = grind (arith, nat_tests) in behind at le ∙ sym (behind_too at le)
 
   -- Lists with so many words from their beginning on, and zeros behind them, agree.
   one_words : (count at : ℕ) → ((number : ℕ) → number < count → word_in xs (2 * number) ≡ word_in ys (2 * number)) →
@@ -74,8 +66,7 @@ module _ (xs ys : List ℕ) (fits : (at : ℕ) → slice_index xs at < 256) (fit
       by true is =
           let lt : at < 2 * count = grind (arith, nat_tests) in
           bytes_of_word (2 * (at / 2)) at (same (at / 2) (omega arith)) (omega arith) (omega arith)
-      by false is =
-          let le : 2 * count ≤ at = grind (arith, nat_tests) in behind at le ∙ sym (behind_too at le)
+      by false is = let le : 2 * count ≤ at = grind (arith, nat_tests) in behind at le ∙ sym (behind_too at le)
 
 -- One scratchpad holds an entry.
 one_scratchpad : (entry : ℕ) (xs ys : List ℕ) → HoldsBytes 256 xs → HoldsBytes 256 ys → HoldsEntry entry xs →

@@ -1,9 +1,8 @@
 -- One machine is left of a program.
-use Rattle.std.proofs.Common.{◌≡◌, ℕ, zero, suc, ◌+◌, ◌<◌, ◌≤◌, List, refl, sym, ap, ◌∙◌, subst, arith}
+use Rattle.std.proofs.Common.{◌≡◌, ℕ, zero, suc, ◌+◌, ◌<◌, ◌≤◌, List, sym, ap, ◌∙◌, subst, arith}
 use Rattle.std.proofs.Common.{Bool, true, false}
-use Rattle.std.specs.Prelude.{nat_lt, eqb}
-use Rattle.std.proofs.lemmas.Bool.Decides.{nat_tests}
-use Rattle.tms_defs.specs.Accesses.{Answer, Gives, AtPort, NoInstruction}
+use Rattle.std.specs.Prelude.{eqb}
+use Rattle.tms_defs.specs.Accesses.{Answer, Gives}
 use Rattle.console_defs.specs.Machine.{MachineState, steps}
 use Rattle.native_interp.specs.declared.addresses.TheConstants.{GSTEP}
 use Rattle.gpl_step_defs.specs.State.{start}
@@ -15,24 +14,17 @@ use Rattle.interp_defs.proofs.OneBoot.{one_boot}
 
 -- Numbers of which neither is below the other are one.
 one_number : (m n : ℕ) → (m < n → ⊥) → (n < m → ⊥) → m ≡ n
-one_number m n above below = by (nat_lt m n) refl (nat_lt n m) refl
-  where
-    by : (less : Bool) → nat_lt m n ≡ less → (more : Bool) → nat_lt n m ≡ more → m ≡ n
-    by true l more g = absurd (above (grind (arith, nat_tests)))
-    by false l true g = absurd (below (grind (arith, nat_tests)))
-    by false l false g = grind (arith, nat_tests)
+one_number m n above below = omega arith
 
 -- The machine that is given, or another one.
 given_or : MachineState → Answer MachineState → MachineState
 given_or other (Gives x) = x
-given_or other (AtPort address) = other
-given_or other NoInstruction = other
+given_or other _ = other
 
 -- As many steps lead to one machine.
 one_given : (m n : ℕ) (x y z : MachineState) → m ≡ n → steps m x ≡ Gives y → steps n x ≡ Gives z → y ≡ z
 unfolding given_or
-one_given m n x y z same first second =
-    ap (given_or y) (sym first ∙ ap (λ made. steps made x) same ∙ second)
+one_given m n x y z same first second = ap (given_or y) (sym first ∙ ap (λ made. steps made x) same ∙ second)
 
 -- No test both holds and fails.
 both : (test : Bool) → test ≡ true → test ≡ false → ⊥

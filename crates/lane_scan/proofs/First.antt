@@ -19,13 +19,12 @@ other_byte x y e = λ f. grind (arith, nat_tests)
 -- lists that have all their places in common are equal
 equal : (a b : List ℕ) → common_length a b ≡ length a → common_length a b ≡ length b → a ≡ b
 equal [] [] p q = refl
-equal [] (y ∷ b) p q = let no : ⊥ = omega arith in absurd no
-equal (x ∷ a) [] p q = let no : ⊥ = omega arith in absurd no
 equal (x ∷ a) (y ∷ b) p q = by (nat_eq x y) refl p q (equal a b)
   where
     by : (same : Bool) → nat_eq x y ≡ same → cond same (1 + common_length a b) 0 ≡ suc (length a) → cond same (1 + common_length a b) 0 ≡ suc (length b) → (common_length a b ≡ length a → common_length a b ≡ length b → a ≡ b) → x ∷ a ≡ y ∷ b
     by true e p q rest = ap₂ (λ h t. h ∷ t) (same_byte x y e) (rest (omega arith) (omega arith))
     by false e p q rest = let no : ⊥ = omega arith in absurd no
+equal _ _ p q = let no : ⊥ = omega arith in absurd no
 
 module _ (a b : List ℕ) where
   abbrev common : ℕ

@@ -21,24 +21,20 @@ zip-none [] = refl
 zip-none (x ∷ a) = refl
 
 take-zip : (n : ℕ) (a b : List ℕ) → take n (zip a b) ≡ zip (take n a) (take n b)
-take-zip zero a b = refl
-take-zip (suc n) [] b = refl
-take-zip (suc n) (x ∷ a) [] = refl
 take-zip (suc n) (x ∷ a) (y ∷ b) = ap (λ r. (x, y) ∷ r) (take-zip n a b)
+take-zip _ _ _ = refl
 
 drop-zip : (n : ℕ) (a b : List ℕ) → drop n (zip a b) ≡ zip (drop n a) (drop n b)
-drop-zip zero a b = refl
-drop-zip (suc n) [] b = refl
 drop-zip (suc n) (x ∷ a) [] = sym (zip-none (drop n a))
 drop-zip (suc n) (x ∷ a) (y ∷ b) = drop-zip n a b
+drop-zip _ _ b = refl
 
 chunk-zip : (at n : ℕ) (a b : List ℕ) → chunk at n (zip a b) ≡ zip (chunk at n a) (chunk at n b)
 chunk-zip at n a b = ap (take n) (drop-zip at a b) ∙ take-zip n (drop at a) (drop at b)
 
 zipped : (a b : List ℕ) → zip2 (λ x y. not (eqb x y)) a b ≡ map is_different (zip a b)
-zipped [] b = refl
-zipped (x ∷ a) [] = refl
 zipped (x ∷ a) (y ∷ b) = ap (λ r. not (eqb x y) ∷ r) (zipped a b)
+zipped _ _ = refl
 
 -- the mask of the lanes that differ
 pub lanes : (u v : List ℕ) → length u ≤ 64
@@ -48,9 +44,8 @@ lanes u v few =
     ∙ mask_l-mod (map is_different (zip u v)) 64 (omega (arith, length-map (zip u v) is_different, length-zip u v))
 
 zipped_same : (u v : List ℕ) → zip2 eqb u v ≡ map is_same (zip u v)
-zipped_same [] v = refl
-zipped_same (x ∷ u) [] = refl
 zipped_same (x ∷ u) (y ∷ v) = ap (λ r. eqb x y ∷ r) (zipped_same u v)
+zipped_same _ _ = refl
 
 doubled : (n : ℕ) → 2 * 2 ^ n ≡ 2 ^ suc n
 doubled n = simp unary_clauses (omega arith)
@@ -81,10 +76,9 @@ no_bit false m = grind (arith, nat_tests)
 -- no bit is set just where the lists are equal
 pub none_set : (u v : List ℕ) → length u ≡ length v → nat_eq (mask_l (map is_different (zip u v))) 0 ≡ bytes_eq u v
 none_set [] [] e = refl
-none_set [] (y ∷ v) e = let no : ⊥ = omega arith in absurd no
-none_set (x ∷ u) [] e = let no : ⊥ = omega arith in absurd no
 none_set (x ∷ u) (y ∷ v) e =
     no_bit (nat_eq x y) (mask_l (map is_different (zip u v))) ∙ ap (λ r. nat_eq x y && r) (none_set u v (omega arith))
+none_set _ _ e = let no : ⊥ = omega arith in absurd no
 
 same_run : (z : List (ℕ × ℕ)) → prefix_len is_same z ≡ prefix_len (λ place. not (is_different place)) z
 same_run [] = refl

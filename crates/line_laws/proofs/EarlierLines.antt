@@ -36,8 +36,7 @@ module _ (known : Names) (at : Location) (reached : ℕ) where
   by_value : {A : Type 0} (text : List ℕ) (make : Value → Result A ExprError) (found : A) → (value empty at text >>= make) ≡ Ok found
       → (value known at text >>= make) ≡ Ok found
   by_value text make found e =
-      let a = bound (value empty at text) make found e in
-      ap (λ answer. answer >>= make) (value_same text a.0 a.1) ∙ a.2
+      let a = bound (value empty at text) make found e in ap (λ answer. answer >>= make) (value_same text a.0 a.1) ∙ a.2
 
   by_absolute : (text : List ℕ) (make : ℕ → Result LocationChange ExprError) (found : LocationChange) → ((value empty at text >>= absolute) >>= make) ≡ Ok found
       → ((value known at text >>= absolute) >>= make) ≡ Ok found
@@ -112,5 +111,4 @@ module _ (known : Names) (at : Location) (reached : ℕ) where
         → statement_in text there_fields ≡ Ok statement → is_free statement ≡ true → any_known known (label_in there_fields.label) ≡ false
         → parsed there text ≡ Ok (record { label = there_fields.label; statement = statement })
     unfolding parsed
-    said_same text found statement is says free new =
-        rw (is, new, says, free_refs found.label statement free) refl
+    said_same text found statement is says free new = rw (is, new, says, free_refs found.label statement free) refl

@@ -22,9 +22,7 @@ no_return byte e = grind (arith, nat_tests, e)
 -- the first line feed is the one that ends the line
 feeds_behind : (text rest : List ℕ) (at : ℕ) → IsWithoutControls text
     → line_feeds_from at (text ++ 10 ∷ rest) ≡ (at + length text) ∷ line_feeds_from (at + length text + 1) rest
-feeds_behind [] rest at one =
-    let here : at + 0 ≡ at = omega arith in
-    rw here refl
+feeds_behind [] rest at one = let here : at + 0 ≡ at = omega arith in rw here refl
 feeds_behind (byte ∷ bytes) rest at one =
     let found = both (nat_le 0x20 byte) _ one in
     let ih = feeds_behind bytes rest (at + 1) found.1 in

@@ -8,7 +8,7 @@ use Rattle.source_defs.specs.Refusals.{◌>>=◌, at_line, unless}
 use Rattle.source_defs.specs.Fields.{Fields, fields}
 use Rattle.source_defs.specs.Symbols.{Names, look_up}
 use Rattle.source_defs.specs.Expression.{Value}
-use Rattle.source_defs.specs.Layout.{numbered, laid_behind, with_names, has_ended, set_or, none_or}
+use Rattle.source_defs.specs.Layout.{numbered, laid_behind, with_names, has_ended, set_or, since_origin, bytes_of}
 use Rattle.asm_defs.specs.declared.causes.AsmCause.{AsmCause}
 use Rattle.asm_defs.specs.declared.location.Location.{Location}
 use Rattle.asm_defs.specs.Statements.{Statement, as_text, statement_in, Nothing, Instruction, Aorg, Equ, Data}
@@ -89,18 +89,20 @@ module _ (look : List ℕ → Option Value) (text : List ℕ) (line : KnownLine)
   check_behind before number e free new = ap (λ answer. answer >>= λ found. Ok (line_of number found)) (checked_behind before e free new)
 
 -- the location behind one line more
-location_by : (origin : Option Location) (here : Location) (since gap size : ℕ)
-    → behind (set_or origin here) (none_or origin since + (gap + size)) ≡ behind (set_or origin (behind here since)) (gap + size)
-location_by (Some location) here since gap size =
+location_by : (origin : Option Location) (here : Location) (before : List Line) (gap size : ℕ)
+    → behind (set_or origin here) (bytes_of (if is_some origin then [] else since_origin before) + (gap + size))
+    ≡ behind (set_or origin (behind here (bytes_of (since_origin before)))) (gap + size)
+location_by (Some location) here before gap size =
     let sum : 0 + (gap + size) ≡ gap + size = omega arith in
     ap (behind location) sum
-location_by None here since gap size =
+location_by None here before gap size =
+    let since = bytes_of (since_origin before) in
     let sum : here.number + (since + (gap + size)) ≡ here.number + since + (gap + size) = omega arith in
     ap (λ number. record { part = here.part; number = number }) sum
 
 pub location_more : (before : List Line) (number : ℕ) (found : Checked)
     → location (line_of number found ∷ before) ≡ location_behind (location before) found.move
-location_more before number found = location_by found.move.origin _ _ found.move.gap found.move.size
+location_more before number found = location_by found.move.origin _ before found.move.gap found.move.size
 
 -- what names stand for behind some lines
 abbrev pub StandFor : Names → List (List ℕ × Value) → Type 0

@@ -9,6 +9,7 @@ use Rattle.std.specs.Ordering.{eq_by_cmp}
 use Rattle.std.specs.Cmp.{unsigned_tied}
 use Rattle.std.specs.FinMap.{find, get, from_entries, get-from_entries}
 use Rattle.std.specs.FinMap.Entries.{find-append}
+use Rattle.std.proofs.lemmas.List.{append-nil}
 use Rattle.object_defs.specs.declared.spot.Spot.{Spot}
 use Rattle.object_defs.specs.declared.spot.Spot.TheVariants as spot
 use Rattle.object_defs.specs.declared.spot.Piece.{Piece}
@@ -90,8 +91,7 @@ content_none from words p le =
 
 pub content_not_yet : (from : ℕ) (words : List ℕ) (p : ℕ) → p < from → content_of from words p ≡ None
 content_not_yet from words p lt =
-    let here : nat_le from p ≡ false = grind (arith, nat_tests, lt) in
-    chosen _ false _ _ here
+    let here : nat_le from p ≡ false = grind (arith, nat_tests, lt) in chosen _ false _ _ here
 
 pub nothing_before : (front pieces : List Piece) → front ≡ [] → front ++ pieces ≡ pieces
 nothing_before front pieces e = ap (λ front. front ++ pieces) e
@@ -139,9 +139,7 @@ pairs_there base from (word ∷ words) fit =
 
 -- the words of low memory expansion
 loadable : (a : ℕ) → 0x1000 ≤ a → a < 0x2000 → is_loadable (2 * a) ≡ true
-loadable a from to =
-    let even : 2 * a % 2 ≡ 0 = omega arith in
-    grind (arith, nat_tests, even, from, to)
+loadable a from to = let even : 2 * a % 2 ≡ 0 = omega arith in grind (arith, nat_tests, even, from, to)
 
 none_outside : (before : List (ℕ × ℕ)) (a : ℕ) (words : List ℕ) → 0x1000 ≤ a → a + length words ≤ 0x2000 → first_behind is_outside before (pairs_of (2 * a) words) ≡ None
 none_outside before a [] from to = refl
@@ -153,11 +151,7 @@ none_outside before a (word ∷ words) from to =
     ∙ none_outside (before ++ (2 * a, word) ∷ []) (a + 1) words (omega (arith, from)) (omega (arith, to)))
 
 not_tied : (at other : ℕ) → other < at → eq_by_cmp nat_cmp at other ≡ false
-not_tied at other lt = by (eq_by_cmp nat_cmp at other) refl
-  where
-    by : (tied : Bool) → eq_by_cmp nat_cmp at other ≡ tied → tied ≡ false
-    by false e = refl
-    by true e = let same : at ≡ other = eqb-true at other (sym (unsigned_tied at other) ∙ e) in absurd (omega (arith, same, lt))
+not_tied at other lt = grind (arith, nat_tests)
 
 pub none_taken : (before : List (ℕ × ℕ)) (from : ℕ) (words : List ℕ) → ((at : ℕ) → from ≤ at → find nat_cmp at before ≡ None) → first_behind is_taken before (pairs_of from words) ≡ None
 none_taken before from [] free = refl
@@ -182,8 +176,7 @@ parts_linked a words entry from to =
     rw (none_outside [] a words from to, none_taken [] (2 * a) words (λ at le. refl), all_filled (2 * a) words) refl
 
 pub append_empty : (pairs : List (ℕ × ℕ)) → pairs ++ [] ≡ pairs
-append_empty [] = refl
-append_empty (pair ∷ pairs) = ap (λ pairs. pair ∷ pairs) (append_empty pairs)
+append_empty pairs = append-nil pairs
 
 -- a module of such pieces alone is linked
 pub module_linked : (m : Module) (a : ℕ) (words : List ℕ) (entry : Spot) → m.pieces ≡ pieces_of (2 * a) words → m.defs ≡ [] → m.refs ≡ [] → m.entry ≡ Some entry
@@ -217,12 +210,9 @@ pair_found from (word ∷ words) at = by (eq_by_cmp nat_cmp at from) refl (pair_
         let place : (at - from) / 2 ≡ suc ((at - (from + 2)) / 2) = omega (arith, bound) in
         sym (ap (slice_get (word ∷ words)) place)
     later apart false false x y = refl
-    later apart true false x y =
-        let wrong : stands_in from at ≡ true = grind (arith, nat_tests, x) in
-        cc (wrong, y)
+    later apart true false x y = let wrong : stands_in from at ≡ true = grind (arith, nat_tests, x) in cc (wrong, y)
     later apart false true x y =
-        let wrong : stands_in (from + 2) at ≡ true = grind (arith, nat_tests, y, apart) in
-        cc (wrong, x)
+        let wrong : stands_in (from + 2) at ≡ true = grind (arith, nat_tests, y, apart) in cc (wrong, x)
 
     by : (tied : Bool) → eq_by_cmp nat_cmp at from ≡ tied → find nat_cmp at (pairs_of (from + 2) words) ≡ (if stands_in (from + 2) at then slice_get words ((at - (from + 2)) / 2) else None)
         → cond tied (Some word) (find nat_cmp at (pairs_of (from + 2) words)) ≡ (if stands_in from at then slice_get (word ∷ words) ((at - from) / 2) else None)

@@ -4,7 +4,8 @@ use Rattle.std.proofs.Common.{◌++◌, Some, None, length, length-append, refl,
 use Rattle.std.specs.Prelude.{Option, ◌⊎◌, ◌&&◌, ◌||◌, nat_le, nat_lt, if◌then◌else◌, slice_get, map}
 use Rattle.std.specs.Option.{option_map}
 use Rattle.std.proofs.lemmas.Bool.Decides.{nat_tests}
-use Rattle.source_defs.specs.Expression.{Value, Absolute, Relocatable, External}
+use Rattle.std.proofs.lemmas.Bool.{false_from_ne_true}
+use Rattle.source_defs.specs.Expression.{Value, Absolute, Relocatable}
 use Rattle.object_defs.specs.declared.spot.Spot.TheVariants as spot
 use Rattle.object_defs.specs.Modules.{Reference}
 use Rattle.asm_defs.specs.declared.content.Content.{Content}
@@ -12,8 +13,9 @@ use Rattle.asm_defs.specs.declared.content.Content.TheVariants as content
 use Rattle.asm_defs.specs.declared.location.Location.{Location}
 use Rattle.asm_defs.specs.declared.location.Part.{Part}
 use Rattle.asm_defs.specs.declared.location.Part.TheVariants as part
-use Rattle.asm_defs.specs.SecondChecks.{Outcome, Nothing, Words, Bytes, Entry}
-use Rattle.asm_defs.specs.Memory.{Settled, covers, same_part, is_placed, bytes_in, contents_by, word_contents}
+use Rattle.asm_defs.specs.SecondChecks.{Outcome, Nothing, Words}
+use Rattle.asm_defs.specs.Memory.{Settled, covers, same_part, is_placed, bytes_in, contents_by}
+use Rattle.asm_defs.proofs.PlacedWords.{word_contents}
 use Rattle.asm_defs.specs.Memory.{content_at, any_from, count_from, has_word, words_in, word_count, part_words}
 use Rattle.line_laws.specs.KnownLines.{numbers_of, words_of, is_at, is_absolute}
 use Rattle.source_defs.specs.OperandLists.{is_empty}
@@ -47,8 +49,7 @@ mapped number values None numbers e each = cc e
 pub are_numbers : (values : List Value) (numbers : List ℕ) → numbers_of values ≡ Some numbers → AreNumbers values numbers
 are_numbers [] numbers e = let same : ◌≡◌ {A = List ℕ} [] numbers = cc e in ap (λ numbers. map Absolute numbers) same
 are_numbers (Absolute number ∷ values) numbers e = mapped number values (numbers_of values) numbers e (are_numbers values)
-are_numbers (Relocatable number ∷ values) numbers e = cc e
-are_numbers (External name ∷ values) numbers e = cc e
+are_numbers _ numbers e = cc e
 
 contents_of_numbers : (references : List Reference) (at : ℕ) (numbers : List ℕ) → word_contents part.Absolute references at (map Absolute numbers) ≡ cells numbers
 contents_of_numbers references at [] = refl
@@ -61,8 +62,7 @@ placed_size Nothing words e = let same : ◌≡◌ {A = List ℕ} [] words = cc 
 placed_size (Words values) words e =
     let are = are_numbers values words e in
     ap (λ values. 2 * length values) are ∙ ap (λ n. 2 * n) (map_length Absolute words)
-placed_size (Bytes bytes) words e = cc e
-placed_size (Entry entry) words e = cc e
+placed_size _ words e = cc e
 
 -- and which
 pub placed_contents : (references : List Reference) (at : Location) (outcome : Outcome) (words : List ℕ) → words_of outcome ≡ Some words → at.part ≡ part.Absolute
@@ -71,8 +71,7 @@ placed_contents references at Nothing words e absolute = let same : ◌≡◌ {A
 placed_contents references at (Words values) words e absolute =
     ap (λ (found : Part). word_contents found references at.number values) absolute
     ∙ (ap (word_contents part.Absolute references at.number) (are_numbers values words e) ∙ contents_of_numbers references at.number words)
-placed_contents references at (Bytes bytes) words e absolute = cc e
-placed_contents references at (Entry entry) words e absolute = cc e
+placed_contents references at _ words e absolute = cc e
 
 -- what stands at a place of memory that holds words from a place on
 abbrev pub content_of : ℕ → List ℕ → ℕ → Option Content
@@ -143,8 +142,7 @@ Stands place at more = (length more ≡ 0) ⊎ ((place.part ≡ part.Absolute) �
 
 is_there : (place : Location) (at : ℕ) (found : Part) → place.part ≡ found → is_absolute found ≡ true → place.number ≡ at → (place.part ≡ part.Absolute) × (place.number ≡ at)
 is_there place at part.Absolute e absolute same = (e, same)
-is_there place at part.Relocatable e absolute same = cc absolute
-is_there place at part.Dummy e absolute same = cc absolute
+is_there place at _ e absolute same = cc absolute
 
 stands_by : (place : Location) (at : ℕ) (more : List ℕ) → (is_empty more || is_at at place) ≡ true → Stands place at more
 stands_by place at [] e = inl refl
@@ -185,23 +183,15 @@ module _ (line : Settled) (at : ℕ) (more : List ℕ) (next : ComesNext line at
 
   -- no place of relocatable code is covered
   not_relocatable : (p : ℕ) → covers line part.Relocatable p ≡ false
-  not_relocatable p = by (covers line part.Relocatable p) refl
-    where
-      by : (b : Bool) → covers line part.Relocatable p ≡ b → b ≡ false
-      by false e = refl
-      by true e =
-          let c = covered p part.Relocatable e in
-          let same : same_part line.at.part part.Relocatable ≡ false = ap (λ (found : Part). same_part found part.Relocatable) c.part in
-          let also = both (same_part line.at.part part.Relocatable) _ (both (same_part line.at.part part.Relocatable && nat_le line.at.number p) _ e).0 in
-          cc (same, also.0)
+  not_relocatable p = false_from_ne_true _ (λ e.
+      let c = covered p part.Relocatable e in
+      let same : same_part line.at.part part.Relocatable ≡ false = ap (λ (found : Part). same_part found part.Relocatable) c.part in
+      let also = both (same_part line.at.part part.Relocatable) _ (both (same_part line.at.part part.Relocatable && nat_le line.at.number p) _ e).0 in
+      cc (same, also.0))
 
   -- nor one behind the words
   not_behind : (p : ℕ) → at + 2 * length more ≤ p → covers line part.Absolute p ≡ false
-  not_behind p le = by (covers line part.Absolute p) refl
-    where
-      by : (b : Bool) → covers line part.Absolute p ≡ b → b ≡ false
-      by false e = refl
-      by true e = absurd (omega (arith, le, (covered p part.Absolute e).within))
+  not_behind p le = false_from_ne_true _ (λ e. omega (arith, le, (covered p part.Absolute e).within))
 
   -- a place from there on that is not covered is behind the words
   behind_by : (p : ℕ) → covers line part.Absolute p ≡ false → at ≤ p → Stands line.at at more → at + 2 * length more ≤ p
@@ -252,8 +242,7 @@ any_none f from (suc n) free =
 count_none : (f : ℕ → Bool) (first n : ℕ) → ((w : ℕ) → f w ≡ false) → count_from f first n ≡ 0
 count_none f first zero none = refl
 count_none f first (suc n) none =
-    let here = ap one_if (none first) in
-    omega (arith, here, count_none f (first + 1) n none)
+    let here = ap one_if (none first) in omega (arith, here, count_none f (first + 1) n none)
 
 one_at_most : (b : Bool) → one_if b ≤ 1
 one_at_most true = omega arith
@@ -268,13 +257,10 @@ none_counted lines none =
     count_none (has_word lines part.Relocatable) 0 part_words
     (λ w. ap (λ b. b || is_placed lines part.Relocatable (2 * w + 1)) (none (2 * w)) ∙ none (2 * w + 1))
 
-most_words : (lines : List Settled) → words_in lines part.Absolute ≤ part_words
-most_words lines = count_most (has_word lines part.Absolute) 0 part_words
-
 few : (relocatable absolute most : ℕ) → relocatable ≡ 0 → absolute ≤ most → relocatable + absolute ≤ most
 few relocatable absolute most none le = omega (arith, none, le)
 
 -- so many words have room
 pub few_words : (lines : List Settled) → ((p : ℕ) → is_placed lines part.Relocatable p ≡ false) → word_count lines ≤ 32768
 unfolding part_words
-few_words lines none = few _ _ _ (none_counted lines none) (most_words lines)
+few_words lines none = few _ _ _ (none_counted lines none) (count_most (has_word lines part.Absolute) 0 part_words)

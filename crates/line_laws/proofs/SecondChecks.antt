@@ -4,6 +4,7 @@ use Rattle.std.proofs.Common.{None, Ok, Err, length, length-append, refl, sym, a
 use Rattle.std.specs.Prelude.{Option, Result, ◌||◌, is_some, nat_lt, if◌then◌else◌}
 use Rattle.std.specs.Option.{unwrap_or}
 use Rattle.std.proofs.lemmas.Bool.Decides.{nat_tests}
+use Rattle.std.proofs.lemmas.List.{append-nil}
 use Rattle.source_defs.specs.Refusals.{Refusal, ◌>>=◌, at_line}
 use Rattle.source_defs.specs.Symbols.{Names, look_up}
 use Rattle.source_defs.specs.Expression.{Value}
@@ -15,7 +16,7 @@ use Rattle.asm_defs.specs.declared.location.Part.{Part}
 use Rattle.asm_defs.specs.declared.location.Part.TheVariants as part
 use Rattle.asm_defs.specs.Locations.{Line, location}
 use Rattle.asm_defs.specs.FirstChecks.{line_of, Checked}
-use Rattle.asm_defs.specs.SecondChecks.{Outcome, Nothing, Words, Bytes, Entry, outcome}
+use Rattle.asm_defs.specs.SecondChecks.{Outcome, Bytes, Entry, outcome}
 use Rattle.asm_defs.specs.Memory.{Settled, is_placed, any_from, bytes_in, word_count, overlaps}
 use Rattle.asm_defs.specs.Modules.{settle, settle_at, with_room, entry, entry_by}
 use Rattle.line_laws.specs.KnownLines.{KnownLine, known_line, known_lines, are_plain, is_plain, is_plain_statement}
@@ -58,10 +59,9 @@ known_words (Some words) e = refl
 known_words None e = cc e
 
 kept_entry : (before : Option Spot) (found : Outcome) → is_some (words_of found) ≡ true → entry_by before found ≡ before
-kept_entry before Nothing e = refl
-kept_entry before (Words values) e = refl
 kept_entry before (Bytes bytes) e = cc e
 kept_entry before (Entry spot) e = cc e
+kept_entry before _ e = refl
 
 pub settled_step : (known : Names) (before : List Line) (earlier : List Settled) (number : ℕ) (found : Checked) (line : Settled) (answer : Result (List Settled) (Refusal AsmCause))
     → answer ≡ Ok earlier → settle known before earlier (line_of number found) ≡ Ok line
@@ -114,8 +114,7 @@ module _ (look : List ℕ → Option Value) (known : Names) (same : look ≡ loo
         }
 
   append_none : (items : List ℕ) → items ≡ items ++ []
-  append_none [] = refl
-  append_none (item ∷ items) = ap (λ items. item ∷ items) (append_none items)
+  append_none items = sym (append-nil items)
 
   pub are_settled : (texts : List (List ℕ)) (lines : List KnownLine) → SettlesAll texts lines
   are_settled [] lines before number earlier words e plain close is hold =

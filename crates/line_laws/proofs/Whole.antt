@@ -5,9 +5,10 @@ use Rattle.std.specs.Prelude.{Option, Result, ◌&&◌, ◌||◌, nat_le, nat_lt
 use Rattle.std.proofs.lemmas.Bool.Decides.{nat_tests}
 use Rattle.std.proofs.lemmas.Cmp.{nat_list_cmp_total}
 use Rattle.std.specs.FinMap.{get-from_entries}
+use Rattle.std.proofs.lemmas.Bool.{false_from_ne_true}
 use Rattle.source_defs.specs.Refusals.{◌>>=◌, at_line}
 use Rattle.source_defs.specs.Symbols.{look_up, predefined, registers}
-use Rattle.source_defs.specs.Expression.{Value, Absolute, Relocatable, External}
+use Rattle.source_defs.specs.Expression.{Value, Absolute, Relocatable}
 use Rattle.source_defs.specs.Layout.{settled, laid, numbered, with_names}
 use Rattle.source_defs.proofs.LaidLaws.{laid_more}
 use Rattle.object_defs.specs.declared.spot.Spot.{Spot}
@@ -20,10 +21,11 @@ use Rattle.asm_defs.specs.Locations.{Line, location}
 use Rattle.asm_defs.specs.Statements.{Statement, End}
 use Rattle.asm_defs.specs.FirstChecks.{check, line_of, names, refs, defs, refs_in, defs_in, any_known, label_in}
 use Rattle.asm_defs.specs.FirstChecks.{label_entry, external_entries}
-use Rattle.asm_defs.specs.SecondChecks.{Outcome, Nothing, Words, Bytes, Entry}
+use Rattle.asm_defs.specs.SecondChecks.{Outcome, Words, Entry}
 use Rattle.asm_defs.specs.declared.content.Content.{Content}
 use Rattle.asm_defs.specs.Memory.{Settled, covers, same_part, is_placed, bytes_in, any_from, word_count, pieces}
-use Rattle.asm_defs.specs.Memory.{references_of, behind_by, behind_words, behind_word, spot_by, is_placed_in}
+use Rattle.asm_defs.specs.Memory.{references_of, behind_by, behind_word, spot_by, is_placed_in}
+use Rattle.asm_defs.proofs.PlacedWords.{behind_words}
 use Rattle.asm_defs.specs.Modules.{settle, with_room, module_by, module_behind, module_of_lines, entry, entry_by}
 use Rattle.asm_defs.specs.Modules.{unused, definition_in}
 use Rattle.line_laws.specs.KnownLines.{KnownLine, known_line, all_names, all_words, names_behind, are_new, are_close}
@@ -46,8 +48,7 @@ none_by false k = refl
 -- where no name is external, no use is one
 no_use : (at : Spot) (word : Value) → behind_word [] at word ≡ []
 no_use at (Absolute number) = refl
-no_use at (Relocatable number) = refl
-no_use at (External name) = refl
+no_use at _ = refl
 
 no_words : (found : Part) (at : ℕ) (words : List Value) → behind_words found [] at words ≡ []
 no_words found at [] = refl
@@ -59,10 +60,8 @@ either_none true references e = e
 either_none false references e = refl
 
 no_line : (at : Location) (found : Outcome) → behind_by at [] found ≡ []
-no_line at Nothing = refl
 no_line at (Words words) = either_none (is_placed_in at.part) _ (no_words at.part at.number words)
-no_line at (Bytes bytes) = refl
-no_line at (Entry spot) = refl
+no_line at _ = refl
 
 pub no_uses : (lines : List Settled) → references_of [] lines ≡ []
 no_uses [] = refl
@@ -71,16 +70,12 @@ no_uses (line ∷ lines) = ap (λ references. behind_by line.at references line.
 -- a line that places no bytes
 module _ (line : Settled) (none : bytes_in line.outcome ≡ 0) where
   pub not_covered : (found : Part) (p : ℕ) → covers line found p ≡ false
-  not_covered found p = by (covers line found p) refl
-    where
-      by : (b : Bool) → covers line found p ≡ b → b ≡ false
-      by false e = refl
-      by true e =
-          let b = both (same_part line.at.part found && nat_le line.at.number p) _ e in
-          let c = both (same_part line.at.part found) _ b.0 in
-          let from : line.at.number ≤ p = grind (arith, nat_tests, c.1) in
-          let to : p < line.at.number + bytes_in line.outcome = grind (arith, nat_tests, b.1) in
-          absurd (omega (arith, none, from, to))
+  not_covered found p = false_from_ne_true _ (λ e.
+      let b = both (same_part line.at.part found && nat_le line.at.number p) _ e in
+      let c = both (same_part line.at.part found) _ b.0 in
+      let from : line.at.number ≤ p = grind (arith, nat_tests, c.1) in
+      let to : p < line.at.number + bytes_in line.outcome = grind (arith, nat_tests, b.1) in
+      omega (arith, none, from, to))
 
   pub hold_still : (lines : List Settled) (from : ℕ) (words : List ℕ) → HoldWords [] lines from words → HoldWords [] (line ∷ lines) from words
   hold_still lines from words hold = record {

@@ -1,7 +1,7 @@
 -- The lines of the source, in blocks.
 use Rattle.std.proofs.Common.{◌≡◌, ℕ, ◌+◌, [], ◌∷◌}
 use Rattle.std.specs.Prelude.{Ok, take, drop, slice_index_or, List}
-use Rattle.source_defs.specs.Refusals.{seen}
+use Rattle.source_defs.specs.Refusals.{map_ok}
 use Rattle.asm_defs.specs.declared.location.Location.{Location}
 use Rattle.line_laws.specs.KnownLines.{known_lines}
 use Rattle.line_laws.specs.Laws.{looks}
@@ -26,5 +26,5 @@ place number = location_of (slice_index_or rows number none)
 -- Some lines from a number on are as their rows say: so many, and so many names behind others.
 abbrev pub Block : ℕ → ℕ → ℕ → ℕ → Type 0
 Block first count named names =
-    seen (summary (place first)) (known_lines (looks defined) (place first) (take count (drop first texts)))
+    map_ok (summary (place first)) (known_lines (looks defined) (place first) (take count (drop first texts)))
     ≡ Ok (expected (take count (drop first rows)) (take names (drop named defined)) (place (first + count)))

@@ -3,7 +3,7 @@ use Rattle.std.proofs.Common.{◌≡◌, ℕ, zero, suc, arith, ◌+◌, ◌*◌
 use Rattle.std.proofs.Common.{append_assoc, length, Ok, Err, refl, sym, ap, subst, ◌∙◌}
 use Rattle.std.specs.Prelude.{Option, Result, map, take, drop}
 use Rattle.std.specs.List.{flat_map}
-use Rattle.source_defs.specs.Refusals.{seen}
+use Rattle.source_defs.specs.Refusals.{map_ok}
 use Rattle.source_defs.specs.Expression.{Value}
 use Rattle.asm_defs.specs.declared.causes.AsmCause.{AsmCause}
 use Rattle.asm_defs.specs.declared.location.Location.{Location}
@@ -53,7 +53,7 @@ pub record Reads (look : List ℕ → Option Value) (from : Location) (texts : L
 
 module _ (look : List ℕ → Option Value) where
   reads_by : (from next : Location) (texts : List (List ℕ)) (rows : List LineRow) (names : List (List ℕ × Value)) (answer : Result (List KnownLine) AsmCause)
-      → known_lines look from texts ≡ answer → seen (summary from) answer ≡ Ok (expected rows names next) → Reads look from texts rows names next
+      → known_lines look from texts ≡ answer → map_ok (summary from) answer ≡ Ok (expected rows names next) → Reads look from texts rows names next
   reads_by from next texts rows names (Ok lines) is e =
       let same : summary from lines ≡ expected rows names next = cc e in
       record {
@@ -67,7 +67,7 @@ module _ (look : List ℕ → Option Value) where
   reads_by from next texts rows names (Err cause) is e = cc e
 
   pub reads_of : (from next : Location) (texts : List (List ℕ)) (rows : List LineRow) (names : List (List ℕ × Value))
-      → seen (summary from) (known_lines look from texts) ≡ Ok (expected rows names next) → Reads look from texts rows names next
+      → map_ok (summary from) (known_lines look from texts) ≡ Ok (expected rows names next) → Reads look from texts rows names next
   reads_of from next texts rows names e = reads_by from next texts rows names (known_lines look from texts) refl e
 
   known_step : (text : List ℕ) (texts : List (List ℕ)) (from : Location) (line : KnownLine) (others : List KnownLine) → known_line look from text ≡ Ok line

@@ -4,6 +4,6 @@ use Rattle.link_defs.specs.LinkedMemory.{LinkedMemory}
 use Rattle.link_loader.specs.declared.linked.Linked.{Linked}
 
 -- what the definitions see of it
-abbrev pub defined_linked : Linked → LinkedMemory
-defined_linked linked =
+abbrev pub model_of_linked : Linked → LinkedMemory
+model_of_linked linked =
     record { words = from_sorted linked.pairs.items; names = linked.names.items; entry = linked.entry }

@@ -3,8 +3,8 @@
 ghost use Rattle.std.specs.Prelude.{◌≡◌, ◌≤◌, vec_len};
 ghost use Rattle.link_defs.specs.LinkedMemory as spec;
 ghost use Rattle.link_loader.specs.Answers.{Gives};
-ghost use Rattle.link_loader.specs.Parts.{defined_modules};
-ghost use Rattle.link_loader.specs.View.{defined_linked};
+ghost use Rattle.link_loader.specs.Parts.{model_of_modules};
+ghost use Rattle.link_loader.specs.View.{model_of_linked};
 
 use crate::chains::follow;
 use crate::error::LinkError;
@@ -23,14 +23,14 @@ use std::alloc::Global;
 /// the order of the modules and of their lists is returned. `Memory` means that memory ran out.
 pub fn link(alloc: Global, modules: &Vec<Module>) -> Result<Linked, LinkError>
     requires { vec_len modules.now ≤ 1024 }
-    ensures { Gives defined_linked result (spec.linked (defined_modules modules.now.items)) }
+    ensures { Gives model_of_linked result (spec.linked (model_of_modules modules.now.items)) }
 {
     link_parts(alloc, Parts::of(alloc, modules)?)
 }
 
 /// Links what modules say.
 fn link_parts(alloc: Global, parts: Parts) -> Result<Linked, LinkError>
-    ensures { Gives defined_linked result
+    ensures { Gives model_of_linked result
         (spec.linked_parts parts.defs.items parts.words.items parts.refs.items parts.entries.items) }
 {
     let names = define(alloc, parts.defs.as_slice())?;

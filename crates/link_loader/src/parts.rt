@@ -2,9 +2,9 @@
 
 ghost use Rattle.std.specs.Prelude.{◌≡◌, ◌≤◌, ◌<◌, ◌^◌, [], ◌++◌, map, vec_len, IfOk, OnOk};
 ghost use Rattle.std.specs.Option.{option_to_list};
-ghost use Rattle.object_tags.specs.Seen.{defined_def, defined_ref, defined_module};
+ghost use Rattle.object_tags.specs.Seen.{model_of_def, model_of_ref, model_of_module};
 ghost use Rattle.link_defs.specs.Placing as placing;
-ghost use Rattle.link_loader.specs.Parts.{defined_modules};
+ghost use Rattle.link_loader.specs.Parts.{model_of_modules};
 ghost use Rattle.std.specs.Prelude.{◌∷◌};
 
 use asm_text::Name;
@@ -32,13 +32,13 @@ impl Parts {
     pub(crate) fn of(alloc: Global, modules: &Vec<Module>) -> Result<Parts, AllocError>
         requires { vec_len modules.now ≤ 1024 }
         ensures defs { IfOk result (λ parts.
-            parts.defs.items ≡ placing.defs_of (placing.sections (defined_modules modules.now.items))) }
+            parts.defs.items ≡ placing.defs_of (placing.sections (model_of_modules modules.now.items))) }
         ensures words { IfOk result (λ parts.
-            parts.words.items ≡ placing.words_of (placing.sections (defined_modules modules.now.items))) }
+            parts.words.items ≡ placing.words_of (placing.sections (model_of_modules modules.now.items))) }
         ensures refs { IfOk result (λ parts.
-            parts.refs.items ≡ placing.refs_of (placing.sections (defined_modules modules.now.items))) }
+            parts.refs.items ≡ placing.refs_of (placing.sections (model_of_modules modules.now.items))) }
         ensures entries { IfOk result (λ parts.
-            parts.entries.items ≡ placing.entries_of (placing.sections (defined_modules modules.now.items))) }
+            parts.entries.items ≡ placing.entries_of (placing.sections (model_of_modules modules.now.items))) }
     {
         let mut parts = Parts::new(alloc);
         let mut base = FIRST_BASE;
@@ -68,11 +68,11 @@ impl Parts {
     fn add(&mut self, base: u32, module: &Module) -> Result<(), AllocError>
         requires { base < 2 ^ 31 }
         ensures defs { OnOk result (self.new.defs.items
-            ≡ self.old.defs.items ++ map (placing.def_at base) (defined_module «module».now).defs) }
+            ≡ self.old.defs.items ++ map (placing.def_at base) (model_of_module «module».now).defs) }
         ensures words { OnOk result (self.new.words.items
-            ≡ self.old.words.items ++ map (placing.word_at base) (defined_module «module».now).pieces) }
+            ≡ self.old.words.items ++ map (placing.word_at base) (model_of_module «module».now).pieces) }
         ensures refs { OnOk result (self.new.refs.items
-            ≡ self.old.refs.items ++ map (placing.ref_at base) (defined_module «module».now).refs) }
+            ≡ self.old.refs.items ++ map (placing.ref_at base) (model_of_module «module».now).refs) }
         ensures entries { OnOk result (self.new.entries.items
             ≡ self.old.entries.items ++ map (placing.value_of base) (option_to_list «module».now.entry)) }
     {
@@ -88,7 +88,7 @@ impl Parts {
 
 fn add_defs(found: &mut Vec<(Name, u16)>, base: u32, defs: &[Def]) -> Result<(), AllocError>
     requires { base < 2 ^ 31 }
-    ensures { OnOk result (found.new.items ≡ found.old.items ++ map (placing.def_at base) (map defined_def defs.now)) }
+    ensures { OnOk result (found.new.items ≡ found.old.items ++ map (placing.def_at base) (map model_of_def defs.now)) }
 {
     for def in defs {
         found.push((def.name, value_of(base, def.value)))?;
@@ -108,7 +108,7 @@ fn add_words(found: &mut Vec<(u32, u16)>, base: u32, pieces: &[Piece]) -> Result
 
 fn add_refs(found: &mut Vec<(Name, u16)>, base: u32, refs: &[Ref]) -> Result<(), AllocError>
     requires { base < 2 ^ 31 }
-    ensures { OnOk result (found.new.items ≡ found.old.items ++ map (placing.ref_at base) (map defined_ref refs.now)) }
+    ensures { OnOk result (found.new.items ≡ found.old.items ++ map (placing.ref_at base) (map model_of_ref refs.now)) }
 {
     for reference in refs {
         found.push((reference.name, value_of(base, reference.last)))?;

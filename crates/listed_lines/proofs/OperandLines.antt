@@ -71,12 +71,6 @@ pub two_operands : (first second : List ℕ) → list_all whole first ≡ true �
 two_operands first second e f =
     operands_back first (second ∷ []) (omega (arith, length-append first (0x2C ∷ second))) e (rw f refl)
 
-pub three_operands : (first second third : List ℕ) → list_all whole first ≡ true → list_all whole second ≡ true →
-    list_all whole third ≡ true → operand_texts (two_texts first (two_texts second third)) ≡ first ∷ second ∷ third ∷ []
-three_operands first second third e f g =
-    operands_back first (second ∷ third ∷ []) (omega (arith, length-append first (0x2C ∷ two_texts second third))) e
-    (rw (f, g) refl)
-
 -- an address, and behind it an index in parentheses
 module _ (outer inner : List ℕ) (quotes : list_all unquoted (outer ++ 0x28 ∷ (inner ++ 0x29 ∷ [])) ≡ true)
     (own : list_all (λ byte. not (byte == 0x28)) outer ≡ true) where
@@ -84,8 +78,7 @@ module _ (outer inner : List ℕ) (quotes : list_all unquoted (outer ++ 0x28 ∷
   text_with = outer ++ 0x28 ∷ (inner ++ 0x29 ∷ [])
 
   at_inner : At text_with (0 + length outer + 1) (inner ++ 0x29 ∷ [])
-  at_inner =
-      behind (0x28 ∷ []) (inner ++ 0x29 ∷ []) (behind outer (0x28 ∷ (inner ++ 0x29 ∷ [])) (at_start text_with))
+  at_inner = behind (0x28 ∷ []) (inner ++ 0x29 ∷ []) (behind outer (0x28 ∷ (inner ++ 0x29 ∷ [])) (at_start text_with))
 
   pub opening_is : opening text_with ≡ length outer
   opening_is =

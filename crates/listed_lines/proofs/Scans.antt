@@ -2,7 +2,8 @@
 use Rattle.std.proofs.Common.{◌≡◌, ℕ, zero, suc, ◌+◌, ◌-◌, ◌<◌, ◌≤◌, Bool, true, false, not, ◌&&◌, List, [], ◌∷◌, ◌++◌}
 use Rattle.std.proofs.Common.{length, length-append, append-nil, drop, get_or, refl, ap, sym, ◌∙◌, arith}
 use Rattle.std.specs.List.{list_all}
-use Rattle.std.proofs.lemmas.Bool.{false≢true}
+pub use Rattle.std.proofs.lemmas.Bool.{not-true as not_true}
+use Rattle.std.proofs.lemmas.Bool.{and_parts}
 use Rattle.std.proofs.lemmas.List.{drop-drop, get_or-drop, get_or_append_left, get_or-append-add}
 use Rattle.std.proofs.lemmas.List.Folds.{list_all-append}
 use Rattle.std.proofs.Math.Seq.{drop-append_seam, take-append_seam}
@@ -13,16 +14,10 @@ use Rattle.source_defs.specs.Lines.{part}
 use Rattle.source_defs.proofs.Quotes.{in_quotes_more_no, in_quotes_none}
 
 pub and_left : (a b : Bool) → (a && b) ≡ true → a ≡ true
-and_left true b e = refl
-and_left false b e = e
+and_left a b e = (and_parts a b e).0
 
 pub and_right : (a b : Bool) → (a && b) ≡ true → b ≡ true
-and_right true b e = e
-and_right false b e = absurd (false≢true e)
-
-pub not_true : (a : Bool) → not a ≡ true → a ≡ false
-not_true true e = absurd (false≢true e)
-not_true false e = refl
+and_right a b e = (and_parts a b e).1
 
 pub all_both : {A : Type 0} (p : A → Bool) (xs ys : List A) → list_all p xs ≡ true → list_all p ys ≡ true → list_all p (xs ++ ys)
     ≡ true
@@ -134,8 +129,7 @@ unquoted byte = not (is_quote byte)
 
 never_quoted : (text : List ℕ) (start n : ℕ) → list_all unquoted text ≡ true → start + n ≤ length text →
     in_quotes text start (start + n) ≡ false
-never_quoted text start zero e le =
-    let here : start + 0 ≡ start = omega arith in rw here (in_quotes_none text start)
+never_quoted text start zero e le = let here : start + 0 ≡ start = omega arith in rw here (in_quotes_none text start)
 never_quoted text start (suc n) e le =
     let next : start + suc n ≡ start + n + 1 = omega arith in
     let no = not_true (is_quote (get_or text (start + n) 0)) (all_get unquoted text (start + n) (omega arith) e) in

@@ -24,18 +24,12 @@ use Rattle.tms_defs.specs.declared.instruction.Instr.TheVariants as instr
 use Rattle.tms_defs.specs.declared.step_end.StepEnd.TheVariants.{Done}
 use Rattle.tms_defs.specs.declared.instruction.JumpOp.{JumpOp}
 use Rattle.tms_defs.specs.Accesses.{Answer, Gives, AtPort, NoInstruction, ◌>>=◌, Accesses}
-use Rattle.tms_defs.specs.Operand.{Cpu, Mode, Register, Indirect, Symbolic, Increment, mode_of, register_in, with_word, with_words}
-use Rattle.tms_defs.specs.Operand.{register_address, next_word, operand, value_at, with_value}
-use Rattle.tms_defs.specs.forms.Results.{with_flags, stored}
-use Rattle.tms_defs.specs.forms.ContextSwitch.{kept_in}
-use Rattle.tms_defs.specs.forms.Two.{two}
-use Rattle.tms_defs.specs.forms.Reg.{in_row, values_at, with_division, reg}
-use Rattle.tms_defs.specs.forms.Shift.{count_of, shift}
-use Rattle.tms_defs.specs.forms.One.{one}
-use Rattle.tms_defs.specs.forms.Jump.{jump_target, jump_where, condition}
-use Rattle.tms_defs.specs.forms.Imm.{immediate, imm}
-use Rattle.tms_defs.specs.forms.Bare.{bare}
-use Rattle.tms_defs.specs.Step.{executed, executed_where, execution, is_unsupported, step, step_end}
+use Rattle.tms_defs.specs.Operand.{Cpu, Mode, Register, Indirect, Symbolic, Increment, mode_of, register_in, register}
+use Rattle.tms_defs.specs.Jumps.{jump_target, condition}
+use Rattle.tms_defs.specs.Step.{with_word, with_words, next_word, operand, value_at, with_value, with_flags, stored}
+use Rattle.tms_defs.specs.Step.{kept_in, two, in_row, values_at, with_division, reg, count_of, shift, one, jump_where}
+use Rattle.tms_defs.specs.Step.{immediate, imm, bare, executed, executed_where, execution, is_unsupported, step}
+use Rattle.tms_defs.specs.Step.{step_end}
 
 given : {X : Type 0} (a b : X) → Gives a ≡ Gives b → a ≡ b
 given a b e = cc
@@ -93,11 +87,11 @@ module _ (M : Type 0) (access : Accesses M) (P : M → Type 0) (bytes : Bool)
   at_pc x h = holds_num _ _ (λ w. holds (w, record x { pc = plus x.pc 2 }) h)
 
   at_operand : (x : Cpu M) → P x.memory → (o : Mode) (w : Width) (n : ℕ) → KeptPair (operand M access o w n x)
-  at_operand x h Register w n = holds (register_address M access x n, x) h
+  at_operand x h Register w n = holds (register n x, x) h
   at_operand x h Indirect w n = holds_num _ _ (λ a. holds (a, x) h)
   at_operand x h Symbolic w n = holds_then _ _ (at_pc x h) (λ b k. holds_num _ _ (λ i. holds (plus b.0 i, b.1) k))
   at_operand x h Increment w n =
-      holds_num _ _ (λ a. holds_then _ (λ (z : Cpu M). Gives (a, z)) (to_word x h (register_address M access x n) (plus a (size_of w))) (λ z k. holds (a, z) k))
+      holds_num _ _ (λ a. holds_then _ (λ (z : Cpu M). Gives (a, z)) (to_word x h (register n x) (plus a (size_of w))) (λ z k. holds (a, z) k))
 
   at_value : (x : Cpu M) → P x.memory → (b : Width) → FitsWidth bytes b → (a : ℕ) → KeptPair (value_at M access b a x)
   at_value x h Byte f a =
@@ -132,7 +126,7 @@ module _ (M : Type 0) (access : Accesses M) (P : M → Type 0) (bytes : Bool)
 
   do_one : (x : Cpu M) → P x.memory → (o : OneOp) (a : ℕ) → Kept (one M access o a x)
   do_one x h BLWP a =
-      holds_num _ _ (λ v. holds_then _ _ (to_words x h (kept_in M v.0 x)) (λ z k. holds (record z { wp = v.0; pc = v.1 }) k))
+      holds_num _ _ (λ v. holds_then _ _ (to_words x h (kept_in v.0 x)) (λ z k. holds (record z { wp = v.0; pc = v.1 }) k))
   do_one x h B a = holds (record x { pc = even a }) h
   do_one x h X a = none
   do_one x h CLR a = to_word x h a 0
@@ -142,32 +136,32 @@ module _ (M : Type 0) (access : Accesses M) (P : M → Type 0) (bytes : Bool)
   do_one x h INCT a = holds_num _ _ (λ v. to_stored x h Word tt a _ _)
   do_one x h DEC a = holds_num _ _ (λ v. to_stored x h Word tt a _ _)
   do_one x h DECT a = holds_num _ _ (λ v. to_stored x h Word tt a _ _)
-  do_one x h BL a = holds_then _ _ (to_word x h (register_address M access x 11) x.pc) (λ z k. holds (record z { pc = even a }) k)
+  do_one x h BL a = holds_then _ _ (to_word x h (register 11 x) x.pc) (λ z k. holds (record z { pc = even a }) k)
   do_one x h SWPB a = holds_num _ _ (λ v. to_word x h a (swapped v))
   do_one x h SETO a = to_word x h a 0xFFFF
   do_one x h ABS a = holds_num _ _ (λ v. to_stored x h Word tt a _ _)
 
   do_reg : (x : Cpu M) → P x.memory → (o : RegOp) (n s : ℕ) → Kept (reg M access o n s x)
-  do_reg x h COC n s = holds_num _ _ (λ v. holds (with_flags M x (by_ones v.1 v.0 x.status.flags)) h)
-  do_reg x h CZC n s = holds_num _ _ (λ v. holds (with_flags M x (by_zeros v.1 v.0 x.status.flags)) h)
-  do_reg x h XOR n s = holds_num _ _ (λ v. to_stored x h Word tt (register_address M access x n) _ _)
+  do_reg x h COC n s = holds_num _ _ (λ v. holds (with_flags x (by_ones v.1 v.0 x.status.flags)) h)
+  do_reg x h CZC n s = holds_num _ _ (λ v. holds (with_flags x (by_zeros v.1 v.0 x.status.flags)) h)
+  do_reg x h XOR n s = holds_num _ _ (λ v. to_stored x h Word tt (register n x) _ _)
   do_reg x h XOP n s =
-      holds_num _ _ (λ v. holds_then _ _ (to_words x h (kept_in M v.0 x ++ ((register_in v.0 11, s) ∷ [])))
+      holds_num _ _ (λ v. holds_then _ _ (to_words x h (kept_in v.0 x ++ ((register_in v.0 11, s) ∷ [])))
       (λ z k. holds (record z { wp = v.0; pc = v.1; status = with_extension z.status }) k))
-  do_reg x h MPY n s = holds_num _ _ (λ v. to_words x h (in_row (register_address M access x n) (product_of v.1 v.0)))
+  do_reg x h MPY n s = holds_num _ _ (λ v. to_words x h (in_row (register n x) (product_of v.1 v.0)))
   do_reg x h DIV n s =
-      holds_num {X = ℕ × ℕ} (values_at M access s (register_address M access x n) x) _ (λ v.
-      holds_num {X = ℕ} (access.word x.memory (plus (register_address M access x n) 2)) _ (λ l. holds_then _ _ (do_division x h (division_of v.1 l v.0) (register_address M access x n))
-      (λ z k. holds (with_flags M z (by_division v.1 l v.0 z.status.flags)) k)))
+      holds_num {X = ℕ × ℕ} (values_at M access s (register n x) x) _ (λ v.
+      holds_num {X = ℕ} (access.word x.memory (plus (register n x) 2)) _ (λ l. holds_then _ _ (do_division x h (division_of v.1 l v.0) (register n x))
+      (λ z k. holds (with_flags z (by_division v.1 l v.0 z.status.flags)) k)))
   do_reg x h LDCR n s = none
   do_reg x h STCR n s = none
 
   do_shift : (x : Cpu M) → P x.memory → (o : ShiftOp) (c n : ℕ) → Kept (shift M access o c n x)
   do_shift x h o c n =
-      holds_num {X = ℕ} (access.word x.memory (register_address M access x n)) _ (λ v.
-      holds_num {X = ℕ} (count_of M access c x) _ (λ p. to_stored x h Word tt (register_address M access x n) _ _))
+      holds_num {X = ℕ} (access.word x.memory (register n x)) _ (λ v.
+      holds_num {X = ℕ} (count_of M access c x) _ (λ p. to_stored x h Word tt (register n x) _ _))
 
-  do_jump : (x : Cpu M) → P x.memory → (o : Option Bool) (d : ℤ) → Kept (jump_where M o d x)
+  do_jump : (x : Cpu M) → P x.memory → (o : Option Bool) (d : ℤ) → Kept (jump_where o d x)
   do_jump x h (Some true) d = holds (record x { pc = jump_target x.pc d }) h
   do_jump x h (Some false) d = holds x h
   do_jump x h None d = none
@@ -176,13 +170,13 @@ module _ (M : Type 0) (access : Accesses M) (P : M → Type 0) (bytes : Bool)
   do_immediate x h n = holds_then _ _ (at_pc x h) (λ w k. holds_num _ _ (λ f. holds (w.0, f, w.1) k))
 
   do_imm : (x : Cpu M) → P x.memory → (o : ImmOp) (n : ℕ) → Kept (imm M access o n x)
-  do_imm x h LI n = holds_then _ _ (at_pc x h) (λ w k. to_stored w.1 k Word tt (register_address M access w.1 n) _ _)
-  do_imm x h AI n = holds_then _ _ (do_immediate x h n) (λ w k. to_stored w.2 k Word tt (register_address M access w.2 n) _ _)
-  do_imm x h ANDI n = holds_then _ _ (do_immediate x h n) (λ w k. to_stored w.2 k Word tt (register_address M access w.2 n) _ _)
-  do_imm x h ORI n = holds_then _ _ (do_immediate x h n) (λ w k. to_stored w.2 k Word tt (register_address M access w.2 n) _ _)
+  do_imm x h LI n = holds_then _ _ (at_pc x h) (λ w k. to_stored w.1 k Word tt (register n w.1) _ _)
+  do_imm x h AI n = holds_then _ _ (do_immediate x h n) (λ w k. to_stored w.2 k Word tt (register n w.2) _ _)
+  do_imm x h ANDI n = holds_then _ _ (do_immediate x h n) (λ w k. to_stored w.2 k Word tt (register n w.2) _ _)
+  do_imm x h ORI n = holds_then _ _ (do_immediate x h n) (λ w k. to_stored w.2 k Word tt (register n w.2) _ _)
   do_imm x h CI n = holds_then _ _ (do_immediate x h n) (λ w k. holds (record w.2 { status = with_order Word w.1 w.0 w.2.status }) k)
-  do_imm x h STWP n = to_word x h (register_address M access x n) x.wp
-  do_imm x h STST n = to_word x h (register_address M access x n) (status_word x.status)
+  do_imm x h STWP n = to_word x h (register n x) x.wp
+  do_imm x h STST n = to_word x h (register n x) (status_word x.status)
 
   do_bare : (x : Cpu M) → P x.memory → (o : BareOp) → Kept (bare M access o x)
   do_bare x h LWPI = holds_then _ _ (at_pc x h) (λ w k. holds (record w.1 { wp = even w.0 }) k)
@@ -251,7 +245,7 @@ module _ (M : Type 0) (access : Accesses M) where
   abbrev Same : Cpu M → Cpu M → Type 0
   Same x y = y.memory ≡ x.memory
 
-  jumped_by : (x : Cpu M) (o : Option Bool) (d : ℤ) → Holds (Same x) (jump_where M o d x)
+  jumped_by : (x : Cpu M) (o : Option Bool) (d : ℤ) → Holds (Same x) (jump_where o d x)
   jumped_by x (Some true) d = holds (record x { pc = jump_target x.pc d }) refl
   jumped_by x (Some false) d = holds x refl
   jumped_by x None d = none

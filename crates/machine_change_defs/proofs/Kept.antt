@@ -4,10 +4,10 @@ use Rattle.std.proofs.Math.ListN.{set}
 use Rattle.std.proofs.lemmas.List.{length-set}
 use Rattle.tms_defs.specs.Words.{even, high, low}
 use Rattle.tms_defs.specs.Instructions.{instr_at}
-use Rattle.console_defs.specs.Vdp.{VdpState, PairKind, ReadSetup, WriteSetup, RegisterWrite, NoOperation, pair_kind, pair_done, address_byte_taken}
+use Rattle.console_defs.specs.Vdp.{VdpState, PairKind, RegisterWrite, pair_kind, pair_done, address_byte_taken}
 use Rattle.console_defs.specs.Grom.{GromState, grom_half_taken}
 use Rattle.console_defs.specs.Memory.{Memory, console, Port, VdpDataRead, VdpStatusRead, VdpDataWrite, VdpAddressWrite, GromDataRead, GromAddressRead}
-use Rattle.console_defs.specs.Memory.{GromDataWrite, GromAddressWrite, Region, Rom, LowExpansion, HighExpansion, Scratchpad, PortOf, Unmapped, region}
+use Rattle.console_defs.specs.Memory.{GromAddressWrite, Region, LowExpansion, HighExpansion, Scratchpad, PortOf, region}
 use Rattle.console_defs.specs.Memory.{word_written_in, byte_read_in, byte_written_in, port_read, port_written}
 use Rattle.console_defs.specs.Machine.{MachineState, machine_step}
 use Rattle.console_defs.specs.Runs.{after}
@@ -37,36 +37,26 @@ module _ (first m : Memory) (k : Keeps first m) where
   set_twice bytes i j x y = length-set (set bytes i x) j y ∙ length-set bytes i x
 
   written : (r : Region) (a w : ℕ) → Holds (Keeps first) (word_written_in r m a w)
-  written (Rom at) a w = holds m k
   written (LowExpansion at) a w = holds _ (with_low _ (set_twice m.low_expansion at (at + 1) (high w) (low w)))
   written (HighExpansion at) a w = holds _ (with_high _ (set_twice m.high_expansion at (at + 1) (high w) (low w)))
   written (Scratchpad at) a w = holds _ (with_pad _ (set_twice m.scratchpad at (at + 1) (high w) (low w)))
   written (PortOf port) a w = record { by = λ n e. absurd (cc) }
-  written Unmapped a w = holds m k
+  written _ a w = holds m k
 
   port_gave : (p : Port) → Keeps first (port_read p m).1
   port_gave VdpDataRead = with_vdp _ refl refl
   port_gave VdpStatusRead = with_vdp _ refl refl
-  port_gave VdpDataWrite = k
-  port_gave VdpAddressWrite = k
   port_gave GromDataRead = with_grom _ refl
   port_gave GromAddressRead = with_grom _ refl
-  port_gave GromDataWrite = k
-  port_gave GromAddressWrite = k
+  port_gave _ = k
 
   byte_gave : (r : Region) → Keeps first (byte_read_in r m).1
-  byte_gave (Rom at) = k
-  byte_gave (LowExpansion at) = k
-  byte_gave (HighExpansion at) = k
-  byte_gave (Scratchpad at) = k
   byte_gave (PortOf port) = port_gave port
-  byte_gave Unmapped = k
+  byte_gave _ = k
 
   pair_took : (kind : PairKind) (first_byte b : ℕ) → Keeps first (record m { vdp = pair_done kind m.vdp first_byte b })
-  pair_took ReadSetup f b = with_vdp _ refl refl
-  pair_took WriteSetup f b = with_vdp _ refl refl
   pair_took RegisterWrite f b = with_vdp _ refl (length-set m.vdp.registers _ f)
-  pair_took NoOperation f b = with_vdp _ refl refl
+  pair_took _ f b = with_vdp _ refl refl
 
   address_took : (held : Option ℕ) (b : ℕ) → Keeps first (record m { vdp = address_byte_taken held m.vdp b })
   address_took None b = with_vdp _ refl refl
@@ -77,22 +67,17 @@ module _ (first m : Memory) (k : Keeps first m) where
   half_took false b = with_grom _ refl
 
   port_took : (p : Port) (b : ℕ) → Keeps first (port_written p m b)
-  port_took VdpDataRead b = k
-  port_took VdpStatusRead b = k
   port_took VdpDataWrite b = with_vdp _ (length-set m.vdp.memory _ b) refl
   port_took VdpAddressWrite b = address_took m.vdp.held b
-  port_took GromDataRead b = k
-  port_took GromAddressRead b = k
-  port_took GromDataWrite b = k
   port_took GromAddressWrite b = half_took m.grom.half_written b
+  port_took _ b = k
 
   byte_took : (r : Region) (b : ℕ) → Keeps first (byte_written_in r m b)
-  byte_took (Rom at) b = k
   byte_took (LowExpansion at) b = with_low _ (length-set m.low_expansion at b)
   byte_took (HighExpansion at) b = with_high _ (length-set m.high_expansion at b)
   byte_took (Scratchpad at) b = with_pad _ (length-set m.scratchpad at b)
   byte_took (PortOf port) b = port_took port b
-  byte_took Unmapped b = k
+  byte_took _ b = k
 
 -- a step keeps them
 pub step_leaves : (first : Memory) (x : MachineState) → Keeps first x.cpu.memory → Keeps first (machine_step x).1.cpu.memory

@@ -45,12 +45,6 @@ longer p x y n size = length-append p (x ∷ y ∷ []) ∙ omega (arith, size)
 registers_from : (q p b a : List ℕ) (n count : ℕ) → length q ≡ 2 * n → length p ≡ 2 * n → length b ≡ 2 * count → length a ≡ 2 * count
     → registers_applied (flat_map (register_change (q ++ b) (p ++ a)) (range_with_len n count)) (p ++ b) ≡ p ++ a
 registers_from q p [] [] n zero qs ps bs al = refl
-registers_from q p b (x ∷ a) n zero qs ps bs al = let no : ⊥ = omega arith in absurd no
-registers_from q p (x ∷ b) a n zero qs ps bs al = let no : ⊥ = omega arith in absurd no
-registers_from q p [] a n (suc count) qs ps bs al = let no : ⊥ = omega arith in absurd no
-registers_from q p (x ∷ []) a n (suc count) qs ps bs al = let no : ⊥ = omega arith in absurd no
-registers_from q p (x ∷ y ∷ b) [] n (suc count) qs ps bs al = let no : ⊥ = omega arith in absurd no
-registers_from q p (x ∷ y ∷ b) (u ∷ []) n (suc count) qs ps bs al = let no : ⊥ = omega arith in absurd no
 registers_from q p (x ∷ y ∷ b) (u ∷ v ∷ a) n (suc count) qs ps bs al =
     rw (first_at q n qs x y b, second_at q n qs x y b, first_at p n ps u v a, second_at p n ps u v a)
     (by (nat_eq x u) (nat_eq y v) refl refl
@@ -69,8 +63,8 @@ registers_from q p (x ∷ y ∷ b) (u ∷ v ∷ a) n (suc count) qs ps bs al =
         let same : x ≡ u = grind (arith, nat_tests) in
         let also : y ≡ v = grind (arith, nat_tests) in
         ap₂ (λ z w. registers_applied others (p ++ z ∷ w ∷ b)) same also ∙ left
-    by true false e f left = ap (registers_applied others) (both_set p n ps x y b u v) ∙ left
-    by false t e f left = ap (registers_applied others) (both_set p n ps x y b u v) ∙ left
+    by _ _ e f left = ap (registers_applied others) (both_set p n ps x y b u v) ∙ left
+registers_from q p _ _ n _ qs ps bs al = let no : ⊥ = omega arith in absurd no
 
 registers_lead : (b a : List ℕ) → length b ≡ 32 → length a ≡ 32 → registers_applied (register_changes b a) b ≡ a
 registers_lead b a bl al = registers_from [] [] b a 0 16 refl refl bl al
@@ -85,19 +79,17 @@ number_renewed old new = by (nat_eq old new) refl
 
 held_renewed : (old new : Option ℕ) → renewed (new_held old new) old ≡ new
 held_renewed None None = refl
-held_renewed None (Some new) = refl
-held_renewed (Some old) None = refl
 held_renewed (Some old) (Some new) = by (nat_eq old new) refl
   where
     by : (s : Bool) → nat_eq old new ≡ s → renewed (option_map Some (cond s None (Some new))) (Some old) ≡ Some new
     by true e = ap Some (let same : old ≡ new = grind (arith, nat_tests) in same)
     by false e = refl
+held_renewed _ _ = refl
 
 mark_renewed : (old new : Bool) → renewed (new_mark old new) old ≡ new
 mark_renewed false false = refl
-mark_renewed false true = refl
 mark_renewed true false = refl
-mark_renewed true true = refl
+mark_renewed _ _ = refl
 
 latches_lead : (old new : Latches) → latches_applied (latch_changes old new) old ≡ new
 latches_lead old new =

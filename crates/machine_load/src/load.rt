@@ -5,7 +5,7 @@ ghost use Rattle.std.specs.FinMap.{entries};
 ghost use Rattle.console_defs.specs.Vdp.{IsNewVdp};
 ghost use Rattle.console_defs.specs.Grom.{new_grom};
 ghost use Rattle.load_defs.specs.Loaded.{IsLoaded, IsLoadedMachine, with_words, with_first_word};
-ghost use Rattle.link_loader.specs.View.{defined_linked};
+ghost use Rattle.link_loader.specs.View.{model_of_linked};
 
 use console_bus::Bus;
 use grom_counter::Grom;
@@ -25,7 +25,7 @@ pub fn load_machine(
     first: u16,
 ) -> Result<Machine, AllocError>
     requires { length grom.now ≡ 65536 }
-    ensures { IfOk result (λ machine. IsLoadedMachine (defined_linked linked.now) grom.now first wp pc machine) }
+    ensures { IfOk result (λ machine. IsLoadedMachine (model_of_linked linked.now) grom.now first wp pc machine) }
 {
     let bus = load_memory(alloc, linked, grom, first)?;
     Ok(Machine::new(bus, wp, pc))
@@ -34,7 +34,7 @@ pub fn load_machine(
 /// A memory that holds the linked words and one more.
 fn load_memory(alloc: Global, linked: &Linked, grom: &[u8], first: u16) -> Result<Bus, AllocError>
     requires { length grom.now ≡ 65536 }
-    ensures { IfOk result (IsLoaded (defined_linked linked.now) grom.now first) }
+    ensures { IfOk result (IsLoaded (model_of_linked linked.now) grom.now first) }
 {
     let vdp = Vdp::new(alloc)?;
     let grom = Grom::new(alloc, grom)?;
@@ -55,7 +55,7 @@ fn set_first_word(bus: &mut Bus, word: u16)
 
 /// Puts the linked words at their addresses.
 fn place_words(bus: &mut Bus, linked: &Linked)
-    ensures { bus.new ≡ with_words (entries (defined_linked linked.now).words) bus.old }
+    ensures { bus.new ≡ with_words (entries (model_of_linked linked.now).words) bus.old }
 {
     for index in 0..linked.len() {
         let (at, word) = linked.pair(index);

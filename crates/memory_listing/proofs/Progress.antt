@@ -3,7 +3,7 @@ use Rattle.std.proofs.Common.{◌≡◌, ℕ, zero, suc, ◌+◌, List, [], ◌�
 use Rattle.std.specs.Option.{unwrap_or}
 use Rattle.std.specs.List.{slice_get}
 use Rattle.std.proofs.Math.Numerals.{add-one}
-pub use Rattle.bench_io.proofs.Progress.{Listed, listed_none, listed_more, listed_missed, listed_same, listed_all}
+pub use Rattle.bench_io.proofs.Progress.{Listed, listed_more, listed_missed, listed_same, listed_all}
 
 -- an item of a list, and what stands behind it
 drop_item : {X : Type 0} (items : List X) (i : ℕ) (item : X) → slice_get items i ≡ Some item → drop i items ≡ item ∷ drop (suc i) items

@@ -6,7 +6,7 @@ ghost use Rattle.std.specs.FinMap.{entries, len};
 ghost use Rattle.arrayvec.specs.ArrayVec.{array_vec_len};
 ghost use Rattle.bench_io.specs.Written.{Written};
 ghost use Rattle.report_defs.specs.MemoryListing as spec;
-ghost use Rattle.link_loader.specs.View.{defined_linked};
+ghost use Rattle.link_loader.specs.View.{model_of_linked};
 
 use asm_text::word_digits;
 use bench_io::{Failed, Sink, put_chunk};
@@ -19,7 +19,7 @@ const MORE_WORDS: usize = 7;
 /// Writes the words in rows: up to eight whose addresses follow each other.
 pub(crate) fn put_words<O: Sink>(linked: &Linked, out: &mut O) -> Result<(), Failed>
     ensures { Written result (O.state out.old) (O.state out.new)
-        (spec.word_rows (entries (defined_linked linked.now).words)) }
+        (spec.word_rows (entries (model_of_linked linked.now).words)) }
 {
     let mut belonging = 0;
     for index in 0..linked.len() {
@@ -39,10 +39,10 @@ pub(crate) fn put_words<O: Sink>(linked: &Linked, out: &mut O) -> Result<(), Fai
 fn following(linked: &Linked, most: usize, at: u32, index: usize) -> usize
     requires most { most ≤ 7 }
     requires at { at + 2 * most < 2 ^ 32 }
-    requires index { index ≤ len (defined_linked linked.now).words }
-    ensures count { result ≡ spec.following most at (drop index (entries (defined_linked linked.now).words)) }
+    requires index { index ≤ len (model_of_linked linked.now).words }
+    ensures count { result ≡ spec.following most at (drop index (entries (model_of_linked linked.now).words)) }
     ensures most { result ≤ most }
-    ensures within { index + result ≤ len (defined_linked linked.now).words }
+    ensures within { index + result ≤ len (model_of_linked linked.now).words }
 {
     if most == 0 || index == linked.len() {
         return 0;
@@ -59,9 +59,9 @@ fn following(linked: &Linked, most: usize, at: u32, index: usize) -> usize
 fn words_line(linked: &Linked, from: usize, end: usize) -> Line
     requires some { from < end }
     requires eight { end ≤ from + 8 }
-    requires within { end ≤ len (defined_linked linked.now).words }
+    requires within { end ≤ len (model_of_linked linked.now).words }
     ensures { result.items
-        ≡ spec.words_line (take (end - from) (drop from (entries (defined_linked linked.now).words))) }
+        ≡ spec.words_line (take (end - from) (drop from (entries (model_of_linked linked.now).words))) }
 {
     let mut line = Line::new();
     let (at, _) = linked.pair(from);
@@ -75,9 +75,9 @@ fn words_line(linked: &Linked, from: usize, end: usize) -> Line
 fn append_words(line: &mut Line, linked: &Linked, from: usize, end: usize)
     requires room { array_vec_len line.old + 5 * (end - from) ≤ 127 }
     requires order { from ≤ end }
-    requires within { end ≤ len (defined_linked linked.now).words }
+    requires within { end ≤ len (model_of_linked linked.now).words }
     ensures bytes { line.new.items ≡ line.old.items
-        ++ flat_map spec.word_text (take (end - from) (drop from (entries (defined_linked linked.now).words))) }
+        ++ flat_map spec.word_text (take (end - from) (drop from (entries (model_of_linked linked.now).words))) }
     ensures len { array_vec_len line.new ≡ array_vec_len line.old + 5 * (end - from) }
 {
     for index in from..end {

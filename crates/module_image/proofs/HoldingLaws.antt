@@ -13,7 +13,8 @@ use Rattle.asm_defs.specs.declared.location.Part.{Part}
 use Rattle.asm_defs.specs.declared.location.Part.TheVariants as part
 use Rattle.asm_defs.specs.declared.location.Location.{Location}
 use Rattle.asm_defs.specs.SecondChecks.{Outcome, Nothing, Words, Bytes, Entry}
-use Rattle.asm_defs.specs.Memory.{Settled, same_part, covers, is_placed, has_word, words_in, any_from, part_words, bytes_in, word_contents, behind_word}
+use Rattle.asm_defs.specs.Memory.{Settled, same_part, covers, is_placed, has_word, words_in, any_from, part_words, bytes_in, behind_word}
+use Rattle.asm_defs.proofs.PlacedWords.{word_contents}
 use Rattle.asm_defs.specs.Memory.{spot_by, contents_by, contents, content_at, references_of, is_placed_in}
 use Rattle.module_image.specs.Tables.{cell, put_from, is_taken, is_taken_word, words_taken}
 use Rattle.module_image.proofs.TableLaws.{count_same}

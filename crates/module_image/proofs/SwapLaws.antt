@@ -18,8 +18,9 @@ use Rattle.asm_defs.specs.declared.location.Part.TheVariants as part
 use Rattle.asm_defs.specs.declared.location.Location.{Location}
 use Rattle.asm_defs.specs.SecondChecks.{Outcome, Nothing, Words, Bytes, Entry}
 use Rattle.asm_defs.specs.Memory.{Settled, same_part, covers, is_placed, has_word, words_in, word_count, overlaps, any_from, part_words, bytes_in}
-use Rattle.asm_defs.specs.Memory.{spot_by, word_of, behind_word, word_contents, behind_words, contents_by, contents, content_at, references_of, behind_by}
+use Rattle.asm_defs.specs.Memory.{spot_by, word_of, behind_word, contents_by, contents, content_at, references_of, behind_by}
 use Rattle.asm_defs.specs.Memory.{is_placed_in}
+use Rattle.asm_defs.proofs.PlacedWords.{word_contents, behind_words}
 use Rattle.asm_defs.specs.Modules.{with_room, entry_by}
 use Rattle.asm_defs.specs.Growing.{is_own, stands}
 use Rattle.module_image.specs.Tables.{cell, put_from}

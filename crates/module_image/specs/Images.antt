@@ -1,6 +1,6 @@
 -- What the code keeps of the bytes that lines place.
 use Rattle.std.specs.Prelude.{◌≡◌, ℕ, Bool, IsTrue, false, List, ◌∷◌, Option, None, Result, if◌then◌else◌}
-use Rattle.source_defs.specs.Refusals.{seen}
+use Rattle.source_defs.specs.Refusals.{map_ok}
 use Rattle.object_defs.specs.Modules.{Reference}
 use Rattle.asm_defs.specs.declared.causes.AsmCause.{AsmCause}
 use Rattle.asm_defs.specs.declared.content.Content.{Content}
@@ -43,7 +43,7 @@ any_laid image at count = any_in at.part image at.number count
 -- a line was placed after others, and whether it has room
 pub record IsPlacedBehind {A : Type 0} (references : List Reference) (earlier : List Settled) (line : Settled)
     (result : Result A AsmCause) (new : Image) : Type 0 where
-  pub room : seen (λ _. line) result ≡ with_room earlier line
+  pub room : map_ok (λ _. line) result ≡ with_room earlier line
   pub image : IsImage references (line ∷ earlier) new
 
 -- so it is where its bytes were given

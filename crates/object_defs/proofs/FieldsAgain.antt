@@ -53,15 +53,12 @@ unfolding trim_trailing_blanks
 name_again [] k h = no_blanks k
 name_again (c ∷ name) k h = let other : is_blank c ≡ false = printed_no_blank c (and_left (is_printed c) (all_printed name) h) in rw (other, name_again name k (and_right (is_printed c) (all_printed name) h)) refl
 
-blank_count : (k : ℕ) → length (replicate {A = ℕ} k 0x20) ≡ k
-blank_count k = length-replicate {A = ℕ} k 0x20
-
 -- a name in a field of six characters
 pub kept_length : (name : List ℕ) → is_kept_name name ≡ true → length (padded 6 name) ≡ 6
 kept_length name h =
     let front : (nat_lt 0 (length name) && nat_le (length name) 6) ≡ true = and_left _ (all_printed name) h in
     let short : length name ≤ 6 = let le : nat_le (length name) 6 ≡ true = and_right (nat_lt 0 (length name)) _ front in grind (arith, nat_tests) in
-    let behind_name = blank_count (6 - length name) in
+    let behind_name = length-replicate {A = ℕ} (6 - length name) 0x20 in
     length-append name (replicate {A = ℕ} (6 - length name) 0x20) ∙ omega arith
 
 pub symbol_again : (tag n : ℕ) (name rest : List ℕ) → is_kept_name name ≡ true → symbol_at Plain tag (word_digits n ++ (padded 6 name ++ rest)) ≡ Ok name

@@ -9,7 +9,7 @@ use Rattle.object_defs.specs.declared.causes.TagCause.TheVariants.{TooMany}
 use Rattle.object_defs.specs.declared.tag.Tag.{Tag}
 use Rattle.object_defs.specs.declared.tag.Tag.TheVariants as tags
 use Rattle.object_defs.specs.Modules.{Module, most_modules}
-use Rattle.object_defs.specs.Groups.{Group, Header, Entry, Referred, Defined, Sum, IgnoredSum, Address, Word, EndOfLine, EndOfModule, FoundGroup, Whole, Broken}
+use Rattle.object_defs.specs.Groups.{Group, Header, EndOfModule, FoundGroup, Whole, Broken}
 use Rattle.object_defs.specs.Groups.{tag_found, groups_of}
 use Rattle.object_defs.specs.Reading.{Found, NumberedLine, stands, stands_first, module_of, added, with_group, with_groups, with_lines, ended, nothing_found}
 use Rattle.object_defs.specs.Reading.{last_number, form_of, text_lines, read}
@@ -42,16 +42,8 @@ some_module modules m = length-append modules (m ∷ [])
 -- behind the groups of an open module
 grows : (modules : List Module) (first : Group) (before : List Group) (group : Group) → length modules + 1 ≤ 64 → count_of (added (record { modules = modules; current = first ∷ before }) group) ≤ 64
 unfolding open_count
-grows modules first before (Header size name) le = le
-grows modules first before (Entry at) le = le
-grows modules first before (Referred reference) le = le
-grows modules first before (Defined definition) le = le
-grows modules first before Sum le = le
-grows modules first before IgnoredSum le = le
-grows modules first before (Address at) le = le
-grows modules first before (Word word) le = le
-grows modules first before EndOfLine le = le
 grows modules first before EndOfModule le = let more = some_module modules (module_of (first ∷ before)) in omega (arith, more, le)
+grows modules first before _ le = le
 
 -- the first group of a module
 begins : (modules : List Module) (character : ℕ) (group : Group) (tag : Tag) → length modules + 0 ≤ 64
@@ -62,15 +54,7 @@ begins modules character (Header size name) tag le e = by (nat_le most_modules (
     by : (full : Bool) → nat_le most_modules (length modules) ≡ full → (if full then Err TooMany else Ok tags.Header) ≡ Ok tag → length modules + 1 ≤ 64
     by true is e = absurd cc
     by false is e = grind (arith, nat_tests)
-begins modules character (Entry at) tag le e = absurd cc
-begins modules character (Referred reference) tag le e = absurd cc
-begins modules character (Defined definition) tag le e = absurd cc
-begins modules character Sum tag le e = absurd cc
-begins modules character IgnoredSum tag le e = absurd cc
-begins modules character (Address at) tag le e = absurd cc
-begins modules character (Word word) tag le e = absurd cc
-begins modules character EndOfLine tag le e = absurd cc
-begins modules character EndOfModule tag le e = absurd cc
+begins modules character _ tag le e = absurd cc
 
 same_found : (a b : Found) → ◌≡◌ {A = Result Found TagCause} (Ok a) (Ok b) → a ≡ b
 same_found a b e = cc

@@ -31,9 +31,8 @@ Adds m text after = (kept : Kept) (before rest : List ℕ) → leads (with_curre
 left_over : (before : List ℕ) (k : ℕ) (xs rest : List ℕ) → length xs ≡ k → groups_after Plain before k (xs ++ rest) ≡ groups_after Plain (before ++ xs) 0 rest
 unfolding groups_after
 left_over before zero [] rest e = ap (λ (b : List ℕ). groups_after Plain b 0 rest) (sym (append-nil before))
-left_over before (suc k) [] rest e = absurd (omega arith)
-left_over before zero (x ∷ xs) rest e = absurd (omega arith)
 left_over before (suc k) (x ∷ xs) rest e = left_over (before ++ x ∷ []) k xs rest (omega arith) ∙ ap (λ (b : List ℕ). groups_after Plain b 0 rest) (append_assoc before (x ∷ []) xs)
+left_over before _ _ rest e = absurd (omega arith)
 
 -- a group that is whole and is added
 pub group_adds : (kept after : Kept) (before : List ℕ) (character : ℕ) (fields rest : List ℕ) (group : Group)
@@ -89,8 +88,7 @@ addressed_adds m piece fits evens few =
 same_is : (a b : Spot) → same_spot a b ≡ true → a ≡ b
 same_is (Absolute a) (Absolute b) h = let e : a ≡ b = grind (arith, nat_tests) in ap Absolute e
 same_is (Relocatable a) (Relocatable b) h = let e : a ≡ b = grind (arith, nat_tests) in ap Relocatable e
-same_is (Absolute a) (Relocatable b) h = cc
-same_is (Relocatable a) (Absolute b) h = cc
+same_is _ _ h = cc
 
 -- a word, with its address where that is not the next
 pub piece_adds : (next : Option Spot) (m : OpenModule) (piece : Piece) → ((s : Spot) → next ≡ Some s → m.load ≡ s) → FitsPiece piece → StandsEven piece → length m.found.pieces < 32768

@@ -54,9 +54,7 @@ module _ (form : TextForm) (line : List ℕ) where
     where
       by : (past : Bool) → nat_le (length line) at ≡ past → ((next : ℕ) → length line ≤ next + most → groups_from most form line next ≡ after next)
           → groups_from (suc most) form line at ≡ after at
-      by true e others =
-          let past : length line ≤ at = grind (arith, nat_tests, e) in
-          rw e (sym (none_after at past))
+      by true e others = let past : length line ≤ at = grind (arith, nat_tests, e) in rw e (sym (none_after at past))
       by false e others =
           let inside : at < length line = grind (arith, nat_tests, e) in
           let group : FoundGroup = found at inside in

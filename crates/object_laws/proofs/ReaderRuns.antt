@@ -74,14 +74,13 @@ module _ (modules : List Module) (last : ℕ) where
   with_is : (groups : List Group) (at : FoundGroup) → kept_with (kept_of last (found_by groups)) at ≡ kept last (with_group (found_by groups) at)
   unfolding begun more
   with_is [] (Whole character (Header size name)) = first (stands_first (length modules) character (Some (tag_of_group (Header size name)))) size name
-  with_is [] (Whole character _) = refl
   with_is [] (Broken character tag cause) = broken_first (stands_first (length modules) character tag) cause (first_of character) (added (found_by []))
   with_is (last_group ∷ before) (Whole character (Entry at)) = behind (stands_behind (module_of (last_group ∷ before)) character (Some (tag_of_group (Entry at)))) (last_group ∷ before) (Entry at) refl
   with_is (last_group ∷ before) (Whole character (Referred reference)) = behind (stands_behind (module_of (last_group ∷ before)) character (Some (tag_of_group (Referred reference)))) (last_group ∷ before) (Referred reference) refl
   with_is (last_group ∷ before) (Whole character (Defined definition)) = behind (stands_behind (module_of (last_group ∷ before)) character (Some (tag_of_group (Defined definition)))) (last_group ∷ before) (Defined definition) refl
   with_is (last_group ∷ before) (Whole character (Word word)) = behind (stands_behind (module_of (last_group ∷ before)) character (Some (tag_of_group (Word word)))) (last_group ∷ before) (Word word) (word_grown (last_group ∷ before) word)
-  with_is (last_group ∷ before) (Whole character _) = refl
   with_is (last_group ∷ before) (Broken character tag cause) = broken (stands_behind (module_of (last_group ∷ before)) character tag) cause (grown (open_of (last_group ∷ before))) (added (found_by (last_group ∷ before)))
+  with_is _ _ = refl
 
 -- ---- the groups of a line, and lines
 

@@ -10,15 +10,15 @@ use Rattle.object_tags.specs.declared.error.TagError.{TagError}
 use Rattle.object_tags.specs.declared.error.TagError.TheVariants.{At, Memory}
 use Rattle.object_tags.specs.declared.parts.Module.{Module}
 use Rattle.object_tags.specs.declared.open_module.OpenModule.{OpenModule}
-use Rattle.object_tags.specs.Seen.{defined_module}
+use Rattle.object_tags.specs.Seen.{model_of_module}
 
 -- the module that is open
-abbrev pub defined_open : OpenModule → running.OpenModule
-defined_open m = record { found = defined_module m.found; load = m.load }
+abbrev pub model_of_open : OpenModule → running.OpenModule
+model_of_open m = record { found = model_of_module m.found; load = m.load }
 
 -- the modules that have ended
-abbrev pub defined_modules : List Module → List defined.Module
-defined_modules modules = map defined_module modules
+abbrev pub model_of_modules : List Module → List defined.Module
+model_of_modules modules = map model_of_module modules
 
 -- The cause is the one that is defined; if memory ran out, nothing is said.
 abbrev pub Fails : {Y : Type 0} → Failure → Result Y TagCause → Type 0

@@ -8,14 +8,14 @@ use Rattle.object_defs.specs.Reading.{NumberedLine}
 use Rattle.object_laws.specs.Running.{Kept, kept_lines, finished}
 use Rattle.object_tags.specs.declared.error.TagError.{TagError}
 use Rattle.object_tags.specs.declared.reader.Reader.{Reader}
-use Rattle.object_tags.specs.Answers.{defined_modules, defined_open, Refuses}
+use Rattle.object_tags.specs.Answers.{model_of_modules, model_of_open, Refuses}
 
 -- what the reader has kept
 abbrev pub kept_of : Reader → Kept
 kept_of reader =
     record {
-      modules = defined_modules reader.modules.items;
-      current = option_map defined_open reader.current;
+      modules = model_of_modules reader.modules.items;
+      current = option_map model_of_open reader.current;
       last = reader.last;
     }
 

@@ -5,20 +5,20 @@ use Rattle.object_tags.specs.declared.parts.Def.{Def}
 use Rattle.object_tags.specs.declared.parts.Ref.{Ref}
 use Rattle.object_tags.specs.declared.parts.Module.{Module}
 
-abbrev pub defined_def : Def → defined.Definition
-defined_def def = record { name = def.name; value = def.value }
+abbrev pub model_of_def : Def → defined.Definition
+model_of_def def = record { name = def.name; value = def.value }
 
-abbrev pub defined_ref : Ref → defined.Reference
-defined_ref ref = record { name = ref.name; last = ref.last }
+abbrev pub model_of_ref : Ref → defined.Reference
+model_of_ref ref = record { name = ref.name; last = ref.last }
 
 -- the module, with its names seen as their bytes
-abbrev pub defined_module : Module → defined.Module
-defined_module m =
+abbrev pub model_of_module : Module → defined.Module
+model_of_module m =
     record {
       name = m.name;
       size = m.size;
       pieces = m.pieces;
-      defs = map defined_def m.defs;
-      refs = map defined_ref m.refs;
+      defs = map model_of_def m.defs;
+      refs = map model_of_ref m.refs;
       entry = m.entry;
     }

@@ -3,7 +3,7 @@
 ghost use Rattle.std.specs.Prelude.{◌≡◌};
 ghost use Rattle.object_defs.specs.Groups as spec;
 ghost use Rattle.object_laws.specs.Running as running;
-ghost use Rattle.object_tags.specs.SeenGroups.{defined_group, defined_found, defined_whole};
+ghost use Rattle.object_tags.specs.SeenGroups.{model_of_group, model_of_found, model_of_whole};
 
 use crate::fields::number_size;
 use crate::module_name::ModuleName;
@@ -65,7 +65,7 @@ pub(crate) enum FoundGroup {
 impl Group {
     /// The tag that the group begins with.
     fn tag(&self) -> Tag
-        ensures { result ≡ spec.tag_of_group (defined_group self.now) }
+        ensures { result ≡ spec.tag_of_group (model_of_group self.now) }
     {
         match self {
             Group::Header { .. } => Tag::Header,
@@ -83,14 +83,14 @@ impl Group {
 
     /// Whether it is the last group of its line.
     fn is_last(&self) -> bool
-        ensures { result ≡ spec.is_last (defined_group self.now) }
+        ensures { result ≡ spec.is_last (model_of_group self.now) }
     {
         matches!(self, Group::EndOfLine | Group::EndOfModule)
     }
 
     /// How many characters the group has after its tag.
     fn size(&self, form: TextForm) -> usize
-        ensures { result ≡ spec.group_size form (defined_group self.now) }
+        ensures { result ≡ spec.group_size form (model_of_group self.now) }
     {
         match self {
             Group::Header { .. } => number_size(form) + 8,
@@ -105,7 +105,7 @@ impl Group {
 impl FoundGroup {
     /// The character in the place of a tag.
     pub(crate) fn character(&self) -> u8
-        ensures { result ≡ spec.character_found (defined_found self.now) }
+        ensures { result ≡ spec.character_found (model_of_found self.now) }
     {
         match self {
             FoundGroup::Whole { character, .. } | FoundGroup::Broken { character, .. } =>
@@ -115,7 +115,7 @@ impl FoundGroup {
 
     /// The tag, if the character is one.
     pub(crate) fn tag(&self) -> Option<Tag>
-        ensures { result ≡ spec.tag_found (defined_found self.now) }
+        ensures { result ≡ spec.tag_found (model_of_found self.now) }
     {
         match self {
             FoundGroup::Whole { group, .. } => Some(group.tag()),
@@ -125,7 +125,7 @@ impl FoundGroup {
 
     /// The group, or why there is none.
     pub(crate) fn group(&self) -> Result<Group, TagCause>
-        ensures { defined_whole result ≡ spec.group_found (defined_found self.now) }
+        ensures { model_of_whole result ≡ spec.group_found (model_of_found self.now) }
     {
         match self {
             FoundGroup::Whole { group, .. } => Ok(*group),
@@ -135,7 +135,7 @@ impl FoundGroup {
 
     /// How many characters stand after the tag.
     pub(crate) fn size(&self, form: TextForm) -> usize
-        ensures { result ≡ spec.size_found form (defined_found self.now) }
+        ensures { result ≡ spec.size_found form (model_of_found self.now) }
     {
         match self {
             FoundGroup::Whole { group, .. } => group.size(form),
@@ -145,7 +145,7 @@ impl FoundGroup {
 
     /// Whether no group of the line is looked for after it.
     pub(crate) fn ends_line(&self) -> bool
-        ensures { result ≡ spec.ends_line (defined_found self.now) }
+        ensures { result ≡ spec.ends_line (model_of_found self.now) }
     {
         match self {
             FoundGroup::Whole { group, .. } => group.is_last(),
@@ -155,7 +155,7 @@ impl FoundGroup {
 
     /// Whether it ends a module.
     pub(crate) fn ends_module(&self) -> bool
-        ensures { result ≡ running.ends_module (defined_found self.now) }
+        ensures { result ≡ running.ends_module (model_of_found self.now) }
     {
         match self {
             FoundGroup::Whole { group, .. } => matches!(group, Group::EndOfModule),

@@ -5,7 +5,7 @@ ghost use Rattle.object_defs.specs.Digits as digits;
 ghost use Rattle.object_defs.specs.Modules as modules;
 ghost use Rattle.object_defs.specs.Writing as writing;
 ghost use Rattle.object_defs.specs.Laws.{FitsSpot, FitsDefinition, FitsReference};
-ghost use Rattle.object_tags.specs.Seen.{defined_def, defined_ref};
+ghost use Rattle.object_tags.specs.Seen.{model_of_def, model_of_ref};
 
 use crate::module_name::ModuleName;
 use crate::parts::{Def, Ref};
@@ -86,8 +86,8 @@ pub(crate) fn entry_text(entry: Spot) -> GroupText
 }
 
 pub(crate) fn definition_text(def: &Def) -> GroupText
-    ensures text { result.items ≡ writing.definition_text (defined_def def.now) }
-    ensures fits { FitsDefinition (defined_def def.now) }
+    ensures text { result.items ≡ writing.definition_text (model_of_def def.now) }
+    ensures fits { FitsDefinition (model_of_def def.now) }
 {
     named_group(
         Tag::Definition(kind_of(def.value)),
@@ -97,8 +97,8 @@ pub(crate) fn definition_text(def: &Def) -> GroupText
 }
 
 pub(crate) fn reference_text(reference: &Ref) -> GroupText
-    ensures text { result.items ≡ writing.reference_text (defined_ref reference.now) }
-    ensures fits { FitsReference (defined_ref reference.now) }
+    ensures text { result.items ≡ writing.reference_text (model_of_ref reference.now) }
+    ensures fits { FitsReference (model_of_ref reference.now) }
 {
     named_group(
         Tag::Reference(kind_of(reference.last)),

@@ -3,7 +3,7 @@
 ghost use Rattle.std.specs.Prelude.{◌≡◌, ◌≤◌, ◌<◌, ◌^◌, ◌%◌, length, take, drop, sum, []};
 ghost use Rattle.object_defs.specs.Groups as spec;
 ghost use Rattle.object_laws.specs.Running.{groups_after};
-ghost use Rattle.object_tags.specs.SeenGroups.{defined_found, defined_whole};
+ghost use Rattle.object_tags.specs.SeenGroups.{model_of_found, model_of_whole};
 
 use crate::checksum::{complement, sum_of};
 use crate::fields::{behind, front, module_name_at, number_at, symbol_at};
@@ -71,11 +71,11 @@ impl<'a> Groups<'a> {
 
 impl<'a> Iterator for Groups<'a> {
     ghost use Rattle.std.specs.Iterator.{YieldsFirstBy, item_count};
-    ghost use Rattle.object_tags.specs.SeenGroups.{defined_found};
+    ghost use Rattle.object_tags.specs.SeenGroups.{model_of_found};
 
     type Item = FoundGroup;
 
-    ghost next_gives = { YieldsFirstBy defined_found (λ s. s) };
+    ghost next_gives = { YieldsFirstBy model_of_found (λ s. s) };
 
     ghost remaining = { item_count (λ s. s) };
 
@@ -118,7 +118,7 @@ fn found_with(
     tag: Option<Tag>,
     fields: &[u8],
 ) -> FoundGroup
-    ensures { defined_found result ≡ spec.found_with form computed character tag fields.now }
+    ensures { model_of_found result ≡ spec.found_with form computed character tag fields.now }
 {
     let Some(tag) = tag else {
         return FoundGroup::Broken {
@@ -145,7 +145,7 @@ fn group_of(
     tag: Tag,
     fields: &[u8],
 ) -> Result<Group, TagCause>
-    ensures { defined_whole result ≡ spec.group_of form computed character tag fields.now }
+    ensures { model_of_whole result ≡ spec.group_of form computed character tag fields.now }
 {
     Ok(match tag {
         Tag::Header => Group::Header {
@@ -177,7 +177,7 @@ fn group_of(
 
 /// A checksum, against the one that is computed.
 fn compared(computed: u16, found: u16) -> Result<Group, TagCause>
-    ensures { defined_whole result ≡ spec.compared computed found }
+    ensures { model_of_whole result ≡ spec.compared computed found }
 {
     if found == computed {
         Ok(Group::Sum)

@@ -3,9 +3,9 @@
 ghost use Rattle.std.specs.Prelude.{◌≡◌, ◌≤◌, OnOk};
 ghost use Rattle.object_defs.specs.Reading as reading;
 ghost use Rattle.object_laws.specs.Running as running;
-ghost use Rattle.object_tags.specs.Answers.{defined_open, Makes, Leaves};
-ghost use Rattle.object_tags.specs.Seen.{defined_module};
-ghost use Rattle.object_tags.specs.SeenGroups.{defined_group, defined_found};
+ghost use Rattle.object_tags.specs.Answers.{model_of_open, Makes, Leaves};
+ghost use Rattle.object_tags.specs.Seen.{model_of_module};
+ghost use Rattle.object_tags.specs.SeenGroups.{model_of_group, model_of_found};
 
 use crate::error::Failure;
 use crate::group::{FoundGroup, Group};
@@ -42,7 +42,7 @@ impl OpenModule {
         ended: usize,
         found: FoundGroup,
     ) -> Result<OpenModule, Failure>
-        ensures { Makes defined_open result (running.begun ended (defined_found found)) }
+        ensures { Makes model_of_open result (running.begun ended (model_of_found found)) }
     {
         stands_first(ended, found.character(), found.tag())?;
         match found.group()? {
@@ -53,7 +53,7 @@ impl OpenModule {
 
     /// A module that says nothing yet.
     fn new(alloc: Global, size: u16, name: ModuleName) -> OpenModule
-        ensures { defined_open result ≡ running.opened size name }
+        ensures { model_of_open result ≡ running.opened size name }
     {
         OpenModule {
             found: Module {
@@ -71,7 +71,8 @@ impl OpenModule {
     /// Takes one more group.
     #[tactic(auto, unfolding(object_laws::specs::Running::more))]
     pub(crate) fn take_group(&mut self, found: FoundGroup) -> Result<(), Failure>
-        ensures { Leaves result (defined_open self.new) (running.more (defined_open self.old) (defined_found found)) }
+        ensures { Leaves result (model_of_open self.new)
+            (running.more (model_of_open self.old) (model_of_found found)) }
     {
         self.stands_behind(found.character(), found.tag())?;
         self.grow(found.group()?)?;
@@ -80,7 +81,7 @@ impl OpenModule {
 
     /// The tag, where it may stand after the groups of the module.
     fn stands_behind(&self, character: u8, tag: Option<Tag>) -> Result<Tag, TagCause>
-        ensures { result ≡ reading.stands_behind (defined_module self.now.found) character tag }
+        ensures { result ≡ reading.stands_behind (model_of_module self.now.found) character tag }
     {
         match tag {
             None | Some(Tag::Header) => Err(TagCause::BadTag(character)),
@@ -100,7 +101,7 @@ impl OpenModule {
 
     /// Adds what a group says.
     fn grow(&mut self, group: Group) -> Result<(), AllocError>
-        ensures { OnOk result (defined_open self.new ≡ running.grown (defined_open self.old) (defined_group group)) }
+        ensures { OnOk result (model_of_open self.new ≡ running.grown (model_of_open self.old) (model_of_group group)) }
     {
         match group {
             Group::Entry(at) => self.found.entry = Some(at),

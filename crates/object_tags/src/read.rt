@@ -4,7 +4,7 @@ ghost use Rattle.std.specs.Prelude.{◌≡◌, ◌<◌, ◌^◌, ◌*◌, ◌+�
 ghost use Rattle.source_defs.specs.Lines.{lines as lines_of};
 ghost use Rattle.object_defs.specs.declared.form.TextForm.TheVariants.{Plain};
 ghost use Rattle.object_defs.specs.Reading as reading;
-ghost use Rattle.object_tags.specs.Answers.{Gives, defined_modules};
+ghost use Rattle.object_tags.specs.Answers.{Gives, model_of_modules};
 ghost use Rattle.object_tags.specs.Reads.{Reads};
 
 use crate::error::TagError;
@@ -27,7 +27,7 @@ const COLUMNS: usize = 80;
 /// has one. `Memory` means that memory ran out.
 pub fn read_modules(alloc: Global, bytes: &[u8]) -> Result<Vec<Module>, TagError>
     requires { length bytes.now < 2 ^ 32 }
-    ensures { Gives (λ modules. defined_modules modules.items) result (reading.read bytes.now) }
+    ensures { Gives (λ modules. model_of_modules modules.items) result (reading.read bytes.now) }
 {
     let mut reader = Reader::new(alloc);
     take_text(alloc, &mut reader, bytes)?;

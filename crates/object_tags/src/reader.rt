@@ -2,9 +2,9 @@
 
 ghost use Rattle.std.specs.Prelude.{◌≡◌, ◌<◌, ◌^◌, length, [], IsFalse, None, Some};
 ghost use Rattle.object_laws.specs.Running as running;
-ghost use Rattle.object_tags.specs.Answers.{Leaves, Gives, defined_modules, defined_open};
+ghost use Rattle.object_tags.specs.Answers.{Leaves, Gives, model_of_modules, model_of_open};
 ghost use Rattle.object_tags.specs.Reads.{kept_of, TakesLine};
-ghost use Rattle.object_tags.specs.SeenGroups.{defined_found};
+ghost use Rattle.object_tags.specs.SeenGroups.{model_of_found};
 
 use crate::error::{Failure, TagError};
 use crate::fields::all_blank;
@@ -79,7 +79,7 @@ impl Reader {
 
     /// Takes one more group.
     fn take_group(&mut self, alloc: Global, found: FoundGroup) -> Result<(), Failure>
-        ensures { Leaves result (kept_of self.new) (running.kept_with (kept_of self.old) (defined_found found)) }
+        ensures { Leaves result (kept_of self.new) (running.kept_with (kept_of self.old) (model_of_found found)) }
     {
         match self.current.take() {
             None => self.begin(alloc, found),
@@ -90,7 +90,7 @@ impl Reader {
 
     /// Takes a group where no module has begun.
     fn begin(&mut self, alloc: Global, found: FoundGroup) -> Result<(), Failure>
-        ensures { Leaves result (kept_of self.new) (running.kept_by None (kept_of self.old) (defined_found found)) }
+        ensures { Leaves result (kept_of self.new) (running.kept_by None (kept_of self.old) (model_of_found found)) }
     {
         let module = OpenModule::begin(alloc, self.modules.len(), found)?;
         self.current = Some(module);
@@ -99,9 +99,9 @@ impl Reader {
 
     /// Takes a group of a module that it does not end.
     fn go_on(&mut self, mut begun: OpenModule, found: FoundGroup) -> Result<(), Failure>
-        requires { IsFalse (running.ends_module (defined_found found)) }
+        requires { IsFalse (running.ends_module (model_of_found found)) }
         ensures { Leaves result (kept_of self.new)
-            (running.kept_by (Some (defined_open begun)) (kept_of self.old) (defined_found found)) }
+            (running.kept_by (Some (model_of_open begun)) (kept_of self.old) (model_of_found found)) }
     {
         begun.take_group(found)?;
         self.current = Some(begun);
@@ -110,7 +110,7 @@ impl Reader {
 
     /// The modules, or `NoEnd` where the last one has not ended.
     pub(crate) fn finish(self) -> Result<Vec<Module>, TagError>
-        ensures { Gives (λ modules. defined_modules modules.items) result
+        ensures { Gives (λ modules. model_of_modules modules.items) result
             (running.finished (kept_of self) (kept_of self).current) }
     {
         match self.current {

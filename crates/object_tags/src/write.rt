@@ -7,7 +7,7 @@ ghost use Rattle.object_defs.specs.Writing.{Placed, Group, definition_text, refe
 ghost use Rattle.object_defs.specs.Writing.{written, written_lines};
 ghost use Rattle.object_defs.specs.Reading.{read};
 ghost use Rattle.object_defs.specs.Laws.{FitsSpot, FitsPiece, FitsDefinition, FitsReference};
-ghost use Rattle.object_tags.specs.Seen.{defined_def, defined_ref, defined_module};
+ghost use Rattle.object_tags.specs.Seen.{model_of_def, model_of_ref, model_of_module};
 ghost use Rattle.object_tags.specs.Lines.{Wrote, bytes_of};
 
 use crate::group_text;
@@ -24,9 +24,9 @@ use std::alloc::{AllocError, Global};
 /// # Errors
 /// `AllocError` means that memory ran out.
 pub fn write_module(alloc: Global, module: &Module) -> Result<Vec<u8>, AllocError>
-    requires { HasText (defined_module «module».now) }
-    ensures text { IfOk result (λ text. text.items ≡ written (defined_module «module».now)) }
-    ensures read_again { IfOk result (λ text. read text.items ≡ Ok (defined_module «module».now ∷ [])) }
+    requires { HasText (model_of_module «module».now) }
+    ensures text { IfOk result (λ text. text.items ≡ written (model_of_module «module».now)) }
+    ensures read_again { IfOk result (λ text. read text.items ≡ Ok (model_of_module «module».now ∷ [])) }
 {
     let lines = write_lines(alloc, module)?;
     let mut text = Vec::new(alloc);
@@ -44,10 +44,10 @@ pub fn write_module(alloc: Global, module: &Module) -> Result<Vec<u8>, AllocErro
 /// # Errors
 /// `AllocError` means that memory ran out.
 pub fn write_lines(alloc: Global, module: &Module) -> Result<Vec<ObjectLine>, AllocError>
-    requires { HasText (defined_module «module».now) }
-    ensures lines { IfOk result (λ lines. bytes_of lines.items ≡ written_lines (defined_module «module».now)) }
+    requires { HasText (model_of_module «module».now) }
+    ensures lines { IfOk result (λ lines. bytes_of lines.items ≡ written_lines (model_of_module «module».now)) }
     ensures read_again { IfOk result
-        (λ lines. read (concat (bytes_of lines.items)) ≡ Ok (defined_module «module».now ∷ [])) }
+        (λ lines. read (concat (bytes_of lines.items)) ≡ Ok (model_of_module «module».now ∷ [])) }
 {
     let mut writer = Writer::new(alloc);
     writer.put_group(&group_text::header_text(module.size, &module.name))?;
@@ -70,8 +70,8 @@ fn put_pieces(writer: &mut Writer, pieces: &[Piece]) -> Result<(), AllocError>
 
 fn put_defs(writer: &mut Writer, defs: &[Def]) -> Result<(), AllocError>
     ensures wrote { OnOk result
-        (Wrote (map (λ def. Group (definition_text (defined_def def))) defs.now) writer.old writer.new) }
-    ensures fits { OnOk result (AllByRecursion (λ def. FitsDefinition (defined_def def)) defs.now) }
+        (Wrote (map (λ def. Group (definition_text (model_of_def def))) defs.now) writer.old writer.new) }
+    ensures fits { OnOk result (AllByRecursion (λ def. FitsDefinition (model_of_def def)) defs.now) }
 {
     for def in defs {
         writer.put_group(&group_text::definition_text(def))?;
@@ -81,8 +81,8 @@ fn put_defs(writer: &mut Writer, defs: &[Def]) -> Result<(), AllocError>
 
 fn put_refs(writer: &mut Writer, refs: &[Ref]) -> Result<(), AllocError>
     ensures wrote { OnOk result
-        (Wrote (map (λ ref. Group (reference_text (defined_ref ref))) refs.now) writer.old writer.new) }
-    ensures fits { OnOk result (AllByRecursion (λ ref. FitsReference (defined_ref ref)) refs.now) }
+        (Wrote (map (λ ref. Group (reference_text (model_of_ref ref))) refs.now) writer.old writer.new) }
+    ensures fits { OnOk result (AllByRecursion (λ ref. FitsReference (model_of_ref ref)) refs.now) }
 {
     for reference in refs {
         writer.put_group(&group_text::reference_text(reference))?;

@@ -42,8 +42,7 @@ record Assembled (found : Result Module (Refusal AsmCause)) (pieces : List (List
 assembled : (found : Result Module (Refusal AsmCause)) (pieces : List (List ℕ)) →
     Whole Done pieces ≡ asm_report found → Assembled found pieces
 assembled (Ok m) pieces is =
-    let same : pieces ≡ written_lines m = cc is in
-    record { m = m; found_is = refl; joined = ap concat same }
+    let same : pieces ≡ written_lines m = cc is in record { m = m; found_is = refl; joined = ap concat same }
 assembled (Err refused) pieces is = absurd (cc is)
 
 pub entered_words_link : EnteredWordsLink

@@ -16,14 +16,14 @@ use Rattle.report_defs.specs.Trace.{ShowsChanges, step_lines, changes_text}
 use Rattle.report_defs.specs.Report.{Report, Whole, Faulty, largest_input, AcceptedReport, OnInput}
 use Rattle.report_defs.specs.Report.{ReportsProgram, ShowsSteps, EnteredReport, ProgramReport, run_lines, shown_lines}
 use Rattle.report_defs.specs.Laws.{Begins, PrefixesBeginReports}
-use Rattle.report_defs.proofs.OneReport.{one_bytes}
+use Rattle.gpl_defs.proofs.ImageLaws.{bytes_alone}
 
 -- the lines of the steps begin the report of the run
 begins_shown : (shows : ShowsChanges) (limit : ℕ) (image : Image) (entry : ℕ) (front report : Report)
     → ShowsSteps shows limit image entry front → ReportsProgram (shown_lines shows) limit image entry report → Begins front report
 begins_shown shows limit image entry front report p q =
     let shown : List ℕ → Report = λ (b : List ℕ). Whole Done (step_lines shows (start b entry) (run limit (start b entry)).done) in
-    let bytes : p.bytes ≡ q.bytes = one_bytes image p.bytes q.bytes p.of_image q.of_image in
+    let bytes : p.bytes ≡ q.bytes = bytes_alone image p.bytes q.bytes p.of_image q.of_image in
     let same : front ≡ shown q.bytes = p.is ∙ ap shown bytes in
     let s = start q.bytes entry in
     let r = run limit s in

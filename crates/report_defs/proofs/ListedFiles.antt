@@ -90,8 +90,6 @@ behind_copied lines all answer a b = rw (texts_placed 1 lines, a, b) refl
 -- ---- the report
 
 first_from : (most : ℕ) (words : List ℕ) (number at found : ℕ) → wrapping_from most number at words ≡ Some found → number ≤ found
-first_from zero words number at found e = cc e
-first_from (suc most) [] number at found e = cc e
 first_from (suc most) (word ∷ words) number at found e =
     let count = (printed (word ∷ words) at).count in
     by (wraps at (instr_at word)) (wrapping_from most (number + 1) (at + 2 * count) (drop count (word ∷ words))) e
@@ -100,6 +98,7 @@ first_from (suc most) (word ∷ words) number at found e =
     by : (far : Bool) (later : Option ℕ) → (if far then Some number else later) ≡ Some found → (later ≡ Some found → number + 1 ≤ found) → number ≤ found
     by true later e rest = let same : number ≡ found = cc e in omega (arith, same)
     by false later e rest = let le = rest e in omega (arith, le)
+first_from _ _ number at found e = cc e
 
 same_report : (lines : List (List ℕ)) (found : Module) (far : Option ℕ) → ((number : ℕ) → far ≡ Some number → 0 < number)
     → copy_report (in_place (placed 1 lines) (unless_far far found)) ≡ asm_report (unless_far far found)

@@ -8,6 +8,7 @@ use Rattle.std.specs.Cmp.{nat_cmp_total}
 use Rattle.std.specs.FinMap.{empty, get, insert, get-insert, get-empty}
 use Rattle.std.proofs.lemmas.Cmp.{eq_by_cmp_equiv}
 use Rattle.std.proofs.lemmas.Bool.Decides.{nat_tests}
+use Rattle.std.proofs.lemmas.List.{get_or_past}
 use Rattle.tms_defs.specs.Bytes.{HoldsBytes}
 use Rattle.source_defs.specs.Symbols.{predefined}
 use Rattle.gpl_defs.specs.Image.{Image, byte_at, low_of, high_of, placed}
@@ -98,15 +99,9 @@ placed_fit (byte ∷ bytes) image at each fits =
 pub empty_fits : (k : ℕ) → byte_at empty k < 256
 empty_fits k = rw (get-empty nat_cmp k) (omega arith)
 
-past_end : (bytes : List ℕ) (k : ℕ) → length bytes ≤ k → get_or bytes k 0 ≡ 0
-past_end [] k le = refl
-past_end (byte ∷ bytes) zero le = absurd (omega arith)
-past_end (byte ∷ bytes) (suc k) le = past_end bytes k (omega arith)
-
 pub all_fit : (image : Image) → ((k : ℕ) → byte_at image k < 256) → HoldsBytes 65536 (grom_bytes image)
 all_fit image fits =
-    let bytes = bytes_of_image image in
-    record { size = bytes.size; fits = λ k. by k (nat_lt k 65536) refl }
+    let bytes = bytes_of_image image in record { size = bytes.size; fits = λ k. by k (nat_lt k 65536) refl }
   where
     by : (k : ℕ) (below : Bool) → nat_lt k 65536 ≡ below → get_or (grom_bytes image) k 0 < 256
     by k true is =
@@ -116,7 +111,7 @@ all_fit image fits =
     by k false is =
         let bytes = bytes_of_image image in
         let le : 65536 ≤ k = grind (arith, nat_tests) in
-        rw (past_end (grom_bytes image) k (omega (arith, bytes.size))) (omega arith)
+        rw (get_or_past (grom_bytes image) k 0 (omega (arith, bytes.size))) (omega arith)
 
 -- the law at the addresses that the listing has
 at_addresses : (input : List ℕ) (at low high : ℕ) → HoldsBytes 65536 (grom_bytes (placed empty at input)) → low_of (placed empty at input) ≡ low → high_of (placed empty at input) ≡ high → low < 65536 → low ≤ high → high ≤ 65536 → placed empty low (take (high - low) (drop low (grom_bytes (placed empty at input)))) ≡ placed empty at input → program_of_source (listed_text at input) ≡ Ok (record { image = placed empty at input; entry = None; names = predefined })

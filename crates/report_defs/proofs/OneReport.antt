@@ -24,14 +24,15 @@ use Rattle.report_defs.specs.Program.{program_status}
 use Rattle.report_defs.specs.DemoText.{demo_text}
 use Rattle.report_defs.specs.Commands.{most_steps}
 use Rattle.source_defs.specs.Refusals.{Refusal}
-use Rattle.gpl_defs.specs.Image.{Image, AreBytesOf}
+use Rattle.gpl_defs.specs.Image.{Image}
+use Rattle.gpl_defs.proofs.ImageLaws.{bytes_alone}
 use Rattle.gpl_source_defs.specs.declared.causes.GplCause.{GplCause}
 use Rattle.gpl_source_defs.specs.Programs.{Program, program_of_source}
 use Rattle.interp_build_defs.proofs.OneMemory.{one_memory_links}
 use Rattle.gpl_step_defs.specs.State.{start}
 use Rattle.gpl_step_defs.specs.Run.{run}
 use Rattle.interp_defs.specs.Programs.{RunsProgram}
-use Rattle.interp_defs.proofs.OneBoot.{same_list, one_zeros, one_vdp, same_memory}
+use Rattle.interp_defs.proofs.OneBoot.{one_zeros, one_vdp, same_memory}
 use Rattle.interp_defs.proofs.OneMachine.{one_machine_is_left}
 use Rattle.watch_defs.specs.declared.item.Item.{Item}
 use Rattle.watch_defs.specs.declared.found.Found.{Found}
@@ -110,17 +111,11 @@ one_exec : (limit : ℕ) (linked : Result LinkedMemory (List ℕ)) (first second
 one_exec limit (Ok linked) first second p q = one_execution_report limit linked first second p q
 one_exec limit (Err line) first second p q = p ∙ sym q
 
--- bytes of an image are one list
-pub one_bytes : (image : Image) (xs ys : List ℕ) → AreBytesOf image xs → AreBytesOf image ys → xs ≡ ys
-one_bytes image xs ys p q =
-    let size : length xs ≡ length ys = p.size ∙ sym q.size in
-    same_list xs ys size (λ at below. p.each at below ∙ sym (q.each at (omega arith)))
-
 -- one report of a program
 pub one_program : (lines : ProgramRun → List (List ℕ)) (limit : ℕ) (image : Image) (entry : ℕ) (first second : Report) →
     ReportsProgram lines limit image entry first → ReportsProgram lines limit image entry second → first ≡ second
 one_program lines limit image entry first second p q =
-    let bytes : p.bytes ≡ q.bytes = one_bytes image p.bytes q.bytes p.of_image q.of_image in
+    let bytes : p.bytes ≡ q.bytes = bytes_alone image p.bytes q.bytes p.of_image q.of_image in
     let runs : RunsProgram q.bytes entry limit p.left = subst (λ (b : List ℕ). RunsProgram b entry limit p.left) bytes p.runs in
     let left : p.left ≡ q.left = one_machine_is_left q.bytes entry limit p.left q.left runs q.runs in
     let by : List ℕ → MachineState → Report = λ b x. let s = start b entry in let r = run limit s in Whole (program_status r.stop) (lines (record { image = image; begun = s; made = r; left = x })) in
@@ -160,15 +155,14 @@ one_report command input first second p q =
 
 one_watched : (limit : ℕ) (items : List Item) (image : Image) (entry : ℕ) → One (ReportsWatch limit items image entry)
 one_watched limit items image entry first second p q =
-    let bytes : p.bytes ≡ q.bytes = one_bytes image p.bytes q.bytes p.of_image q.of_image in
+    let bytes : p.bytes ≡ q.bytes = bytes_alone image p.bytes q.bytes p.of_image q.of_image in
     let found : p.found ≡ q.found =
     p.is_found ∙ ap (λ (b : List ℕ). hits.found items limit (start b entry)) bytes ∙ sym q.is_found in
     let same : RunsProgram q.bytes entry (steps_to p.found limit) p.left =
     subst (λ (b : List ℕ). RunsProgram b entry (steps_to p.found limit) p.left) bytes p.runs in
     let runs : RunsProgram q.bytes entry (steps_to q.found limit) p.left =
     subst (λ (f : Found). RunsProgram q.bytes entry (steps_to f limit) p.left) found same in
-    let left : p.left ≡ q.left =
-    one_machine_is_left q.bytes entry (steps_to q.found limit) p.left q.left runs q.runs in
+    let left : p.left ≡ q.left = one_machine_is_left q.bytes entry (steps_to q.found limit) p.left q.left runs q.runs in
     p.is
     ∙ ap (λ (b : List ℕ). watch_report p.found limit (start b entry) p.left) bytes
     ∙ ap (λ (f : Found). watch_report f limit (start q.bytes entry) p.left) found

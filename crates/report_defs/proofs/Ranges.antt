@@ -19,8 +19,7 @@ module _ {A : Type 0} (f : ℕ → List A) where
 
   -- those of one number more, from a number on
   pub more_from : (from n : ℕ) → flat_map f (range_with_len from (n + 1)) ≡ flat_map f (range_with_len from n) ++ f (from + n)
-  more_from from n =
-      split_from from n 1 ∙ ap (λ t. flat_map f (range_with_len from n) ++ t) (append-nil (f (from + n)))
+  more_from from n = split_from from n 1 ∙ ap (λ t. flat_map f (range_with_len from n) ++ t) (append-nil (f (from + n)))
 
   -- those of one number more, from 0 on
   pub more : (n : ℕ) → flat_map f (range_with_len 0 (n + 1)) ≡ flat_map f (range_with_len 0 n) ++ f n

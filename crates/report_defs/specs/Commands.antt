@@ -3,14 +3,11 @@ use Rattle.std.specs.Prelude.{⊤, ℕ, ◌≤◌, ◌==◌, ◌%◌, Bool, true
 use Rattle.std.specs.Prelude.{nat_lt, nat_le, if◌then◌else◌, List, []}
 use Rattle.std.specs.Prelude.{◌∷◌, length, slice_index, codes, Option, Some, None}
 use Rattle.std.specs.Option.{option_map, option_and_then}
-use Rattle.source_defs.specs.Numbers.{all_digits, value_after, hexadecimal_number}
+use Rattle.source_defs.specs.Numbers.{decimal_up_to, hexadecimal_number}
 use Rattle.report_defs.specs.declared.command.Command.{Command}
 use Rattle.report_defs.specs.declared.command.Command.TheVariants.{Asm, Gasm, Dis, Gdis, Link, Exec, Interp}
 use Rattle.report_defs.specs.declared.command.Command.TheVariants.{Run, Trace, Demo}
 use Rattle.source_defs.specs.Names.{same_text}
-
-abbrev pub same_word : List ℕ → List ℕ → Bool
-same_word word name = same_text word name
 
 -- a 0 with more after it
 abbrev pub has_leading_zero : List ℕ → Bool
@@ -19,10 +16,7 @@ has_leading_zero word = nat_lt 1 (length word) && (slice_index word 0 == 0x30)
 -- Profile: a number is decimal digits without a leading zero, up to a limit.
 abbrev pub number_word : ℕ → List ℕ → Option ℕ
 number_word limit word =
-    if has_leading_zero word then None
-    else if nat_lt 0 (length word) && all_digits word && nat_le (value_after 10 0 word) limit
-    then Some (value_after 10 0 word)
-    else None
+    if has_leading_zero word then None else decimal_up_to limit word
 
 -- Profile: exec makes at most 10,000,000 instructions.
 abbrev pub most_instructions : ℕ
@@ -78,18 +72,18 @@ KeepsLimit command = ⊤
 abbrev pub command_of : List (List ℕ) → Option Command
 command_of [] = None
 command_of (name ∷ []) =
-    if same_word name (codes "asm") then Some Asm
-    else if same_word name (codes "gasm") then Some Gasm
-    else if same_word name (codes "link") then Some Link
-    else if same_word name (codes "interp") then Some Interp
+    if same_text name (codes "asm") then Some Asm
+    else if same_text name (codes "gasm") then Some Gasm
+    else if same_text name (codes "link") then Some Link
+    else if same_text name (codes "interp") then Some Interp
     else None
 command_of (name ∷ word ∷ []) =
-    if same_word name (codes "exec") then exec_command word
-    else if same_word name (codes "run") then run_command word
-    else if same_word name (codes "trace") then trace_command word
-    else if same_word name (codes "demo") then demo_command word
-    else if same_word name (codes "dis") then dis_command word
-    else if same_word name (codes "gdis") then gdis_command word
+    if same_text name (codes "exec") then exec_command word
+    else if same_text name (codes "run") then run_command word
+    else if same_text name (codes "trace") then trace_command word
+    else if same_text name (codes "demo") then demo_command word
+    else if same_text name (codes "dis") then dis_command word
+    else if same_text name (codes "gdis") then gdis_command word
     else None
 command_of (name ∷ word ∷ next ∷ others) = None
 

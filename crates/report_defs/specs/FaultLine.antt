@@ -25,6 +25,4 @@ fault_line NoEntry = codes "no entry\n"
 -- Profile: words that are no command have a status of their own; else the input is refused.
 abbrev pub fault_status : Fault → Status
 fault_status Usage = status.Usage
-fault_status TooLarge = status.Refused
-fault_status PastEnd = status.Refused
-fault_status NoEntry = status.Refused
+fault_status _ = status.Refused

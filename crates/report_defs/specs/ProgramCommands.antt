@@ -3,6 +3,7 @@ use Rattle.std.specs.Prelude.{ℕ, ◌+◌, Bool, ◌&&◌, nat_eq, nat_le, if�
 use Rattle.std.specs.Prelude.{drop, slice_index, codes, Option, Some, None}
 use Rattle.std.specs.Option.{option_map, option_and_then}
 use Rattle.std.specs.List.{list_all}
+use Rattle.source_defs.specs.Names.{same_text}
 use Rattle.gpl_defs.specs.declared.instruction.Space.{Space}
 use Rattle.gpl_defs.specs.declared.instruction.Space.TheVariants.{Cpu, Vdp}
 use Rattle.shelf_defs.specs.Files.{is_file_name}
@@ -11,7 +12,7 @@ use Rattle.watch_defs.specs.declared.item.Item.TheVariants.{Range, Pc}
 use Rattle.watch_defs.specs.Items.{base_of, size_of, most_items}
 use Rattle.report_defs.specs.declared.command.Command.{Command}
 use Rattle.report_defs.specs.declared.command.Command.TheVariants as command
-use Rattle.report_defs.specs.Commands.{same_word, number_word, most_steps, address_word, command_of}
+use Rattle.report_defs.specs.Commands.{number_word, most_steps, address_word, command_of}
 
 -- What only the program with files has: `asm`, whose source may copy files; `link` with names of files; and `watch`
 -- with a number of steps and with items.
@@ -53,9 +54,9 @@ range_word space text =
 -- Profile: an item is `pad:AAAA+LEN` or `vdp:AAAA+LEN`, a range in what a program sees, or `pc:AAAA`.
 abbrev pub item_word : List ℕ → Option Item
 item_word word =
-    if same_word (take 4 word) (codes "pad:") then range_word Cpu (drop 4 word)
-    else if same_word (take 4 word) (codes "vdp:") then range_word Vdp (drop 4 word)
-    else if same_word (take 3 word) (codes "pc:") then option_map Pc (address_word (drop 3 word))
+    if same_text (take 4 word) (codes "pad:") then range_word Cpu (drop 4 word)
+    else if same_text (take 4 word) (codes "vdp:") then range_word Vdp (drop 4 word)
+    else if same_text (take 3 word) (codes "pc:") then option_map Pc (address_word (drop 3 word))
     else None
 
 abbrev pub item_words : List (List ℕ) → Option (List Item)
@@ -88,8 +89,8 @@ abbrev pub program_command : List (List ℕ) → Option ProgramCommand
 program_command [] = None
 program_command (name ∷ []) = input_command (name ∷ [])
 program_command (name ∷ word ∷ words) =
-    if same_word name (codes "link") then option_map OverFiles (link_command (word ∷ words))
-    else if same_word name (codes "watch") then option_map OverFiles (watch_command (word ∷ words))
+    if same_text name (codes "link") then option_map OverFiles (link_command (word ∷ words))
+    else if same_text name (codes "watch") then option_map OverFiles (watch_command (word ∷ words))
     else input_command (name ∷ word ∷ words)
 
 -- Profile: words that are no command are answered by how the program is called.

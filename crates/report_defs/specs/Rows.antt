@@ -1,13 +1,9 @@
 -- Bytes in rows of 16, as a dump shows them.
 use Rattle.std.specs.Prelude.{ℕ, ◌+◌, ◌-◌, ◌*◌, ◌/◌, Bool, not, ◌&&◌, nat_lt, if◌then◌else◌, List, [], ◌∷◌}
-use Rattle.std.specs.Prelude.{◌++◌, length, slice_range, codes}
+use Rattle.std.specs.Prelude.{◌++◌, length, codes}
 use Rattle.std.specs.List.{flat_map, range_with_len}
 use Rattle.source_defs.specs.Digits.{byte_digits, hex_word}
-use Rattle.list_defs.specs.Lists.{rows_equal}
-
--- the row of 16 bytes with a number, from 0
-abbrev pub row : List ℕ → ℕ → List ℕ
-row bytes number = slice_range bytes (16 * number) (16 * number + 16)
+use Rattle.list_defs.specs.Lists.{row, rows_equal}
 
 -- Profile: bytes are shown by two digits, each byte after a blank.
 abbrev pub spaced_bytes : List ℕ → List ℕ

@@ -1,6 +1,7 @@
 //! Bytes in rows of 16.
 
 ghost use Rattle.std.specs.Prelude.{◌≡◌, ◌≤◌, ◌<◌, ◌+◌, ◌*◌, ◌/◌, length};
+ghost use Rattle.list_defs.specs.Lists.{row};
 ghost use Rattle.report_defs.specs.Rows as rows;
 ghost use Rattle.bench_io.specs.Written.{Written};
 
@@ -65,8 +66,8 @@ fn is_repeated(bytes: &[u8], number: usize) -> bool
 /// The row of 16 bytes with a number.
 fn row(bytes: &[u8], number: usize) -> &[u8]
     requires { number < length bytes.now / 16 }
-    ensures row { result.now ≡ rows.row bytes.now number }
+    ensures row { result.now ≡ row bytes.now number }
     ensures size { length result.now ≡ 16 }
 {
-    &bytes[16 * number..16 * number + 16]
+    &bytes[16 * number..][..16]
 }

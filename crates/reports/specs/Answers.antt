@@ -19,7 +19,7 @@ use Rattle.report_defs.specs.SourceFaults.{asm_line, gpl_line}
 use Rattle.reports.specs.declared.report.Report as made
 use Rattle.reports.specs.declared.command_error.CommandError.{CommandError}
 use Rattle.reports.specs.declared.command_error.CommandError.TheVariants.{Refused, Fault, ReadFault, Memory}
-use Rattle.reports.specs.Made.{defined_report}
+use Rattle.reports.specs.Made.{model_of_report}
 use Rattle.reports.specs.Outputs.{Outputs, EndsWith}
 
 -- A refusal is a report too, which standard error gets. Of input that failed and of a lack of memory there is none,
@@ -31,7 +31,7 @@ error_answer ReadFault = Err status.ReadFault
 error_answer Memory = Err status.Memory
 
 abbrev pub answer : Result made.Report CommandError → Result Report Status
-answer (Ok report) = Ok (defined_report report)
+answer (Ok report) = Ok (model_of_report report)
 answer (Err command_error) = error_answer command_error
 
 -- the report is such a one, and where there is none its status has such a cause

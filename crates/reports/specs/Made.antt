@@ -8,10 +8,10 @@ use Rattle.report_defs.specs.GromListing.{image_listing}
 use Rattle.word_listings.specs.Listing.{memory_listing}
 use Rattle.report_defs.specs.Exec.{exec_lines, end_status}
 use Rattle.report_defs.specs.Program.{program_lines, program_status}
-use Rattle.gpl_run.specs.Sessions.{seen}
+use Rattle.gpl_run.specs.Sessions.{gpl_state_of}
 use Rattle.report_defs.specs.MemoryListing.{linked_lines}
 use Rattle.report_defs.specs.Summary.{summary_lines}
-use Rattle.link_loader.specs.View.{defined_linked}
+use Rattle.link_loader.specs.View.{model_of_linked}
 use Rattle.report_defs.specs.Report as spec
 use Rattle.reports.specs.Watched.{watched_lines, watched_status}
 use Rattle.reports.specs.declared.report.Report.{Report}
@@ -24,9 +24,9 @@ pieces_of (made.Image image) = spec.one_piece (written_bytes image)
 pieces_of (made.Listing listing) = memory_listing listing.at listing.bytes.items
 pieces_of (made.Grom image) = image_listing image
 pieces_of (made.Execution ending machine) = exec_lines ending machine
-pieces_of (made.Program session) = program_lines session.ended (seen session) session.machine
+pieces_of (made.Program session) = program_lines session.ended (gpl_state_of session) session.machine
 pieces_of (made.Demo summary) = summary_lines summary
-pieces_of (made.Memory linked) = linked_lines (defined_linked linked)
+pieces_of (made.Memory linked) = linked_lines (model_of_linked linked)
 pieces_of (made.Watched watched) = watched_lines watched.found watched.session
 
 -- its status: a run has the status of its end, and all else is done
@@ -38,5 +38,5 @@ own_status (made.Watched watched) = watched_status watched.found watched.session
 own_status report = Done
 
 -- the report of the definitions
-abbrev pub defined_report : Report → spec.Report
-defined_report report = spec.Whole (own_status report) (pieces_of report)
+abbrev pub model_of_report : Report → spec.Report
+model_of_report report = spec.Whole (own_status report) (pieces_of report)

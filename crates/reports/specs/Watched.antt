@@ -1,6 +1,6 @@
 -- What is written of a program whose items were watched.
 use Rattle.std.specs.Prelude.{ℕ, List, [], ◌∷◌, ◌++◌}
-use Rattle.gpl_run.specs.Sessions.{SessionState, seen}
+use Rattle.gpl_run.specs.Sessions.{SessionState, gpl_state_of}
 use Rattle.watch_defs.specs.declared.found.Found.{Found}
 use Rattle.watch_defs.specs.declared.found.Found.TheVariants as found
 use Rattle.report_defs.specs.declared.status.Status.{Status}
@@ -16,11 +16,11 @@ found_line found.None = no_hit_line
 -- why the program ended, if it did, is reported if nothing was found
 abbrev pub end_lines : Found → SessionState → List (List ℕ)
 end_lines (found.Hit step from item change) session = []
-end_lines found.None session = stop_lines session.ended (seen session).pc
+end_lines found.None session = stop_lines session.ended (gpl_state_of session).pc
 
 abbrev pub watched_lines : Found → SessionState → List (List ℕ)
 watched_lines said session =
-    found_line said ∷ (end_lines said session ++ state_lines (seen session) session.machine)
+    found_line said ∷ (end_lines said session ++ state_lines (gpl_state_of session) session.machine)
 
 -- after a hit the program has not ended, and the report is whole
 abbrev pub watched_status : Found → SessionState → Status

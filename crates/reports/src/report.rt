@@ -3,11 +3,11 @@
 ghost use Rattle.std.specs.Prelude.{◌≡◌};
 ghost use Rattle.bench_io.specs.Stream.{SinkState};
 ghost use Rattle.bench_io.specs.Written.{Written};
-ghost use Rattle.gpl_run.specs.Sessions.{seen};
+ghost use Rattle.gpl_run.specs.Sessions.{gpl_state_of};
 ghost use Rattle.report_defs.specs.GromListing.{image_listing};
 ghost use Rattle.report_defs.specs.Program as programs;
 ghost use Rattle.report_defs.specs.Report as spec;
-ghost use Rattle.reports.specs.Made.{defined_report, own_status, pieces_of};
+ghost use Rattle.reports.specs.Made.{model_of_report, own_status, pieces_of};
 ghost use Rattle.reports.specs.Outputs.{EndsWith};
 
 use crate::execution::{end_status, put_execution};
@@ -64,7 +64,7 @@ impl Report {
           out' = O.state out.new;
           err = err;
           err' = err;
-        }) (defined_report self.now) result }
+        }) (model_of_report self.now) result }
     {
         match self.write(out) {
             Ok(()) => self.status(),
@@ -128,7 +128,7 @@ fn put_grom<O: Sink>(image: &GromImage, out: &mut O) -> Result<(), Failed>
 /// Writes how a GPL program ended, if it did; its state; and the machine that ran it.
 fn put_program<O: Sink>(out: &mut O, session: &Session) -> Result<(), Failed>
     ensures { Written result (O.state out.old) (O.state out.new)
-        (programs.program_lines session.now.ended (seen session.now) session.now.machine) }
+        (programs.program_lines session.now.ended (gpl_state_of session.now) session.now.machine) }
 {
     put_stop(session, out)?;
     put_state(session, out)

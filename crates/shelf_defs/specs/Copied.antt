@@ -5,7 +5,9 @@
 -- line that is refused for several causes, the first in this order counts: its form, its depth, that 64 COPY lines
 -- stand before it, that no file has the name, and the size of the file.
 use Rattle.std.specs.Prelude.{ℕ, zero, suc, ◌+◌, nat_lt, nat_le, if◌then◌else◌, List, [], ◌∷◌, ◌++◌, length}
-use Rattle.std.specs.Prelude.{Option, Some, None}
+use Rattle.std.specs.Prelude.{Option, Some, None, Result, Ok, Err}
+use Rattle.std.specs.Option.{ok_or}
+use Rattle.source_defs.specs.Refusals.{◌>>=◌, unless}
 use Rattle.source_defs.specs.Layout.{line_texts}
 use Rattle.asm_defs.specs.declared.causes.AsmCause.{AsmCause}
 use Rattle.shelf_defs.specs.Files.{Files, Contents, of_files}
@@ -103,23 +105,21 @@ module _ (copy : Place → ℕ → List ℕ → Copied) where
   lines_in file copies (line ∷ lines) =
       followed (one_line (record { file = file; line = line.0 }) copies line.1) (λ copies. lines_in file copies lines)
 
-  -- what the COPY line of a file comes to, by the file's bytes
-  abbrev pub copied_bytes : ℕ → List ℕ → List ℕ → Copied
-  copied_bytes copies name bytes =
-      if nat_lt most_bytes (length bytes) then refused (copies + 1) TooLarge
-      else lines_in (Some name) (copies + 1) (line_texts bytes)
+-- what a COPY line comes to where it is not refused, or where it is
+abbrev pub either : Result Copied Copied → Copied
+either (Ok found) = found
+either (Err found) = found
 
-  abbrev pub copied_file : Place → ℕ → List ℕ → Option (List ℕ) → Copied
-  copied_file place copies name (Some bytes) = copied_bytes copies name bytes
-  copied_file place copies name None = refused (copies + 1) (At place (Missing name))
-
--- what a COPY line comes to, by the number of levels of files that may still be copied
+-- What a COPY line comes to, by the number of levels of files that may still be copied. It counts among the COPY lines
+-- once its file is asked for.
 module _ (contents : Contents) where
   abbrev pub copy_line : ℕ → Place → ℕ → List ℕ → Copied
   copy_line zero place copies name = refused copies (At place TooDeep)
-  copy_line (suc levels) place copies name =
-      if nat_le most_copies copies then refused copies (At place TooMany)
-      else copied_file (copy_line levels) place copies name (contents copies name)
+  copy_line (suc levels) place copies name = either (do
+    name ← unless (nat_le most_copies copies) (refused copies (At place TooMany)) name
+    bytes ← ok_or (contents copies name) (refused (copies + 1) (At place (Missing name)))
+    bytes ← unless (nat_lt most_bytes (length bytes)) (refused (copies + 1) TooLarge) bytes
+    Ok (lines_in (copy_line levels) (Some name) (copies + 1) (line_texts bytes)))
 
 -- the lines of a source with the lines of the files that it copies
 abbrev pub copied_by : Contents → List ℕ → Copied

@@ -1,26 +1,14 @@
 -- Facts about numbers that the comparisons need.
-use Rattle.std.proofs.Common.{ℕ, ℤ, ◌*◌, ◌+◌, ◌<◌, ◌==◌, ◌^◌, ◌||◌, ◌∙◌, ◌≡◌, ◌≤◌, ap, arith, bit_and, Bool, eqb, false, int_le, int_lt, lit<, nat_le, nat_lt}
-use Rattle.std.proofs.Common.{◌-ℤ◌, if◌then◌else◌, negsuc, not, pos, refl, sym, true}
+use Rattle.std.proofs.Common.{ℕ, ℤ, ◌*◌, ◌+◌, ◌<◌, ◌==◌, ◌^◌, ◌∙◌, ◌≡◌, ap, arith, bit_and, eqb, false, int_le, int_lt, lit<, nat_le, nat_lt}
+use Rattle.std.proofs.Common.{negsuc, not, pos, refl, sym, true}
 use Rattle.std.proofs.lemmas.Int.{ints}
 use Rattle.std.proofs.lemmas.Bool.Decides.{nat_tests}
-use Rattle.std.proofs.lemmas.Bool.{eq-eqb, eqb-true, le-leb, le-ltb, lt-leb, lt-ltb, ltb-false, ltb-true, ne_eqb}
 use Rattle.std.proofs.lemmas.Nat.{and_block, and_comm}
 use Rattle.sim_rows.proofs.Common.{Byte, in_register, is_set, join, last_out, modulus, signed, SLA, Width, Word}
 
 -- what is above is not equal
 pub above_is_not : (less more : ℕ) → nat_lt less more ≡ true → (more == less) ≡ false
-above_is_not less more c = let l : less < more = ltb-true less more c in ne_eqb more less (λ e. omega arith)
-
--- above, or equal
-pub below_or_equal : (limit number : ℕ) (below : Bool) → nat_lt number limit ≡ below → (nat_lt limit number || number == limit) ≡ not below
-below_or_equal limit number true c = let l : number < limit =
-    ltb-true number limit c in rw (le-ltb limit number (omega arith), ne_eqb number limit (λ e. omega arith)) refl
-below_or_equal limit number false c = by (nat_lt limit number) refl
-  where
-    by : (b : Bool) → nat_lt limit number ≡ b → (b || number == limit) ≡ true
-    by true d = refl
-    by false d = let l : limit ≤ number = ltb-false number limit c in let m : number ≤ limit =
-        ltb-false limit number d in rw (eq-eqb number limit (omega arith)) refl
+above_is_not less more c = grind (arith, nat_tests)
 
 -- ---- left-justified bytes are compared as bytes
 
@@ -29,42 +17,21 @@ pub number_fits : (width : Width) (number : ℕ) → in_register width number < 
 number_fits Byte number h = omega arith
 number_fits Word number h = h
 
-same_test : (a b c d : ℕ) → (a < b → c < d) → (b ≤ a → d ≤ c) → nat_lt a b ≡ nat_lt c d
-same_test a b c d f g = by (nat_lt a b) refl
-  where
-    by : (t : Bool) → nat_lt a b ≡ t → t ≡ nat_lt c d
-    by true e = sym (lt-ltb c d (f (ltb-true a b e)))
-    by false e = sym (le-ltb c d (g (ltb-false a b e)))
-
 pub below_in_register : (width : Width) (x y : ℕ) → nat_lt (in_register width x) (in_register width y) ≡ nat_lt x y
-below_in_register Byte x y = same_test (join x 0) (join y 0) x y (λ h. omega arith) (λ h. omega arith)
+below_in_register Byte x y = grind (arith, nat_tests)
 below_in_register Word x y = refl
 
-same_equal : (a b c d : ℕ) → (a ≡ b → c ≡ d) → (c ≡ d → a ≡ b) → (a == b) ≡ (c == d)
-same_equal a b c d f g = by (a == b) refl
-  where
-    by : (t : Bool) → (a == b) ≡ t → t ≡ (c == d)
-    by true e = sym (eq-eqb c d (f (eqb-true a b e)))
-    by false e = sym (ne_eqb c d (λ h. not_both (a == b) (eq-eqb a b (g h)) e))
-      where
-        not_both : (t : Bool) → t ≡ true → t ≡ false → ⊥
-        not_both t e f = cc
-
 pub equal_in_register : (width : Width) (x y : ℕ) → (in_register width x == in_register width y) ≡ (x == y)
-equal_in_register Byte x y = same_equal (join x 0) (join y 0) x y (λ h. omega arith) (λ h. omega arith)
+equal_in_register Byte x y = grind (arith, nat_tests)
 equal_in_register Word x y = refl
 
 pub zero_in_register : (width : Width) (x : ℕ) → (in_register width x == 0) ≡ (x == 0)
-zero_in_register Byte x = same_equal (join x 0) 0 x 0 (λ h. omega arith) (λ h. omega arith)
+zero_in_register Byte x = grind (arith, nat_tests)
 zero_in_register Word x = refl
 
 -- at most, and not above
 pub at_most : (x y : ℕ) → not (nat_lt x y) ≡ nat_le y x
-at_most x y = by (nat_lt x y) refl
-  where
-    by : (t : Bool) → nat_lt x y ≡ t → not t ≡ nat_le y x
-    by true e = let h : x < y = ltb-true x y e in sym (lt-leb y x h)
-    by false e = let h : y ≤ x = ltb-false x y e in sym (le-leb y x h)
+at_most x y = grind (arith, nat_tests)
 
 -- bit by bit
 pub ones_in_register : (width : Width) (x y : ℕ) → (bit_and (in_register width y) (in_register width x) == 0) ≡ (bit_and x y == 0)
@@ -83,22 +50,13 @@ pub order_in_register : (width : Width) (x y : ℕ) → x < modulus width → y 
 order_in_register Byte x y h k =
     let first : nat_lt (join x 0) 32768 ≡ nat_lt x 128 = grind (arith, nat_tests) in
     let second : nat_lt (join y 0) 32768 ≡ nat_lt y 128 = grind (arith, nat_tests) in
-    rw (first, second) (by (nat_lt x 128) refl (nat_lt y 128) refl)
-  where
-    by : (a : Bool) → nat_lt x 128 ≡ a → (b : Bool) → nat_lt y 128 ≡ b →
-        int_lt (if a then pos (join x 0) else pos (join x 0) -ℤ pos 65536) (if b then pos (join y 0) else pos (join y 0) -ℤ pos 65536)
-        ≡ int_lt (if a then pos x else pos x -ℤ pos 256) (if b then pos y else pos y -ℤ pos 256)
-    by true p true q = grind (arith, ints, nat_tests)
-    by true p false q = grind (arith, ints, nat_tests)
-    by false p true q = grind (arith, ints, nat_tests)
-    by false p false q = grind (arith, ints, nat_tests)
+    rw (first, second) (grind (arith, ints, nat_tests))
 order_in_register Word x y h k = refl
 
 pub at_most_signed : (a b : ℤ) → not (int_lt a b) ≡ int_le b a
 at_most_signed (pos a) (pos b) = at_most a b
-at_most_signed (pos a) (negsuc b) = refl
-at_most_signed (negsuc a) (pos b) = refl
 at_most_signed (negsuc a) (negsuc b) = at_most b a
+at_most_signed _ _ = refl
 
 -- ---- a bit of the status
 

@@ -3,7 +3,8 @@ use Rattle.std.proofs.Common.{[], ℕ, ◌==◌, ◌∷◌, bit_and, false, int_
 pub use Rattle.sim_rows.proofs.Common.{piece}
 use Rattle.sim_rows.proofs.Common.{CEQV, CFALSE, CGEV, CGTV, CHEV, CHV, CLOGV, CTRUE, CZV, GOCARY, GOGT, GOH, GOOVF, join, last_out, Leads, low, pick, signed}
 use Rattle.sim_rows.proofs.Common.{SLA, View, Word}
-use Rattle.sim_compare.proofs.Numbers.{above_is_not, below_or_equal}
+use Rattle.sim_rows.proofs.Facts.{from_limit}
+use Rattle.sim_compare.proofs.Numbers.{above_is_not}
 use Rattle.sim_compare.specs.Pieces as pieces
 
 abbrev ends : List ℕ
@@ -16,8 +17,8 @@ pub compare_higher_or_equal : (v : View) → Leads ends v CHEV (pieces.compare_h
 compare_higher_or_equal v = record {
   by = λ f q.
       pick (nat_lt v.r.r9 v.r.r6)
-      (λ c. rw (below_or_equal v.r.r6 v.r.r9 true c, c) refl)
-      (λ c. rw (below_or_equal v.r.r6 v.r.r9 false c, c) refl);
+      (λ c. rw (from_limit v.r.r6 v.r.r9 true c, c) refl)
+      (λ c. rw (from_limit v.r.r6 v.r.r9 false c, c) refl);
 }
 
 pub compare_greater : (v : View) → Leads ends v CGTV (pieces.compare_greater v)

@@ -2,10 +2,11 @@
 use Rattle.std.proofs.Common.{ℕ, ◌<◌, ◌==◌, ◌∙◌, ◌≡◌, ap, arith, Bool, false, List, Ok, Option, refl, Result, slice_index, Some, subst, true}
 use Rattle.sim_rows.proofs.Common.{after, AtDispatch, behind_code, bound, bound_at, bound_by, CARRY, Changes, code_byte, ReachesWithin, comes, CTRUE, executed, Exits}
 use Rattle.sim_rows.proofs.Common.{finished, Goes, GplOperation, GplRead, GplState, GT, H, is_end, is_set, is_view, IsView, join, last_out, low, MachineState}
-use Rattle.sim_rows.proofs.Common.{matches, most_to_dispatch, operation_at, operation_entry, operation_in, operation_in_view, OVF, Plain, PlainOp, reaches}
-use Rattle.sim_rows.proofs.Common.{from_dispatch, read_by, reading, Reason, shifted, ShowsState, SLA, state_at_dispatch, status_of, step, Stepped, Turned, turned_by, unchanged}
+use Rattle.sim_rows.proofs.Common.{matches, most_to_dispatch, operation_entry, operation_in, operation_in_view, OVF, Plain, PlainOp, reaches}
+use Rattle.sim_rows.proofs.Common.{from_dispatch, read_by, Reason, shifted, ShowsState, SLA, state_at_dispatch, status_of, step, Stepped, Turned, turned_by, unchanged}
 use Rattle.sim_rows.proofs.Common.{View, view, with_tested}
 use Rattle.sim_rows.specs.Prelude.{CARRY_BIT, GREATER_BIT, HIGHER_BIT, OVERFLOW_BIT}
+use Rattle.sim_rows.proofs.Steps.{reading_is}
 use Rattle.sim_compare.specs.Pieces.{end_of}
 use Rattle.sim_compare.specs.Family.{ending, is_test, IsTold, test}
 use Rattle.sim_compare.proofs.Numbers.{bit_out_1, bit_out_2, bit_out_4, bit_out_5}
@@ -30,10 +31,6 @@ starts (Some (Plain OVF)) e = refl
 starts _ e = absurd (cc)
 
 -- ---- the step of a test, and its bound
-
-reading_is : (s : GplState) → reading s.image s.pc ≡ read_by (operation_at (code_byte s)) (code_byte s) s.image (behind_code s)
-unfolding reading
-reading_is s = refl
 
 abbrev read_as : GplState → Option GplOperation → GplRead
 read_as s o = read_by o (code_byte s) s.image (behind_code s)

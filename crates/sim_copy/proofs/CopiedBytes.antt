@@ -4,8 +4,8 @@ use Rattle.std.proofs.Common.{subst, suc, sym, true}
 use Rattle.std.proofs.lemmas.Bool.{eqb-false, eqb-true, le-ltb, lt-ltb}
 use Rattle.std.proofs.Math.Nat.{pos_of_ne-zero}
 use Rattle.sim_rows.proofs.Common.{byte_from, byte_in, Changes, ReachesWithin, comes_as, COPY, Cpu, difference_of, From, FromGrom, FromMemory, GplState, grom_at}
-use Rattle.sim_rows.proofs.Common.{GromState, idle_grom, idle_told, idle_video, is_view, IsFetched, LoadsFrom, MachineState, marked_by, most_of_byte, next_at}
-use Rattle.sim_rows.proofs.Common.{next_from, next_in_grom, next_to, number_of_space, pick, Place, place_in, place_is, previous-next, previous_in_grom, Space}
+use Rattle.sim_rows.proofs.Common.{GromState, idle_grom, idle_told, idle_video, is_view, IsFetched, LoadsFrom, MachineState, marked_by, most_of_byte}
+use Rattle.sim_rows.proofs.Common.{next_from, next_in_grom, next_to, pick, Place, place_in, place_is, previous-next, Space}
 use Rattle.sim_rows.proofs.Common.{space_small, state_of, sum_of, To, ToMemory, ToRegisters, unchanged, Vdp, View, view, with_byte_in, with_byte_to, Word}
 use Rattle.sim_copy.specs.Copying.{Copying, InGrom, StandsFrom, StandsTo}
 use Rattle.sim_copy.proofs.Routines.{behind_idle, byte_copied, Counted, grom_behind, source_in, target_in}
@@ -31,18 +31,13 @@ one_more n left most some le fits = omega arith
 near_source : (v : View) (place : Place) → LoadsFrom place v → source_in v ≡ FromMemory place
 near_source v place f =
     let small : v.r.r5 < 2 = space_small place.space v.r.r5 f.space in
-    ap (λ b. if b then FromMemory (place_in v.r.r5 v.r.r2) else FromGrom (next_at v)) (lt-ltb v.r.r5 2 small)
-    ∙ ap (λ n. FromMemory (place_in n v.r.r2)) f.space
-    ∙ ap (λ n. FromMemory (place_in (number_of_space place.space) n)) f.address
-    ∙ ap FromMemory (place_is place)
+    rw (lt-ltb v.r.r5 2 small, f.space, f.address) (ap FromMemory (place_is place))
 
 far_source : (c : Changes) (v : View) (address : ℕ) → InGrom c address v → source_in v ≡ FromGrom address
 far_source c v address f =
     let e = f.space in
     let above : 2 ≤ v.r.r5 = omega arith in
-    ap (λ b. if b then FromMemory (place_in v.r.r5 v.r.r2) else FromGrom (next_at v)) (le-ltb v.r.r5 2 above)
-    ∙ ap (λ (g : GromState). FromGrom (previous_in_grom g.counter)) f.grom
-    ∙ ap FromGrom (previous-next address)
+    rw (le-ltb v.r.r5 2 above, f.grom) (ap FromGrom (previous-next address))
 
 pub source_is : (c : Changes) (from : From) (v : View) → StandsFrom c from v → source_in v ≡ from
 source_is c (FromMemory place) v f = near_source v place f.loads_from
@@ -51,10 +46,7 @@ source_is c (FromGrom address) v f = far_source c v address f
 pub target_is : (to : To) (v : View) → StandsTo to v → target_in v ≡ to
 target_is (ToMemory place) v f =
     let small : v.r.r8 < 2 = space_small place.space v.r.r8 f.space in
-    ap (λ b. if b then ToMemory (place_in v.r.r8 v.r.r7) else ToRegisters v.r.r7) (lt-ltb v.r.r8 2 small)
-    ∙ ap (λ n. ToMemory (place_in n v.r.r7)) f.space
-    ∙ ap (λ n. ToMemory (place_in (number_of_space place.space) n)) f.address
-    ∙ ap ToMemory (place_is place)
+    rw (lt-ltb v.r.r8 2 small, f.space, f.address) (ap ToMemory (place_is place))
 target_is (ToRegisters number) v f =
     let e = f.space in
     let above : 2 ≤ v.r.r8 = omega arith in
@@ -99,8 +91,7 @@ adds_in Cpu address byte s c a d r =
       registers = r;
       mark = one_mark (address == 0x7D) c.shows;
       image = refl;
-      pc =
-          refl;
+      pc = refl;
     }
 adds_in Vdp address byte s c a d r =
     record { cells = a; vdp = ap (λ (l : List ℕ). slice_set l (address % 16384) byte) d; registers = r; mark = refl; image = refl; pc = refl }

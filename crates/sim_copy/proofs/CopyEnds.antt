@@ -70,11 +70,6 @@ module _ {x y : MachineState} {s t : ℕ} (a : Exits x y s t (pieces.begin_copy 
   alone : GoesTo y t first
   alone = comes a (record { within = omega arith; to_is = refl; holds = refl })
 
-  pub starts_alone : (y.cpu.pc ≡ SETR → ⊥) → (y.cpu.pc ≡ SETW → ⊥) → StartsCopy x y s t
-  starts_alone r w =
-      subst (GoesTo y t) (sym (ap (λ b. begun_by b (first.to == SETW)) (ne_eqb first.to SETR (λ e. r (a.stands.pc ∙ e)))
-      ∙ ap (begun_by false) (ne_eqb first.to SETW (λ e. w (a.stands.pc ∙ e))))) alone
-
   -- a piece behind it
   both : (p : ℕ) → is_end p ≡ false → first.to ≡ p → (piece : View → Exit) → {z : MachineState} {u : ℕ} → Exits y z t u (piece (view y)) →
       GoesTo z u (pieces.and_then first (piece first.left))

@@ -5,11 +5,12 @@ use Rattle.std.proofs.Math.Nat.{pos_of_ne-zero}
 use Rattle.sim_rows.proofs.Common.{byte_from, ShowsChanges, Changes, comes, copied, difference_of, Exits, From, idle_grom, idle_told, idle_video, is_view}
 use Rattle.sim_rows.proofs.Common.{MachineState, marked_by, next_from, next_in_grom, next_in_vdp, next_to, pick, plus, sum_of, To, View, view, with_byte_to}
 use Rattle.sim_rows.proofs.Common.{with_pc, Word}
-use Rattle.sim_copy.proofs.Places.{at_pc, each, few_charged, may_go, on_way, one_at_most, some_left}
+use Rattle.sim_copy.proofs.Places.{at_pc, each, few_charged, may_go, on_way, some_left}
 use Rattle.sim_copy.specs.Bytes.{AllCopied, AtCopy, AtEnd, AtHead, Copied, CopiesAt, CopiesByte, CopyingAt, CopyingOnWay, from_on, FromPlace, GoesBack, MayGo}
 use Rattle.sim_copy.specs.Bytes.{OnWay, OutOfGrom, Points, seen, seen_on, to_on}
 use Rattle.sim_copy.specs.Pieces.{CellsToCells, CellsToVideo, copy_on, first_cell, GromToCells, GromToVideo, head_of, VideoToCells, CopyPath}
 use Rattle.sim_rows.specs.native_interp.declared.addresses.TheConstants.{COPYE}
+use Rattle.sim_rows.proofs.StepStart.{one_at_most}
 
 -- ---- what may go on
 
@@ -22,10 +23,9 @@ points_on pointer bytes p more =
 
 goes_on : (way : CopyPath) (v : View) → MayGo way v → 0 < difference_of Word v.r.r12 1 → MayGo way (copy_on way v).left
 goes_on CellsToCells v k more = (points_on v.r.r2 v.r.r12 k.0 more, points_on v.r.r7 v.r.r12 k.1 more)
-goes_on VideoToCells v k more = points_on v.r.r7 v.r.r12 k more
-goes_on GromToCells v k more = points_on v.r.r7 v.r.r12 k more
 goes_on CellsToVideo v k more = points_on v.r.r2 v.r.r12 k more
 goes_on GromToVideo v k more = more
+goes_on _ v k more = points_on v.r.r7 v.r.r12 k more
 
 place_on : (way : CopyPath) (v : View) → MayGo way v → CopiesAt (copy_on way v).to (copy_on way v).left
 place_on way v k =
@@ -45,11 +45,9 @@ idle_on way v e = each (λ way. (copy_on way v).left.grom.half_written ≡ false
 
 -- the address of the next byte
 abbrev next_on : CopyPath → ℕ → ℕ
-next_on CellsToCells address = plus address 1
-next_on VideoToCells address = plus address 1
 next_on GromToCells address = next_in_grom address
-next_on CellsToVideo address = plus address 1
 next_on GromToVideo address = next_in_grom address
+next_on _ address = plus address 1
 
 next_from_on : (way : CopyPath) (address : ℕ) → next_from (from_on way address) ≡ from_on way (next_on way address)
 next_from_on way address = each (λ way. next_from (from_on way address) ≡ from_on way (next_on way address)) refl refl refl refl refl way
@@ -68,11 +66,9 @@ abbrev with_fetched : ℕ → View → View
 with_fetched byte v = record v { vdp = record v.vdp { fetched = byte } }
 
 abbrev base_on : CopyPath → View → Changes → ℕ → View
-base_on CellsToCells v c source = v
-base_on VideoToCells v c source = v
-base_on GromToCells v c source = v
 base_on CellsToVideo v c source = with_fetched (byte_on CellsToVideo c source) v
 base_on GromToVideo v c source = with_fetched (byte_on GromToVideo c source) v
+base_on _ v c source = v
 
 back_on : (way : CopyPath) (v : View) (c : Changes) (source target : ℕ) → GoesBack c (from_on way source) v →
     GoesBack (more_on way c source target) (next_from (from_on way source)) (base_on way v c source)
@@ -98,14 +94,11 @@ moves_on CellsToCells v c bytes mark source target fits k =
     let t = pointer_on target bytes k.1 in
     rw (one_less bytes fits, s.0, s.1, t.0, t.1) refl
 moves_on VideoToCells v c bytes mark source target fits k =
-    let t = pointer_on target bytes k in
-    rw (one_less bytes fits, t.0, t.1, video_on source) refl
+    let t = pointer_on target bytes k in rw (one_less bytes fits, t.0, t.1, video_on source) refl
 moves_on GromToCells v c bytes mark source target fits k =
-    let t = pointer_on target bytes k in
-    rw (one_less bytes fits, t.0, t.1) refl
+    let t = pointer_on target bytes k in rw (one_less bytes fits, t.0, t.1) refl
 moves_on CellsToVideo v c bytes mark source target fits k =
-    let s = pointer_on source bytes k in
-    rw (one_less bytes fits, s.0, s.1, video_on target) refl
+    let s = pointer_on source bytes k in rw (one_less bytes fits, s.0, s.1, video_on target) refl
 moves_on GromToVideo v c bytes mark source target fits k = rw (one_less bytes fits, video_on target) refl
 
 -- all bytes are copied
@@ -145,9 +138,6 @@ module _ {x : MachineState} (h : AtCopy x) (way : CopyPath) (here : x.cpu.pc ≡
   few = (is_view x h.stands.machine).r 12
 
   module _ {y : MachineState} {t u : ℕ} (e : Exits x y t u (copy_on way v)) where
-    left_is : (view y).r.r12 ≡ v.r.r12 - 1
-    left_is = ap (λ (w : View). w.r.r12) e.shows ∙ one_down v.r.r12 (some_left way v may) few
-
     -- a byte from a source to a target that the way tells
     goes : (c : Changes) (bytes : ℕ) (base : View) (source target : ℕ) → GoesBack c (from_on way source) base →
         v ≡ seen_on way base c (suc bytes) (marked_by (copied (suc bytes) (from_on way source) (to_on way target) c).shows 0) source target →
@@ -207,7 +197,7 @@ module _ {x : MachineState} (h : AtCopy x) (way : CopyPath) (here : x.cpu.pc ≡
         idle = idle_told y.cpu.memory (ap (λ (w : View). w.vdp.held) e.shows ∙ held_on way v (idle_video x.cpu.memory h.idle))
             (ap (λ (w : View). w.grom.half_written) e.shows ∙ idle_on way v (idle_grom x.cpu.memory h.idle));
       };
-      left = left_is;
+      left = ap (λ (w : View). w.r.r12) e.shows ∙ one_down v.r.r12 (some_left way v may) few;
       most = 4;
       comes = comes e (record {
         within = let a = one_at_most (difference_of Word v.r.r12 1 == 0) in omega arith;

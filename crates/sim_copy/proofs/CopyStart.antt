@@ -4,12 +4,13 @@ use Rattle.std.proofs.Common.{subst, sym}
 use Rattle.std.proofs.lemmas.Bool.{eqb-false, eqb-true, le-ltb, ltb-true}
 use Rattle.std.proofs.Math.Nat.{pos_of_ne-zero}
 use Rattle.sim_rows.proofs.Common.{Changes, CHARACTER, copied, COPY, Cpu, difference_of, Exit, exit, From, FromGrom, FromMemory, grom_at, GromState, high}
-use Rattle.sim_rows.proofs.Common.{IsFetched, IsView, join, low, marked_by, next_at, next_in_vdp, no_other, NoOperation, pair_kind, PairKind, pick, place_in}
-use Rattle.sim_rows.proofs.Common.{ReadSetup, RegisterWrite, with_video_address, sum_of, To, ToMemory, ToRegisters, Vdp, VdpState, View, Word, WriteSetup}
+use Rattle.sim_rows.proofs.Common.{IsFetched, IsView, join, low, marked_by, next_at, next_in_vdp, no_other, pair_kind, pick, place_in}
+use Rattle.sim_rows.proofs.Common.{with_video_address, sum_of, To, ToMemory, ToRegisters, Vdp, VdpState, View, Word, WriteSetup}
+use Rattle.sim_rows.specs.Prelude.{NoOperation, PairKind, ReadSetup, RegisterWrite}
 use Rattle.sim_copy.specs.Copying.{Copying, StandsFrom, StandsTo}
 use Rattle.sim_copy.proofs.CopiedBytes.{all_made, source_is, target_is}
 use Rattle.sim_copy.proofs.Marks.{cells_mark, video_mark}
-use Rattle.sim_copy.proofs.Places.{each, one_at_most}
+use Rattle.sim_copy.proofs.Places.{each}
 use Rattle.sim_copy.proofs.Routines.{source_in, target_in}
 use Rattle.sim_copy.specs.Bytes.{AllCopied, AtByte, AtEnd, AtHead, charged, CopiesAt, CopyingAt, CopyingByRoutines, CopyingOnWay, from_on, GoesBack}
 use Rattle.sim_copy.specs.Bytes.{in_memory, MayGo, Points, seen, seen_on, to_memory, to_on}
@@ -17,6 +18,7 @@ use Rattle.sim_copy.specs.Pieces.{by_routines, CellsToCells, CellsToVideo, first
 use Rattle.sim_copy.specs.Pieces.{set_source, start_copy, target_set, video_at, VideoToCells, CopyPath}
 use Rattle.sim_rows.specs.sim_operands.Pieces.{one_if}
 use Rattle.sim_rows.specs.native_interp.declared.addresses.TheConstants.{COPYCC, COPYCV, COPYE, COPYGC, COPYGV, COPYVC}
+use Rattle.sim_rows.proofs.StepStart.{one_at_most}
 
 -- ---- the video processor, set to an address
 

@@ -1,16 +1,12 @@
 -- The runs of the pieces on the view.
-use Rattle.std.proofs.Common.{[], ℕ, ◌+◌, ◌-◌, ◌<◌, ◌==◌, ◌∷◌, ◌≡◌, arith, Bool, false, if◌then◌else◌, List, nat_lt, refl, subst, sym, true}
+use Rattle.std.proofs.Common.{[], ℕ, ◌+◌, ◌-◌, ◌<◌, ◌==◌, ◌∷◌, ◌≡◌, arith, Bool, false, if◌then◌else◌, List, nat_lt, refl, true}
 pub use Rattle.sim_rows.proofs.Common.{piece}
 use Rattle.sim_rows.proofs.Common.{CHARACTER, COPY, COPYN, COPYS, difference_of, Exit, exit, Leads, leads, LOAD, MOVEB, not_limit, Part, part_then, pick, Rest}
-use Rattle.sim_rows.proofs.Common.{RESUME, with_video_address, SHOW, spot_cell, STORE, sum_of, View, Word}
+use Rattle.sim_rows.proofs.Common.{rest_is, RESUME, with_video_address, SHOW, spot_cell, STORE, sum_of, View, Word}
 use Rattle.sim_rows.specs.native_interp.declared.addresses.TheConstants.{COPYCC, COPYCV, COPYE, COPYGC, COPYGV, COPYVC, MOVEP, SETR, SETW, SETWA}
 use Rattle.sim_copy.specs.Bytes.{MayGo, Points}
 use Rattle.sim_copy.specs.Pieces.{CellsToCells, CellsToVideo, first_cell, GromToCells, GromToVideo, VideoToCells}
 use Rattle.sim_copy.specs.Pieces as pieces
-
--- an exit by its cases
-rest_is : {ends : List ℕ} {made most : ℕ} {v : View} {p : ℕ} {e d : Exit} → d ≡ e → Rest ends made most v p e → Rest ends made most v p d
-rest_is {ends = ends} {made = made} {most = most} {v = v} {p = p} is rest = subst (λ (e : Exit). Rest ends made most v p e) (sym is) rest
 
 abbrev begin_ends : List ℕ
 begin_ends = COPYE ∷ COPY ∷ SETR ∷ SETW ∷ COPYCC ∷ COPYGC ∷ []

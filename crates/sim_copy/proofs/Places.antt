@@ -2,9 +2,8 @@
 use Rattle.std.proofs.Common.{ℕ, ◌<◌, ◌==◌, ◌∙◌, ◌≡◌, ◌≤◌, ap, arith, Bool, false, if◌then◌else◌, None, Option, refl, Some, subst, sym, true}
 use Rattle.sim_rows.proofs.Common.{Changes, COPY, From, is_end, MachineState, Stands, To, View}
 use Rattle.sim_copy.specs.Copying.{Copying}
-use Rattle.sim_copy.specs.Bytes.{AllCopied, AtByte, AtEnd, AtHead, ByRoutines, charged, Copied, CopiesAt, CopyingAt, CopyingByRoutines, CopyingOnWay, MayGo}
+use Rattle.sim_copy.specs.Bytes.{AllCopied, AtByte, AtEnd, AtHead, charged, Copied, CopiesAt, CopyingAt, CopyingByRoutines, CopyingOnWay, MayGo}
 use Rattle.sim_copy.specs.Bytes.{OnWay, Points}
-use Rattle.sim_rows.specs.sim_operands.Pieces.{one_if}
 use Rattle.sim_copy.specs.Pieces.{CellsToCells, CellsToVideo, GromToCells, GromToVideo, head_of, VideoToCells, CopyPath}
 use Rattle.sim_rows.specs.native_interp.declared.addresses.TheConstants.{COPYCC, COPYCV, COPYE, COPYGC, COPYGV, COPYVC}
 
@@ -70,12 +69,6 @@ some_left way v =
     each (λ way. MayGo way v → 0 < v.r.r12) (λ k. k.0.some) (λ (k : Points v.r.r7 v.r.r12). k.some) (λ (k : Points v.r.r7 v.r.r12). k.some)
     (λ (k : Points v.r.r2 v.r.r12). k.some) (λ k. k) way
 
--- a byte is left, and it does not go on a way
-pub at_byte : (p : ℕ) (v : View) → CopiesAt p v → 0 < v.r.r12 → ((way : CopyPath) → p ≡ head_of way → ⊥) → (p ≡ COPY) × ByRoutines v
-at_byte p v (AtByte e k) some f = (e, k)
-at_byte p v (AtHead way e k) some f = absurd (f way e)
-at_byte p v (AtEnd e z) some f = absurd (omega arith)
-
 -- none is left at COPYE alone
 pub at_end : (p : ℕ) (v : View) → CopiesAt p v → v.r.r12 ≡ 0 → p ≡ COPYE
 at_end p v (AtByte e k) z = absurd (let s = k.some in omega arith)
@@ -95,10 +88,6 @@ pub at_pc : (x : MachineState) (p : ℕ) → Stands x p → Stands x x.cpu.pc
 at_pc x p h = record { pc = refl; wp = h.wp; words = h.words; machine = h.machine }
 
 -- ---- how many instructions
-
-pub one_at_most : (b : Bool) → one_if b ≤ 1
-one_at_most true = omega arith
-one_at_most false = omega arith
 
 pub few_charged : (p : ℕ) → charged p ≤ 11
 few_charged p = by (p == COPY) (p == COPYE)

@@ -198,15 +198,12 @@ module _ {x a : MachineState} {t t1 : ℕ} (h : AtCopy x) (left : ByRoutines (vi
     abbrev at_b : View
     at_b = read_of (asked v)
 
-    seen_b : view b ≡ at_b
-    seen_b = loaded.holds.is ∙ ap read_of e.shows
-
     module _ {d : MachineState} {t3 : ℕ} (e3 : Exits b d t2 t3 (pieces.store_byte (view b))) where
       abbrev at_d : View
       at_d = (pieces.store_byte at_b).left
 
       seen_d : view d ≡ at_d
-      seen_d = e3.shows ∙ ap (λ (u : View). (pieces.store_byte u).left) seen_b
+      seen_d = e3.shows ∙ ap (λ (u : View). (pieces.store_byte u).left) (loaded.holds.is ∙ ap read_of e.shows)
 
       pub idle_storing : PortsAreIdle d.cpu.memory
       idle_storing =
@@ -262,8 +259,7 @@ module _ {x a : MachineState} {t t1 : ℕ} (h : AtCopy x) (left : ByRoutines (vi
                 r9 = join number 0;
                 r11 = COPYN;
                 address = stored.holds.address;
-                byte =
-                    stored.holds.byte;
+                byte = stored.holds.byte;
                 is = seen_y;
               }
 

@@ -29,7 +29,3 @@ missing most s x y t u to Shows (Err reason) other here a = record { reason = re
 pub both : {X Y : Type 0} (r : Result X Reason) (f : X → Result Y Reason) (y : Y) → (r >>= f) ≡ Ok y → (x : X) × (r ≡ Ok x) × (f x ≡ Ok y)
 both (Ok x) f y e = (x, refl, e)
 both (Err reason) f y e = absurd (cc)
-
-pub same_then : {X Y : Type 0} (a b : Result X Reason) (f g : X → Result Y Reason) → a ≡ b → ((x : X) → f x ≡ g x) → (a >>= f) ≡ (b >>= g)
-same_then a (Ok x) f g e h = rw e (h x)
-same_then a (Err reason) f g e h = rw e refl

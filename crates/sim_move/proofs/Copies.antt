@@ -2,7 +2,7 @@
 use Rattle.std.proofs.Common.{ℕ, ◌%◌, ◌/◌, ◌<◌, ◌==◌, ◌∙◌, ◌≡◌, ◌≤◌, ap, arith, Bool, Err, Ok, Option, refl, Result, Some, subst, sym, true}
 use Rattle.sim_rows.proofs.Common.{◌>>=◌, AtDispatch, barred_stops, code_byte, ReachesWithin, comes_as, comes_on, even, fetched_of, Finds, finds_of, FindsOperand, From}
 use Rattle.sim_rows.proofs.Common.{from_placed, FromGrom, FromMemory, GOMOVE, GplOperand, GplOperation, GplState, grom_at, GromIndexedToMemory, GromState}
-use Rattle.sim_rows.proofs.Common.{GromToMemory, GromToRegisters, GSTOP, idle_of, index_by, indexed, is_view, length_of, MachineState, MemoryToMemory}
+use Rattle.sim_rows.proofs.Common.{GromToMemory, GSTOP, idle_of, index_by, indexed, is_view, length_of, MachineState, MemoryToMemory}
 use Rattle.sim_rows.proofs.Common.{most_of_address, most_to_copy, Move, MOVEB, MoveKind, MOVEL, MOVES, MOVEX, next_in_grom, operand_at, operation_entry}
 use Rattle.sim_rows.proofs.Common.{operation_in, operation_in_view, origin_of, Place, place_of, Placed, Reason, return_of, Stands, stands_at, state_at_dispatch}
 use Rattle.sim_rows.proofs.Common.{StoppedBy, target_of, To, ToMemory, ToRegisters, View, view, within_limit, word_at}
@@ -25,9 +25,7 @@ entry_is _ e = absurd (cc)
 
 at_entry : (kind : MoveKind) → source_entry kind ≡ GSTOP → ⊥
 at_entry GromToMemory e = absurd (omega arith)
-at_entry GromIndexedToMemory e = absurd (omega arith)
-at_entry MemoryToMemory e = absurd (omega arith)
-at_entry GromToRegisters e = absurd (omega arith)
+at_entry _ e = absurd (omega arith)
 
 -- the target stays where nothing of it changes
 stands_again : (to : To) (v w : View) → StandsTo to v → w.r.r7 ≡ v.r.r7 → w.r.r8 ≡ v.r.r8 → StandsTo to w
@@ -117,10 +115,8 @@ module _ (s : GplState) {x a : MachineState} {t t1 : ℕ} (fits : code_byte s < 
         -- ---- a source in memory
 
         memory_alone : (kind : MoveKind) → (source_entry kind ≡ MOVES → ⊥) → kind ≡ MemoryToMemory
-        memory_alone GromToMemory e = absurd (e refl)
-        memory_alone GromIndexedToMemory e = absurd (e refl)
         memory_alone MemoryToMemory e = refl
-        memory_alone GromToRegisters e = absurd (e refl)
+        memory_alone _ e = absurd (e refl)
 
         module _ (family : is_move (operation_in s) ≡ true) (other : b.cpu.pc ≡ MOVES → ⊥) where
           only : (kind : MoveKind) → operation_in s ≡ Some (Move kind) → kind ≡ MemoryToMemory
@@ -235,7 +231,6 @@ module _ (s : GplState) {x a : MachineState} {t t1 : ℕ} (fits : code_byte s < 
             origin_by : (kind : MoveKind) → source_entry kind ≡ MOVES → (found : ℕ × To) →
                 (let pair : From → Result ((ℕ × To) × From) Reason = λ from. Ok (found, from) in
                 (origin_of s found.0 (source_read kind s).0 >>= pair) ≡ (indexed s (index_of kind (has_index kind)).0 (address kind).0 >>= from_address found))
-            origin_by GromToMemory e found = refl
             origin_by GromIndexedToMemory e found = then_pair (indexed s (index_of GromIndexedToMemory true).0 (address GromIndexedToMemory).0) found
               where
                 then_pair : (r : Result ℕ Reason) (found : ℕ × To) →
@@ -244,13 +239,11 @@ module _ (s : GplState) {x a : MachineState} {t t1 : ℕ} (fits : code_byte s < 
                 then_pair (Ok address) found = refl
                 then_pair (Err reason) found = refl
             origin_by MemoryToMemory e found = absurd (omega arith)
-            origin_by GromToRegisters e found = refl
+            origin_by _ e found = refl
 
             next_by : (kind : MoveKind) → source_entry kind ≡ MOVES → (source_read kind s).1 ≡ (index_of kind (has_index kind)).1
-            next_by GromToMemory e = refl
-            next_by GromIndexedToMemory e = refl
             next_by MemoryToMemory e = absurd (omega arith)
-            next_by GromToRegisters e = refl
+            next_by _ e = refl
 
             next_is : (kind : MoveKind) → operation_in s ≡ Some (Move kind) → (source_read kind s).1 ≡ (index kind).1
             next_is kind known = next_by kind (in_grom kind known) ∙ ap (λ (b : Bool). (index_of kind b).1) (sym (bit_is kind known))

@@ -1,8 +1,9 @@
 -- What is found lies where it may be copied.
-use Rattle.std.proofs.Common.{ℕ, ◌+◌, ◌<◌, ◌∙◌, ◌≡◌, ◌≤◌, arith, Bool, Err, false, if◌then◌else◌, nat_le, Ok, refl, Result, Some, subst, sym, true}
+use Rattle.std.proofs.Common.{ℕ, ◌+◌, ◌<◌, ◌∙◌, ◌≡◌, ◌≤◌, arith, Err, nat_le, Ok, refl, Result, Some, subst, sym}
 use Rattle.std.proofs.lemmas.Bool.{leb-true}
 use Rattle.sim_rows.proofs.Common.{◌>>=◌, Changes, From, FromGrom, FromMemory, GplState, indexed, lies_at, MoveSource, MoveTarget, number_of_space, origin_of}
 use Rattle.sim_rows.proofs.Common.{Place, place_lies, place_of, Reason, Register, space_small, target_of, To, ToMemory, ToRegisters, View}
+use Rattle.sim_rows.proofs.Common.{pick}
 use Rattle.sim_copy.specs.Copying.{StandsFrom, StandsTo}
 use Rattle.sim_rows.specs.gpl_defs.declared.instruction.MoveTarget.TheVariants as target
 use Rattle.sim_rows.specs.gpl_defs.declared.instruction.MoveSource.TheVariants as source
@@ -36,11 +37,8 @@ target_gives : (s : GplState) (bytes : ℕ) (t : MoveTarget) → Gives (ToLies b
 target_gives s bytes (target.At operand) =
     place_gives (ToLies bytes) bytes (place_of s bytes operand) ToMemory (λ place e. lies_at bytes (place_of s bytes operand) place
     (place_lies s bytes operand) e)
-target_gives s bytes (target.Register number) = by (nat_le (number + bytes) 8) refl
-  where
-    by : (b : Bool) → nat_le (number + bytes) 8 ≡ b → Gives (ToLies bytes) (if b then Ok (ToRegisters number) else Err Register)
-    by true e = leb-true (number + bytes) 8 e
-    by false e = tt
+target_gives s bytes (target.Register number) =
+    pick (nat_le (number + bytes) 8) (λ e. rw e (leb-true (number + bytes) 8 e)) (λ e. rw e tt)
 
 source_gives : (s : GplState) (bytes : ℕ) (t : MoveSource) → Gives (FromLies bytes) (origin_of s bytes t)
 source_gives s bytes (source.At operand) =

@@ -1,16 +1,16 @@
 -- The step of MOVE is its copy, or the stop by the first check that fails.
-use Rattle.std.proofs.Common.{ℕ, ◌*◌, ◌+◌, ◌∙◌, ◌≡◌, ap, Bool, Err, false, if◌then◌else◌, nat_le, nat_lt, Ok, refl, Result, Some, subst, true}
-use Rattle.sim_rows.proofs.Common.{◌>>=◌, bound, bound_made, bytes_or_none, Cell, Changes, copied, finished, From, FromMemory, GplState, indexed, is_visible}
-use Rattle.sim_rows.proofs.Common.{Length, length_of, Lies, Move, moved, MoveKind, MoveLength, MoveSource, MoveTarget, operation_in, origin_of, Place}
-use Rattle.sim_rows.proofs.Common.{place_lies, place_of, place_same, plus, Reason, Register, step, step_move, target_of, To, ToMemory, ToRegisters, value_at}
-use Rattle.sim_rows.proofs.Common.{value_same, within_limit, Word}
+use Rattle.std.proofs.Common.{ℕ, ◌*◌, ◌+◌, ◌∙◌, ◌≡◌, ap, Err, nat_le, nat_lt, Ok, refl, Result, Some, subst}
+use Rattle.sim_rows.proofs.Common.{◌>>=◌, bound, bound_made, bytes_or_none, Changes, copied, finished, From, FromMemory, GplState, indexed, is_visible}
+use Rattle.sim_rows.proofs.Common.{length_of, Lies, Move, moved, MoveKind, MoveLength, MoveSource, MoveTarget, operation_in, origin_of, Place}
+use Rattle.sim_rows.proofs.Common.{place_lies, place_of, place_same, Reason, Register, step, step_move, target_of, To, ToMemory, value_at}
+use Rattle.sim_rows.proofs.Common.{value_same, within_limit, Word, pick}
 use Rattle.sim_rows.specs.gpl_step_defs.declared.reason.Reason.TheVariants.{Exit}
-use Rattle.sim_rows.specs.gpl_step_defs.Place.{word_at}
 use Rattle.sim_rows.specs.gpl_defs.declared.instruction.MoveLength.TheVariants as counted
 use Rattle.sim_rows.specs.gpl_defs.declared.instruction.MoveTarget.TheVariants as target
 use Rattle.sim_rows.specs.gpl_defs.declared.instruction.MoveSource.TheVariants as source
+use Rattle.sim_rows.proofs.Steps.{bind_same}
 use Rattle.sim_move.specs.Moves.{begun, copy_in, length_read, source_read, target_in, target_read}
-use Rattle.sim_move.proofs.Arrivals.{both, same_then}
+use Rattle.sim_move.proofs.Arrivals.{both}
 use Rattle.sim_move.proofs.Numbers.{within_is}
 
 -- ---- another pc makes no difference
@@ -20,7 +20,7 @@ at_pc s n = record s { pc = n }
 
 length_same : (s : GplState) (n : ℕ) (l : MoveLength) → length_of (at_pc s n) l ≡ length_of s l
 length_same s n (counted.At operand) =
-    same_then (place_of (at_pc s n) 2 operand) (place_of s 2 operand) (λ p. Ok (value_at (at_pc s n) Word p)) (λ p. Ok (value_at s Word p))
+    bind_same (place_of (at_pc s n) 2 operand) (place_of s 2 operand) (λ p. Ok (value_at (at_pc s n) Word p)) (λ p. Ok (value_at s Word p))
     (place_same (at_pc s n) s 2 operand refl)
     (λ p. ap Ok (value_same (at_pc s n) s Word p refl refl))
 length_same s n (counted.Immediate count) = refl
@@ -31,8 +31,7 @@ target_same s n bytes (target.Register number) = refl
 
 origin_same : (s : GplState) (n bytes : ℕ) (t : MoveSource) → origin_of (at_pc s n) bytes t ≡ origin_of s bytes t
 origin_same s n bytes (source.At operand) = ap (λ (r : Result Place Reason). r >>= λ p. Ok (FromMemory p)) (place_same (at_pc s n) s bytes operand refl)
-origin_same s n bytes (source.Grom address) = refl
-origin_same s n bytes (source.GromIndexed address index) = refl
+origin_same s n bytes _ = refl
 
 -- ---- the three parts, and then the copy
 
@@ -76,9 +75,9 @@ module _ (s : GplState) (kind : MoveKind) where
       let t = (target_read kind s).0 in
       let o = (source_read kind s).0 in
       let k : ℕ → To → From → Changes = λ bytes to from. copied bytes from to (begun kind s) in
-      same_then (length_of (at_pc s n) l) (length_of s l) _ _ (length_same s n l)
-      (λ count. same_then (within_limit count) (within_limit count) _ _ refl
-      (λ bytes. same_then (target_of (at_pc s n) bytes t) (target_of s bytes t) _ _ (target_same s n bytes t)
+      bind_same (length_of (at_pc s n) l) (length_of s l) _ _ (length_same s n l)
+      (λ count. bind_same (within_limit count) (within_limit count) _ _ refl
+      (λ bytes. bind_same (target_of (at_pc s n) bytes t) (target_of s bytes t) _ _ (target_same s n bytes t)
       (λ to. ap (λ (r : Result From Reason). r >>= λ from. Ok (k bytes to from)) (origin_same s n bytes o))))
       ∙ by_length within_limit (λ bytes. target_of s bytes t) (λ bytes. origin_of s bytes o) k (length_of s l)
 
@@ -157,30 +156,19 @@ lies_never bytes (Ok place) h = tt
 lies_never bytes (Err reason) h = λ e. absurd (cc)
 
 indexed_never : (s : GplState) (index address : ℕ) → Never (indexed s (Some index) address)
-indexed_never s index address = by (is_visible 2 index)
-  where
-    by : (b : Bool) → Never (if b then Ok (plus address (word_at s index)) else Err Cell)
-    by true = tt
-    by false = λ e. absurd (cc)
+indexed_never s index address = pick (is_visible 2 index) (λ e. rw e tt) (λ e. rw e (λ f. absurd (cc)))
 
 length_never : (s : GplState) (l : MoveLength) → Never (length_of s l)
 length_never s (counted.At operand) = then_never (place_of s 2 operand) _ (lies_never 2 _ (place_lies s 2 operand)) (λ p. tt)
 length_never s (counted.Immediate count) = tt
 
 limit_never : (count : ℕ) → Never (within_limit count)
-limit_never count = by (nat_lt 16384 count)
-  where
-    by : (b : Bool) → Never (if b then Err Length else Ok count)
-    by true = λ e. absurd (cc)
-    by false = tt
+limit_never count = pick (nat_lt 16384 count) (λ e. rw e (λ f. absurd (cc))) (λ e. rw e tt)
 
 target_never : (s : GplState) (bytes : ℕ) (t : MoveTarget) → Never (target_of s bytes t)
 target_never s bytes (target.At operand) = then_never (place_of s bytes operand) _ (lies_never bytes _ (place_lies s bytes operand)) (λ p. tt)
-target_never s bytes (target.Register number) = by (nat_le (number + bytes) 8)
-  where
-    by : (b : Bool) → Never (if b then Ok (ToRegisters number) else Err Register)
-    by true = tt
-    by false = λ e. absurd (cc)
+target_never s bytes (target.Register number) =
+    pick (nat_le (number + bytes) 8) (λ e. rw e tt) (λ e. rw e (λ f. absurd (cc)))
 
 source_never : (s : GplState) (bytes : ℕ) (t : MoveSource) → Never (origin_of s bytes t)
 source_never s bytes (source.At operand) = then_never (place_of s bytes operand) _ (lies_never bytes _ (place_lies s bytes operand)) (λ p. tt)

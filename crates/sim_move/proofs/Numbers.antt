@@ -1,24 +1,13 @@
 -- Facts about numbers that MOVE needs.
-use Rattle.std.proofs.Common.{ℕ, ◌%◌, ◌*◌, ◌+◌, ◌/◌, ◌<◌, ◌==◌, ◌||◌, ◌≡◌, ◌≤◌, ap, arith, Bool, eqb, Err, false, if◌then◌else◌, nat_lt, not, Ok, refl}
+use Rattle.std.proofs.Common.{ℕ, ◌%◌, ◌*◌, ◌+◌, ◌/◌, ◌<◌, ◌==◌, ◌≡◌, ◌≤◌, ap, arith, Bool, eqb, Err, false, if◌then◌else◌, nat_lt, Ok, refl}
 use Rattle.std.proofs.Common.{Result, true}
-use Rattle.std.proofs.lemmas.Bool.{agree_below_at, eq-eqb, eqb-true, le-ltb, ltb-false, ltb-true, ne_eqb}
+use Rattle.std.proofs.lemmas.Bool.{agree_below_at, eqb-true, ltb-false}
 use Rattle.sim_rows.proofs.Common.{join, last_out, Length, Reason, shifted, SRL, within_limit}
 use Rattle.sim_move.specs.Pieces.{form_of}
 
 -- a byte that was read over a cleared register comes down
 pub byte_down : (byte : ℕ) → byte < 256 → shifted SRL (join byte 0) 8 ≡ byte
 byte_down byte h = omega arith
-
--- what a comparison of two numbers says
-pub below_or_equal : (limit number : ℕ) (below : Bool) → nat_lt number limit ≡ below → (nat_lt limit number || number == limit) ≡ not below
-below_or_equal limit number true c = let l : number < limit =
-    ltb-true number limit c in rw (le-ltb limit number (omega arith), ne_eqb number limit (λ e. omega arith)) refl
-below_or_equal limit number false c = by (nat_lt limit number) refl
-  where
-    by : (b : Bool) → nat_lt limit number ≡ b → (b || number == limit) ≡ true
-    by true d = refl
-    by false d = let l : limit ≤ number = ltb-false number limit c in let m : number ≤ limit =
-        ltb-false limit number d in rw (eq-eqb number limit (omega arith)) refl
 
 -- the lowest bit of a code byte
 pub odd_bit : (code : ℕ) → last_out SRL code 1 ≡ (code % 2 == 1)

@@ -3,17 +3,13 @@ use Rattle.std.proofs.Common.{[], ◌∷◌, false, nat_lt, refl, true}
 pub use Rattle.sim_rows.proofs.Common.{is_view, piece}
 use Rattle.sim_rows.proofs.Common.{ADDR, GOMOVE, INDEX, IsView, last_out, Leads, leads, LOAD, MOVEA, MOVEB, MOVED, MOVEK, MOVEL, MOVEN, MOVER, MOVES, MOVEW}
 use Rattle.sim_rows.proofs.Common.{MOVEX, not_above, not_limit, Part, part_then, past, pick, Rest, SEEK, SRL, STREAM, sum_of, View, WHERE, Word}
-use Rattle.sim_move.proofs.Numbers.{below_or_equal, byte_down}
+use Rattle.sim_move.proofs.Numbers.{byte_down}
 use Rattle.sim_move.specs.Pieces as pieces
 use Rattle.sim_rows.specs.native_interp.declared.addresses.TheConstants.{MOVERC}
+use Rattle.sim_rows.proofs.Facts.{from_limit}
 
 pub ask_length : (v : View) → Leads (ADDR ∷ MOVEN ∷ []) v GOMOVE (pieces.ask_length v)
-ask_length v = record {
-  by = λ f q.
-      pick (last_out SRL v.r.r0 1)
-      (λ c. rw c refl)
-      (λ c. rw c refl);
-}
+ask_length v = record { by = λ f q. pick (last_out SRL v.r.r0 1) (λ c. rw c refl) (λ c. rw c refl) }
 
 pub load_length : (v : View) → Leads (LOAD ∷ []) v MOVEN (pieces.load_length v)
 load_length v = record { by = λ f q. refl }
@@ -24,8 +20,8 @@ keep_length v = record {
       pick (nat_lt 0x4000 v.r.r6)
       (λ c. rw (c, not_limit 0x4000 v.r.r6 c) refl)
       (λ c. pick (nat_lt v.r.r0 0x38)
-      (λ d. rw (c, below_or_equal 0x38 v.r.r0 true d, d) refl)
-      (λ d. rw (c, below_or_equal 0x38 v.r.r0 false d, d) refl));
+      (λ d. rw (c, from_limit 0x38 v.r.r0 true d, d) refl)
+      (λ d. rw (c, from_limit 0x38 v.r.r0 false d, d) refl));
 }
 
 pub keep_target : (v : View) → Leads (ADDR ∷ MOVES ∷ []) v MOVED (pieces.keep_target v)

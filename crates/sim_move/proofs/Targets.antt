@@ -32,9 +32,6 @@ stops_there s bytes next reason v w h c d r1 r0 = record {
   reason_is = r0;
 }
 
-not_both : (b : Bool) → b ≡ true → b ≡ false → ⊥
-not_both b e f = cc
-
 module _ {x a : MachineState} {t t1 : ℕ} (stands : Stands x MOVEL) (e : Exits x a t t1 (pieces.keep_length (view x))) where
   abbrev v : View
   v = view x
@@ -146,8 +143,7 @@ module _ {x a : MachineState} {t t1 : ℕ} (stands : Stands x MOVEL) (e : Exits 
                           vdp = h.holds.sees.vdp;
                           registers = h.holds.sees.registers;
                           held = h.holds.sees.held;
-                          grom =
-                              grom;
+                          grom = grom;
                         };
                     code = h.holds.code;
                     address = h.holds.address;
@@ -204,10 +200,8 @@ module _ {x a : MachineState} {t t1 : ℕ} (stands : Stands x MOVEL) (e : Exits 
 
         -- the target of a kind whose target is in memory
         of_memory : (kind : MoveKind) (s : GplState) → to_memory kind ≡ true → target_read kind s ≡ (target.At (operand s).0, (operand s).1)
-        of_memory GromToMemory s e = refl
-        of_memory GromIndexedToMemory s e = refl
-        of_memory MemoryToMemory s e = refl
         of_memory GromToRegisters s e = absurd (cc)
+        of_memory _ s e = refl
 
         kind_to_memory : (s : GplState) (kind : MoveKind) (count : ℕ) → code_byte s < 256 → operation_in s ≡ Some (Move kind) →
             LengthTold s (length_read s).1 count v → to_memory kind ≡ true

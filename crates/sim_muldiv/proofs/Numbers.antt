@@ -1,21 +1,11 @@
 -- Facts about numbers that MUL and DIV need.
-use Rattle.std.proofs.Common.{ℕ, ◌%◌, ◌&&◌, ◌*◌, ◌/◌, ◌<◌, ◌==◌, ◌||◌, ◌∙◌, ◌≡◌, ◌≤◌, ap, arith, Bool, false, lit<, nat_lt, not, refl, Some, suc, sym, true}
+use Rattle.std.proofs.Common.{ℕ, ◌%◌, ◌&&◌, ◌*◌, ◌/◌, ◌<◌, ◌∙◌, ◌≡◌, ◌≤◌, ap, arith, Bool, lit<, nat_lt, refl, Some, suc, sym, true}
 use Rattle.std.proofs.Common.{zero}
-use Rattle.std.proofs.Math.Nat.{div-lt_iff_lt-mul, mod-lt, mul-div_cancel}
+use Rattle.std.proofs.Math.Nat.{div-lt_iff_lt-mul, mul-div_cancel}
 use Rattle.std.proofs.lemmas.Nat.{le-div}
-use Rattle.std.proofs.lemmas.Bool.{and_parts, eq-eqb, le-ltb, lt-ltb, ltb-false, ltb-true, ne_eqb}
+use Rattle.std.proofs.lemmas.Bool.{and_parts, le-ltb, lt-ltb, ltb-true}
+use Rattle.std.proofs.lemmas.Bool.Decides.{nat_tests}
 use Rattle.sim_rows.proofs.Common.{Byte, division_of, double_word, has_quotient, high, join, low, modulus, shifted, SLA, SRL, sum_of, swapped, Width, Word}
-
--- above, or equal
-pub below_or_equal : (limit number : ℕ) (below : Bool) → nat_lt number limit ≡ below → (nat_lt limit number || number == limit) ≡ not below
-below_or_equal limit number true c = let l : number < limit =
-    ltb-true number limit c in rw (le-ltb limit number (omega arith), ne_eqb number limit (λ e. omega arith)) refl
-below_or_equal limit number false c = by (nat_lt limit number) refl
-  where
-    by : (b : Bool) → nat_lt limit number ≡ b → (b || number == limit) ≡ true
-    by true d = refl
-    by false d = let l : limit ≤ number = ltb-false number limit c in let m : number ≤ limit =
-        ltb-false limit number d in rw (eq-eqb number limit (omega arith)) refl
 
 -- a divisor is some number
 pub some_divisor : (word : ℕ) → 256 ≤ word → word < 65536 → nat_lt 0 (shifted SRL word 8) ≡ true
@@ -29,11 +19,7 @@ division_is more less divisor c = rw (c, division_of) refl
 -- ---- whether a quotient fits
 
 same_test : (a b c d : ℕ) → (a < b → c < d) → (b ≤ a → d ≤ c) → nat_lt a b ≡ nat_lt c d
-same_test a b c d f g = by (nat_lt a b) refl
-  where
-    by : (t : Bool) → nat_lt a b ≡ t → t ≡ nat_lt c d
-    by true e = sym (lt-ltb c d (f (ltb-true a b e)))
-    by false e = sym (le-ltb c d (g (ltb-false a b e)))
+same_test a b c d f g = grind (arith, nat_tests)
 
 -- it does where the dividend is below the divisor of so much higher weight
 fits_below : (weight dividend divisor : ℕ) → nat_lt dividend (weight * divisor) ≡ (nat_lt 0 divisor && nat_lt (dividend / divisor) weight)
@@ -55,9 +41,6 @@ pub quotient_fits : (width : Width) (dividend divisor : ℕ) → has_quotient wi
 quotient_fits width dividend divisor e =
     let b = and_parts (nat_lt 0 divisor) (nat_lt (dividend / divisor) (modulus width)) e in
     (ltb-true 0 divisor b.0, ltb-true (dividend / divisor) (modulus width) b.1)
-
-pub remainder_fits : (dividend divisor : ℕ) → 0 < divisor → dividend % divisor < divisor
-remainder_fits dividend divisor some = mod-lt dividend some
 
 -- ---- bytes
 

@@ -3,7 +3,8 @@ use Rattle.std.proofs.Common.{[], ◌<◌, ◌==◌, ◌∷◌, ◌≤◌, false
 use Rattle.std.proofs.lemmas.Bool.{lt-ltb}
 pub use Rattle.sim_rows.proofs.Common.{is_view, piece}
 use Rattle.sim_rows.proofs.Common.{DIVBY, DIVE, DIVL, DIVQ, DIVS, DIVV, DIVW, IsView, Leads, LOAD, MULB, MULV, OVER, pick, shifted, SHOW, SRL, STO, STORE, View}
-use Rattle.sim_muldiv.proofs.Numbers.{below_or_equal, division_is, some_divisor}
+use Rattle.sim_rows.proofs.Facts.{from_limit}
+use Rattle.sim_muldiv.proofs.Numbers.{division_is, some_divisor}
 use Rattle.sim_muldiv.specs.Pieces as pieces
 
 pub multiply : (v : View) → Leads (STO ∷ STORE ∷ []) v MULV (pieces.multiply v)
@@ -17,9 +18,9 @@ compare_divisor v = record {
   by = λ f q.
       pick (nat_lt v.r.r9 v.r.r6)
       (λ c. pick (v.r.r3 == 1)
-      (λ d. rw (below_or_equal v.r.r6 v.r.r9 true c, c, d) refl)
-      (λ d. rw (below_or_equal v.r.r6 v.r.r9 true c, c, d) refl))
-      (λ c. rw (below_or_equal v.r.r6 v.r.r9 false c, c) refl);
+      (λ d. rw (from_limit v.r.r6 v.r.r9 true c, c, d) refl)
+      (λ d. rw (from_limit v.r.r6 v.r.r9 true c, c, d) refl))
+      (λ c. rw (from_limit v.r.r6 v.r.r9 false c, c) refl);
 }
 
 pub divide_bytes : (v : View) → IsView v → 256 ≤ v.r.r6 → Leads (DIVS ∷ []) v DIVBY (pieces.divide_bytes v)

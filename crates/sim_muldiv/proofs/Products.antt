@@ -5,9 +5,10 @@ use Rattle.sim_rows.proofs.Common.{GplState, GSTEP, high, idle_again, in_registe
 use Rattle.sim_rows.proofs.Common.{MUL, MULB, MULV, next_of, operation_in, Place, PortsAreIdle, reads_destination, return_of, row_changed, row_width, RunsRow}
 use Rattle.sim_rows.proofs.Common.{SeesFinished, shifted, size_of, SLA, Source, SRL, Stands, STO, STORE, store_then, stored_idle, StoresResult, StoresValue}
 use Rattle.sim_rows.proofs.Common.{Storing, Two, unchanged, value_at, View, view, Width, width_in, with_double, with_value, Word}
+use Rattle.sim_rows.proofs.StoredResults.{exits_by}
 use Rattle.sim_muldiv.specs.Family.{is_muldiv, IsReady}
 use Rattle.sim_muldiv.proofs.Numbers.{byte_product, high_of}
-use Rattle.sim_muldiv.proofs.RowFacts.{as_byte, as_word, byte_fits_at, exits_by, first_visible, loaded_is, second_visible, width_there, word_visible}
+use Rattle.sim_muldiv.proofs.RowFacts.{as_byte, as_word, byte_fits_at, first_visible, loaded_is, second_visible, width_there, word_visible}
 use Rattle.sim_muldiv.specs.Pieces as pieces
 
 is_mul : (s : GplState) → operation_in s ≡ Some (Two MUL) → is_muldiv (operation_in s) ≡ true
@@ -84,15 +85,12 @@ module _ {x a : MachineState} {t u : ℕ} (ready : IsReady x) (word : width_in (
   pub store_idle : PortsAreIdle a.cpu.memory
   store_idle = idle_again x.cpu.memory a.cpu.memory (ap (λ (w : View). w.vdp) asked.shows) (ap (λ (w : View). w.grom) asked.shows) ready.idle
 
-  store_space : (view a).r.r8 < 2
-  store_space = subst (λ (w : View). w.r.r8 < 2) (sym asked.shows) ready.space
-
   pub store_visible : IsVisible (view a).r.r8 (view a).r.r7 (view a).r.r3
   store_visible = subst (λ (w : View). IsVisible w.r.r8 w.r.r7 w.r.r3) (sym asked.shows) (first_visible p.r.r8 p.r.r7 p.r.r3 ready.visible)
 
   module _ {b : MachineState} {u2 : ℕ} (stores : (view a).r.r8 < 2 → StoresValue a b u u2) where
     stored : StoresValue a b u u2
-    stored = stores store_space
+    stored = stores (subst (λ (w : View). w.r.r8 < 2) (sym asked.shows) ready.space)
 
     back_is : return_of (view a) ≡ MULB
     back_is = ap (λ (w : View). even w.r.r11) asked.shows

@@ -2,6 +2,7 @@
 use Rattle.std.proofs.Common.{ℕ, ◌%◌, ◌+◌, ◌/◌, ◌<◌, ◌==◌, ◌∙◌, ◌≡◌, ◌≤◌, ap, arith, Bool, false, if◌then◌else◌, List, nat_lt, refl, slice_index, slice_set}
 use Rattle.std.proofs.Common.{Some, subst, sym, true}
 use Rattle.std.proofs.lemmas.Bool.{ltb-true}
+use Rattle.std.proofs.lemmas.Nat.{mod_below}
 use Rattle.sim_rows.proofs.Common.{AtRow, behind, Byte, ShowsChanges, changed_again, ChangedFrom, Changes, ReachesWithin, comes, comes_as, comes_on, comes_then, DIV, DIVBY}
 use Rattle.sim_rows.proofs.Common.{DIVE, divided, DIVL, DIVQ, DIVS, DIVV, DIVW, double_at, double_word, EndsRow, even, exit, Exits, Goes, goes_in, gone_on}
 use Rattle.sim_rows.proofs.Common.{GplState, GSTEP, has_quotient, high, idle_again, idle_grom, idle_told, idle_video, in_register, is_end, is_view, IsVisible}
@@ -12,7 +13,7 @@ use Rattle.sim_rows.proofs.Common.{stored_idle, StoresValue, Storing, storing_ag
 use Rattle.sim_rows.proofs.Common.{width_in, with_byte, with_overflow, with_quotient, with_value, Word}
 use Rattle.sim_muldiv.specs.Family.{AreVisible, Divided, dividend_in, Divides, EndsDivision, EndsQuotient, is_muldiv, IsReady, MayStore, MayStoreQuotient}
 use Rattle.sim_muldiv.specs.Family.{second_in}
-use Rattle.sim_muldiv.proofs.Numbers.{byte_divides, byte_fits, divisor_down, high_of, low_of, no_first_word, quotient_fits, remainder_fits, together}
+use Rattle.sim_muldiv.proofs.Numbers.{byte_divides, byte_fits, divisor_down, high_of, low_of, no_first_word, quotient_fits, together}
 use Rattle.sim_muldiv.proofs.Numbers.{word_divides}
 use Rattle.sim_muldiv.proofs.RowFacts.{loaded_is, ready_again, second_visible, width_if, width_there, word_fits_at, word_visible}
 use Rattle.sim_muldiv.specs.Pieces as pieces
@@ -29,12 +30,9 @@ module _ {x a : MachineState} {t u : ℕ} (ready : MayStore x) (first : Exits x 
   pub last_idle : PortsAreIdle a.cpu.memory
   last_idle = idle_again x.cpu.memory a.cpu.memory (ap (λ (w : View). w.vdp) first.shows) (ap (λ (w : View). w.grom) first.shows) ready.idle
 
-  last_space : (view a).r.r8 < 2
-  last_space = subst (λ (w : View). w.r.r8 < 2) (sym first.shows) ready.space
-
   module _ {b : MachineState} {u2 : ℕ} (stores : (view a).r.r8 < 2 → StoresValue a b u u2) where
     stored : StoresValue a b u u2
-    stored = stores last_space
+    stored = stores (subst (λ (w : View). w.r.r8 < 2) (sym first.shows) ready.space)
 
     last_back : return_of (view a) ≡ DIVE
     last_back = ap (λ (w : View). even w.r.r11) first.shows
@@ -108,7 +106,7 @@ module _ {x a : MachineState} {t u : ℕ} (ready : IsReady x) (byte : width_in (
       let one : double_word 0 v.r.r9 ≡ dividend = no_first_word v.r.r9 ∙ nine in
       let has_byte : has_quotient Byte dividend divisor ≡ true = subst (λ (k : Width). has_quotient k (double_at s k place) divisor ≡ true) width has in
       let fits = quotient_fits Byte dividend divisor has_byte in
-      let less = remainder_fits dividend divisor fits.0 in
+      let less = mod_below dividend divisor fits.0 in
       let rest : dividend % divisor < 256 = omega arith in
       let number = join (dividend / divisor) (dividend % divisor) in
       let words : ℕ → ℕ → ℕ = λ n m. sum_of Word (swapped (n / m)) (n % m) in
@@ -145,12 +143,9 @@ module _ {x a : MachineState} {t u : ℕ} (ready : IsReady x) (word : width_in (
   pub load_visible : IsVisible (view a).r.r5 (view a).r.r2 (view a).r.r3
   load_visible = subst (λ (w : View). IsVisible w.r.r5 w.r.r2 w.r.r3) (sym first.shows) (second_visible p.r.r8 p.r.r7 p.r.r3 word ready.visible)
 
-  load_space : (view a).r.r5 < 2
-  load_space = subst (λ (w : View). w.r.r5 < 2) (sym first.shows) ready.space
-
   module _ {b : MachineState} {u2 : ℕ} (loads : (view a).r.r5 < 2 → LoadsValue a b u u2) where
     loaded : LoadsValue a b u u2
-    loaded = loads load_space
+    loaded = loads (subst (λ (w : View). w.r.r5 < 2) (sym first.shows) ready.space)
 
     load_back : return_of (view a) ≡ DIVL
     load_back = ap (λ (w : View). even w.r.r11) first.shows
@@ -303,8 +298,7 @@ over_is false byte v e = refl
 
 byte_is : (fits byte : Bool) (v : View) → way fits byte v ≡ DIVBY → (fits ≡ true) × (byte ≡ true)
 byte_is true true v e = (refl, refl)
-byte_is true false v e = absurd (omega arith)
-byte_is false byte v e = absurd (omega arith)
+byte_is _ _ v e = absurd (omega arith)
 
 word_is : (fits byte : Bool) (v : View) → (way fits byte v ≡ OVER → ⊥) → (way fits byte v ≡ DIVBY → ⊥) → (fits ≡ true) × (byte ≡ false)
 word_is true true v e f = absurd (f refl)
@@ -314,8 +308,7 @@ word_is false byte v e f = absurd (e refl)
 goes_by : (fits byte : Bool) (v : View) (p : ℕ) → way fits byte v ≡ p →
     Goes (if fits then (if byte then exit 4 DIVBY v else exit 4 DIVW v) else exit 2 OVER v) 4 p (λ u. u ≡ v)
 goes_by true true v p e = record { within = omega arith; to_is = e; holds = refl }
-goes_by true false v p e = record { within = omega arith; to_is = e; holds = refl }
-goes_by false byte v p e = record { within = omega arith; to_is = e; holds = refl }
+goes_by _ _ v p e = record { within = omega arith; to_is = e; holds = refl }
 
 double_same : (s g : GplState) (width : Width) (place : Place) → s.cells ≡ g.cells → s.vdp ≡ g.vdp → double_at s width place ≡ double_at g width place
 double_same s g Byte place e f = value_same s g Word place e f

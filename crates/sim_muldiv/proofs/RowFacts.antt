@@ -1,14 +1,11 @@
 -- What is known at the row of MUL and DIV.
 use Rattle.std.proofs.Common.{ℕ, ◌%◌, ◌*◌, ◌+◌, ◌<◌, ◌==◌, ◌∙◌, ◌≡◌, ap, arith, Bool, false, if◌then◌else◌, List, Ok, Option, refl, slice_index, Some, subst}
 use Rattle.std.proofs.Common.{sym, true}
-use Rattle.sim_rows.proofs.Common.{AtRow, Byte, byte_at, byte_in, bytes_by, Cpu, destination_bytes, destination_visible, DIV, Exit, Exits, GplOperation}
+use Rattle.sim_rows.proofs.Common.{AtRow, Byte, byte_at, byte_in, bytes_by, Cpu, destination_bytes, destination_visible, DIV, GplOperation}
 use Rattle.sim_rows.proofs.Common.{GplState, idle_again, idle_of, in_register, IsView, IsVisible, loaded_of, low, MachineState, MUL, next_of, operands_of}
 use Rattle.sim_rows.proofs.Common.{operation_in, pick, Place, row_width, ShowsState, size_of, Source, Space, space_small, Two, value_at, Vdp, View, view, Width}
 use Rattle.sim_rows.proofs.Common.{width_again, width_in, Word}
 use Rattle.sim_muldiv.specs.Family.{AreVisible, is_muldiv, IsReady}
-
-pub exits_by : {x y : MachineState} {t u : ℕ} (d e : Exit) → d ≡ e → Exits x y t u d → Exits x y t u e
-exits_by {x = x} {y = y} {t = t} {u = u} d e is h = subst (λ (k : Exit). Exits x y t u k) is h
 
 -- ---- the width
 

@@ -1,7 +1,8 @@
 -- Facts about numbers that the pieces need.
 use Rattle.std.proofs.Common.{ℕ, ◌&&◌, ◌+◌, ◌<◌, ◌==◌, ◌≡◌, ◌≤◌, ap, arith, Bool, false, if◌then◌else◌, int_lt, nat_lt, not, pos}
 use Rattle.std.proofs.Common.{refl, true}
-use Rattle.std.proofs.lemmas.Bool.{agree_below_at, eq-eqb, le-leb, le-ltb, lt-leb, lt-ltb, eqb-true, ltb-false, ltb-true, ne_eqb}
+use Rattle.std.proofs.lemmas.Bool.{agree_below_at, le-leb, le-ltb, lt-leb, lt-ltb, ltb-false}
+use Rattle.std.proofs.lemmas.Bool.Decides.{nat_tests}
 use Rattle.sim_view.proofs.Common.{Byte, Cell, join, shifted, signed, size_of, spot, SRL, Word, WORKSPACE}
 use Rattle.sim_operands.specs.Values.{IsVisible}
 use Rattle.sim_view.specs.native_interp.declared.addresses.TheConstants.{BEHIND, ORIGIN}
@@ -25,7 +26,7 @@ spot_cell address offset e h =
 
 -- what is above a limit is not the limit
 pub not_limit : (limit number : ℕ) → nat_lt limit number ≡ true → (number == limit) ≡ false
-not_limit limit number above = let h : limit < number = ltb-true limit number above in ne_eqb number limit (λ e. omega arith)
+not_limit limit number above = grind (arith, nat_tests)
 
 pub at_most : (limit number : ℕ) → nat_lt limit number ≡ false → number ≤ limit
 at_most limit number below = ltb-false limit number below
@@ -49,19 +50,16 @@ not_both b e f = cc
 
 -- the space of the cells is the one that is neither of the others
 pub no_other : (space : ℕ) → (space == 1) ≡ false → nat_lt 1 space ≡ false → space ≡ 0
-no_other space one more = let h = at_most 1 space more in let n = ne_of space one in omega arith
-  where
-    ne_of : (n : ℕ) → (n == 1) ≡ false → (n ≡ 1 → ⊥)
-    ne_of n e is = not_both (n == 1) (eq-eqb n 1 is) e
+no_other space one more = grind (arith, nat_tests)
 
 pub not_cells : (space : ℕ) → (space == 1) ≡ true → (space == 0) ≡ false
-not_cells space c = let e : space ≡ 1 = eqb-true space 1 c in rw e refl
+not_cells space c = grind (arith, nat_tests)
 
 pub not_above_one : (space : ℕ) → (space == 1) ≡ true → nat_lt 1 space ≡ false
-not_above_one space c = let e : space ≡ 1 = eqb-true space 1 c in rw e refl
+not_above_one space c = grind (arith, nat_tests)
 
 pub above_cells : (space : ℕ) → nat_lt 1 space ≡ true → (space == 0) ≡ false
-above_cells space d = let l : 1 < space = ltb-true 1 space d in ne_eqb space 0 (λ e. omega arith)
+above_cells space d = grind (arith, nat_tests)
 
 -- the cells of a visible place
 pub first_fits : (space offset width : ℕ) → IsVisible space offset width → space ≡ 0 → offset < 194

@@ -145,11 +145,7 @@ abbrev index_added : View → Exit
 index_added v =
     let offset = v.grom.fetched in
     pieces.exit 10 ASPACE (record v {
-      r = record v.r {
-        r2 = sum_of Word v.r.r2 (word_in v.cells offset);
-        r4 = offset;
-        r6 = word_in v.cells offset;
-      };
+      r = record v.r { r2 = sum_of Word v.r.r2 (word_in v.cells offset); r4 = offset; r6 = word_in v.cells offset };
       grom = past v.grom;
     })
 
@@ -337,12 +333,7 @@ stream v i = record {
 }
 
 pub store_video : (v : View) → Leads [] v SDATA (pieces.store_video v)
-store_video v = record {
-  by = λ f q.
-      pick (v.r.r3 == 1)
-      (λ c. rw c refl)
-      (λ c. rw c refl);
-}
+store_video v = record { by = λ f q. pick (v.r.r3 == 1) (λ c. rw c refl) (λ c. rw c refl) }
 
 pub store_register : (v : View) → Leads [] v SREG (pieces.store_register v)
 store_register v = record { by = λ f q. refl }

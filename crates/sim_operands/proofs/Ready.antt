@@ -1,14 +1,11 @@
 -- The ports at the entry of a subroutine.
-use Rattle.std.proofs.Common.{ℕ, ◌%◌, ◌*◌, ◌+◌, ◌/◌, ◌<◌, ◌∙◌, ◌≡◌, ap, arith, Bool, false, is_none, None, not, Option, refl, slice_index, Some, sym, true}
+use Rattle.std.proofs.Common.{ℕ, ◌%◌, ◌*◌, ◌+◌, ◌/◌, ◌<◌, ◌∙◌, ◌≡◌, ap, arith, Bool, false, is_none, None, Option, refl, slice_index, Some, sym, true}
+use Rattle.std.proofs.lemmas.Bool.{not-true}
 use Rattle.sim_view.proofs.Common.{Exit, GromState, is_grom_idle, IsFetched, join, Memory, next-previous, next_in_grom, PortsAreIdle}
 use Rattle.sim_view.proofs.Common.{previous_in_grom, View, view_of}
 use Rattle.sim_operands.specs.Pieces.{past, with_grom_address}
 use Rattle.sim_operands.specs.Subroutines.{fetched, grom_at, next_at, after_seek}
 use Rattle.sim_operands.specs.Pieces as pieces
-
-not_true : (b : Bool) → not b ≡ true → b ≡ false
-not_true true e = absurd (cc)
-not_true false e = refl
 
 none_is : (held : Option ℕ) → is_none held ≡ true → held ≡ None
 none_is None e = refl
@@ -20,7 +17,7 @@ grom_ready g idle is =
     let at = previous_in_grom g.counter in
     ap (λ c. made c g.fetched g.half_written) (sym (next-previous g.counter))
     ∙ ap (λ f. made (next_in_grom at) f g.half_written) is
-    ∙ ap (λ h. made (next_in_grom at) (slice_index g.image at) h) (not_true g.half_written idle)
+    ∙ ap (λ h. made (next_in_grom at) (slice_index g.image at) h) (not-true g.half_written idle)
 
 -- The GROMs of a machine that is ready for a subroutine give the byte at their address next.
 pub ready : (m : Memory) → PortsAreIdle m → IsFetched m.grom → (view_of m).grom ≡ grom_at (view_of m).grom.image (next_at (view_of m))
@@ -29,7 +26,7 @@ ready m idle is = grom_ready m.grom idle.grom is
 
 pub idle_grom : (m : Memory) → PortsAreIdle m → (view_of m).grom.half_written ≡ false
 unfolding view_of
-idle_grom m idle = not_true m.grom.half_written idle.grom
+idle_grom m idle = not-true m.grom.half_written idle.grom
 
 pub idle_video : (m : Memory) → PortsAreIdle m → (view_of m).vdp.held ≡ None
 unfolding view_of
@@ -42,8 +39,7 @@ fetches v e =
 
 pub set_is : (g : GromState) (word : ℕ) → g.half_written ≡ false → word < 65536 → with_grom_address word g ≡ grom_at g.image word
 set_is g word h k =
-    let j : 256 * ((256 * (word / 256) + g.counter % 256) / 256) + word % 256 ≡ word = omega arith in
-    rw (h, j) refl
+    let j : 256 * ((256 * (word / 256) + g.counter % 256) / 256) + word % 256 ≡ word = omega arith in rw (h, j) refl
 
 pub seeks : (v : View) → v.grom.half_written ≡ false → v.r.r6 < 65536 → pieces.seek v ≡ after_seek v
 seeks v h k =

@@ -10,7 +10,7 @@ use Rattle.sim_operands.specs.Pieces as pieces
 use Rattle.sim_operands.proofs.Transfers as transfers
 
 -- an exit of which all is known
-just : (e : Exit) (most to : ℕ) → e.count ≤ most → e.to ≡ to → Goes e most to (λ w. w ≡ e.left)
+pub just : (e : Exit) (most to : ℕ) → e.count ≤ most → e.to ≡ to → Goes e most to (λ w. w ≡ e.left)
 just e most to le is = record { within = le; to_is = is; holds = refl }
 
 module _ (x : MachineState) (s : ℕ) (p : ℕ) (stands : Stands x p) (idle : PortsAreIdle x.cpu.memory) where

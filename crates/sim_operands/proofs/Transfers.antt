@@ -36,14 +36,14 @@ video_at : (address : ℕ) → address < 65536 → shifted SRL (shifted SLA addr
 video_at address h = omega arith
 
 -- the kind of a pair by the top bits of its second byte
-abbrev kind_by : ℕ → PairKind
+abbrev pub kind_by : ℕ → PairKind
 kind_by bits =
     if bits == 0 then ReadSetup else if bits == 1 then WriteSetup else if bits == 2 then RegisterWrite else NoOperation
 
-read_kind : (at : ℕ) → at < 16384 → pair_kind (high at) ≡ ReadSetup
+pub read_kind : (at : ℕ) → at < 16384 → pair_kind (high at) ≡ ReadSetup
 read_kind at h = let n : high at / 64 ≡ 0 = omega arith in ap kind_by n
 
-pair_is : (at : ℕ) → at < 16384 → join (high at % 64) (low at) ≡ at
+pub pair_is : (at : ℕ) → at < 16384 → join (high at % 64) (low at) ≡ at
 pair_is at h = omega arith
 
 -- the video processor, set to an address for reading

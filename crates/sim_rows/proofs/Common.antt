@@ -7,8 +7,9 @@ pub use Rattle.sim_operands.proofs.AddressPieces.{Answers, index_read, IndexRead
 pub use Rattle.sim_operands.proofs.Facts.{at_most, byte_is, down, no_other, not_limit, spot_cell}
 pub use Rattle.sim_operands.proofs.Paths.{rest_is}
 pub use Rattle.sim_operands.proofs.Ready.{idle_grom, idle_video, ready, set_is}
+pub use Rattle.sim_operands.proofs.TransferPieces.{just}
 pub use Rattle.sim_rows.proofs.Again.{begins, fetched_again, first_way, idle_again, idle_told, second_way}
-pub use Rattle.sim_rows.proofs.StepStart.{back_is, from, just, known, located_at, lost, where_found}
+pub use Rattle.sim_rows.proofs.StepStart.{back_is, from, known, located_at, lost, where_found}
 pub use Rattle.sim_rows.proofs.Codes.{if_true, one_below, two_above}
 pub use Rattle.sim_rows.proofs.Ends.{fetched_of, idle_of, leaves, matches, reaches, same_state, state_at, stops, turned_by, turned_from}
 pub use Rattle.sim_rows.proofs.Facts.{not_above}
@@ -39,10 +40,10 @@ pub use Rattle.sim_rows.specs.Prelude.{last_out, Length, length_at, length_of, L
 pub use Rattle.sim_rows.specs.Prelude.{low, MachineState, marked_by, Matches, Memory, MemoryToMemory, modulus, most_to_dispatch, Move, MOVEA, MOVEB, MOVED}
 pub use Rattle.sim_rows.specs.Prelude.{moved, MOVEK, MoveKind, MOVEL, MoveLength, MOVEN, MOVER, MOVES, MoveSource, MoveTarget, MOVEW, MOVEX, MUL, MULB, MULV}
 pub use Rattle.sim_rows.specs.Prelude.{negation_flags, negation_of, NEGV, new_grom, next_at, next_from, next_in_grom, next_in_vdp, next_of, next_seed, next_to}
-pub use Rattle.sim_rows.specs.Prelude.{NoOperation, number_of, number_of_space, of_register, on_stack, One, one_more, OneName, ones_cleared, ones_set, Opcode}
-pub use Rattle.sim_rows.specs.Prelude.{operands_of, operation_at, operation_entry, operation_in, operation_in_view, origin_of, ORV, OVER, OVF, pair_kind, PairKind}
-pub use Rattle.sim_rows.specs.Prelude.{past, Place, place_in, place_of, Placed, Plain, PlainOp, plus, PortsAreIdle, previous_in_grom, product_of, PUSH, PUSHV}
-pub use Rattle.sim_rows.specs.Prelude.{RAND, RANDL, RANDOM, ranged, read_by, reads_destination, ReadSetup, Reason, Register, RegisterWrite, repeated}
+pub use Rattle.sim_rows.specs.Prelude.{number_of, number_of_space, of_register, on_stack, One, one_more, OneName, ones_cleared, ones_set, Opcode}
+pub use Rattle.sim_rows.specs.Prelude.{operands_of, operation_at, operation_entry, operation_in, operation_in_view, origin_of, ORV, OVER, OVF, pair_kind}
+pub use Rattle.sim_rows.specs.Prelude.{past, Place, place_in, place_of, Placed, Plain, PlainOp, plus, PortsAreIdle, product_of, PUSH, PUSHV}
+pub use Rattle.sim_rows.specs.Prelude.{RAND, RANDL, RANDOM, ranged, read_by, reads_destination, Reason, Register, repeated}
 pub use Rattle.sim_rows.specs.Prelude.{repeated_sign, RESUME, return_of, row_entry, row_result, row_width, RTN, RTNC, run, Runs, RunsRow, second_by, SEED, SEEK}
 pub use Rattle.sim_rows.specs.Prelude.{ShowsState, SeesFinished, SeesResult, with_grom_address, with_video_address, shifted, shifted_left, shifted_right, ShiftOp, SHOW, shown_by}
 pub use Rattle.sim_rows.specs.Prelude.{signed, size_of, SLA, SLLB, SLLV, Source, source_at, source_of, Space, space_of, SRA, SRAB, SRAV, SRC, SRCB, SRCV, SRL}
@@ -54,4 +55,4 @@ pub use Rattle.sim_rows.specs.Prelude.{vdp_data_written, VdpState, View, view, W
 pub use Rattle.sim_rows.specs.Prelude.{with_cell, with_condition, with_double, with_immediate, with_overflow, with_pc, with_quotient, with_register}
 pub use Rattle.sim_rows.specs.Prelude.{with_status, with_stop, with_tested, with_value, with_word, with_word_in, within_limit, Word, word_at, word_in, word_of}
 pub use Rattle.sim_rows.specs.Prelude.{whole_turn, word_or_byte, WORKSPACE, WriteSetup, XORV}
-unfoldable pub use Rattle.sim_rows.specs.Prelude.{after, operand_at, reading, view_of, zeros}
+unfoldable pub use Rattle.sim_rows.specs.Prelude.{after, operand_at, view_of, zeros}

@@ -1,5 +1,6 @@
 -- The destination of a row, from the dispatch until it is kept.
 use Rattle.std.proofs.Common.{ℕ, ◌+◌, ◌<◌, ◌∙◌, ◌≡◌, ◌≤◌, ap, arith, Bool, Err, false, nat_lt, not, Ok, Option, refl, Result, Some, subst, sym, true}
+use Rattle.std.proofs.lemmas.Bool.{not-true}
 use Rattle.sim_rows.specs.Prelude.{ADDR, Asking, AtDispatch, behind_code, behind_destination, behind_first, bytes_by, code_byte, ReachesWithin, destination_bytes}
 use Rattle.sim_rows.specs.Prelude.{destination_size, DIV, even, Exits, Finds, FindsOperand, first_of, gone_on, GplOperation, GplState, GSTOP, is_end, is_row}
 use Rattle.sim_rows.specs.Prelude.{IsVisible, KeepsDestination, LOAD, LoadsDestination, LoadsValue, MachineState, MUL, next_at, number_of_space, operand_at}
@@ -127,11 +128,7 @@ module _ {x : MachineState} (at : AtDispatch is_row x) where
           (refl, subst (λ (b : Bool). KeepsDestination s place x z t w (not b)) (sym has) run)
 
       above : (op : TwoName) → operation_in s ≡ Some (operation.Two op) → nat_lt (code_byte s) 0xA0 ≡ false
-      above op is = by (nat_lt (code_byte s) 0xA0) (two_above (code_byte s) (fits at) op is)
-        where
-          by : (b : Bool) → not b ≡ true → b ≡ false
-          by true e = absurd (cc)
-          by false e = refl
+      above op is = not-true _ (two_above (code_byte s) (fits at) op is)
 
       module _ (here : x.cpu.pc ≡ STROW) where
         k : Storer (operation_in s)

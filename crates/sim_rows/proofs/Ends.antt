@@ -3,9 +3,9 @@ use Rattle.std.proofs.Common.{ℕ, ◌+◌, ◌<◌, ◌∙◌, ◌≡◌, ◌�
 use Rattle.std.proofs.Common.{sym, true, zero}
 use Rattle.sim_view.proofs.Common.{given, holds_register, previous-next, runs_then}
 use Rattle.sim_operands.proofs.Facts.{not_both}
-use Rattle.sim_rows.specs.Prelude.{bound, Cell, ReachesWithin, Dispatched, ShowsEnd, GEXIT, Gives, GplState, grom_at, GromState, GSTEP, GSTOP, HoldsRegister, is_end}
-use Rattle.sim_rows.specs.Prelude.{IsFetched, IsHalted, Length, MachineState, Matches, Memory, next_in_grom, number_of, Opcode, PortsAreIdle}
-use Rattle.sim_rows.specs.Prelude.{from_dispatch, previous_in_grom, Reaches, Reason, Register, Runs, shown_by, ShowsState, Stack, Stands, StandsBy, state_at_dispatch, state_of, whole_turn}
+use Rattle.sim_rows.specs.Prelude.{bound, ReachesWithin, Dispatched, ShowsEnd, GEXIT, Gives, GplState, GromState, GSTEP, GSTOP, HoldsRegister, is_end}
+use Rattle.sim_rows.specs.Prelude.{IsFetched, IsHalted, MachineState, Matches, Memory, next_in_grom, number_of, PortsAreIdle}
+use Rattle.sim_rows.specs.Prelude.{from_dispatch, previous_in_grom, Reaches, Reason, Runs, shown_by, ShowsState, Stands, StandsBy, state_at_dispatch, state_of, whole_turn}
 use Rattle.sim_rows.specs.Prelude.{step, StoppedBy, Turn, Turned, TurnedBy, VdpState, View, view, view_of}
 use Rattle.sim_view.specs.gpl_step_defs.declared.reason.Reason.TheVariants.{Exit}
 use Rattle.sim_view.specs.interp_defs.Interpreter.{most_to_dispatch}
@@ -18,9 +18,6 @@ pub same_state : (c c2 v v2 r r2 : List ℕ) (p p2 : ℕ) (i i2 : List ℕ) → 
 same_state c c2 v v2 r r2 p p2 i i2 a b d e f =
     ap (λ x. made x v r p i) a ∙ ap (λ x. made c2 x r p i) b ∙ ap (λ x. made c2 v2 x p i) d ∙ ap (λ x. made c2 v2 r2 x i) e ∙ ap (λ x. made c2 v2 r2 p2 x) f
 
-fetched_at : (image : List ℕ) (at : ℕ) → IsFetched (grom_at image at)
-fetched_at image at = ap (slice_index image) (sym (previous-next at))
-
 -- The ports of a memory whose view shows a state.
 pub idle_of : (m : Memory) (s : GplState) (at : ℕ) → ShowsState s at (view_of m) → PortsAreIdle m
 unfolding view_of
@@ -28,7 +25,7 @@ idle_of m s at h = record { vdp = ap is_none h.held; grom = ap (λ (g : GromStat
 
 pub fetched_of : (m : Memory) (s : GplState) (at : ℕ) → ShowsState s at (view_of m) → IsFetched m.grom
 unfolding view_of
-fetched_of m s at h = subst IsFetched (sym h.grom) (fetched_at s.image at)
+fetched_of m s at h = subst IsFetched (sym h.grom) (ap (slice_index s.image) (sym (previous-next at)))
 
 pub shown_is : (m : Memory) → shown_by m ≡ state_of (view_of m)
 unfolding view_of
@@ -82,11 +79,7 @@ leaves s y stands h = record {
 stands_by : (reason : Reason) (y : MachineState) → (reason ≡ Exit → ⊥) → (y.cpu.pc ≡ GSTOP) × HoldsRegister y.cpu.memory 0 (number_of reason) →
     StandsBy reason y
 stands_by Exit y other h = absurd (other refl)
-stands_by Opcode y other h = h
-stands_by Cell y other h = h
-stands_by Stack y other h = h
-stands_by Length y other h = h
-stands_by Register y other h = h
+stands_by _ y other h = h
 
 pub stops : (s : GplState) (reason : Reason) (y : MachineState) → (reason ≡ Exit → ⊥) → Stands y GSTOP → StoppedBy s reason (view y) → IsHalted s reason y
 stops s reason y other stands h = record {
@@ -115,12 +108,7 @@ reaches {x = x} {y = y} led bound c start end fits =
       count = c.count;
       within = omega arith;
       counted = c.counted;
-      turn = record {
-        some = operand_list c.count x y c.runs start there;
-        runs = c.runs;
-        there =
-            there;
-      };
+      turn = record { some = operand_list c.count x y c.runs start there; runs = c.runs; there = there };
     }
 
 -- the beginning of a step before a turn from its dispatch

@@ -1,6 +1,7 @@
 -- Facts about numbers that the pieces need.
-use Rattle.std.proofs.Common.{ℕ, ◌%◌, ◌&&◌, ◌*◌, ◌+◌, ◌-◌, ◌/◌, ◌<◌, ◌==◌, ◌≡◌, ◌≤◌, ◌||◌, ap, arith, Bool, false, nat_lt, not, refl, true}
-use Rattle.std.proofs.lemmas.Bool.{eq-eqb, le-leb, le-ltb, lt-leb, lt-ltb, ltb-false, ltb-true, ne_eqb}
+use Rattle.std.proofs.Common.{ℕ, ◌%◌, ◌&&◌, ◌*◌, ◌+◌, ◌-◌, ◌/◌, ◌<◌, ◌==◌, ◌≡◌, ◌≤◌, ◌||◌, ap, arith, Bool, nat_lt, not}
+use Rattle.std.proofs.lemmas.Bool.{eq-eqb, le-leb, lt-leb, lt-ltb}
+use Rattle.std.proofs.lemmas.Bool.Decides.{nat_tests}
 use Rattle.sim_view.proofs.Common.{Code, spot}
 use Rattle.sim_rows.specs.Pieces.{first_entry, first_row}
 use Rattle.sim_rows.specs.Prelude.{even, plus, TABLE, WORKSPACE}
@@ -28,20 +29,8 @@ spot_rows code l h = spot_code (even (plus (OPTAB - 0x80) code)) (first_row + (c
 
 -- below a limit
 pub not_above : (limit number : ℕ) (below : Bool) → nat_lt number limit ≡ below → (not (nat_lt limit number) && not (number == limit)) ≡ below
-not_above limit number true c = let l : number < limit =
-    ltb-true number limit c in rw (le-ltb limit number (omega arith), ne_eqb number limit (λ e. omega arith)) refl
-not_above limit number false c = by (nat_lt limit number) refl
-  where
-    by : (b : Bool) → nat_lt limit number ≡ b → (not b && not (number == limit)) ≡ false
-    by true d = refl
-    by false d = let l : limit ≤ number = ltb-false number limit c in let m : number ≤ limit =
-        ltb-false limit number d in rw (eq-eqb number limit (omega arith)) refl
+not_above limit number below c = grind (arith, nat_tests)
 
 -- from a limit on
 pub from_limit : (limit number : ℕ) (below : Bool) → nat_lt number limit ≡ below → (nat_lt limit number || (number == limit)) ≡ not below
-from_limit limit number below c = by (nat_lt limit number) (number == limit) (not_above limit number below c)
-  where
-    by : (a b : Bool) → (not a && not b) ≡ below → (a || b) ≡ not below
-    by true b e = ap not e
-    by false true e = ap not e
-    by false false e = ap not e
+from_limit limit number below c = grind (arith, nat_tests)

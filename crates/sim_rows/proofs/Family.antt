@@ -24,41 +24,10 @@ record OfRow (op : GplOperation) : Type 0 where
 
 of_row : (op : GplOperation) → is_row (Some op) ≡ true → OfRow op
 of_row (operation.One one.ABS) e = record { starts = refl; goes = refl; bytes = λ w. omega arith }
-of_row (operation.One one.NEG) e = record { starts = refl; goes = refl; bytes = λ w. omega arith }
-of_row (operation.One one.INV) e = record { starts = refl; goes = refl; bytes = λ w. omega arith }
-of_row (operation.One one.CLR) e = record { starts = refl; goes = refl; bytes = λ w. omega arith }
-of_row (operation.One one.CASE) e = record { starts = refl; goes = refl; bytes = λ w. omega arith }
-of_row (operation.One one.CZ) e = record { starts = refl; goes = refl; bytes = λ w. omega arith }
-of_row (operation.One one.INC) e = record { starts = refl; goes = refl; bytes = λ w. omega arith }
-of_row (operation.One one.DEC) e = record { starts = refl; goes = refl; bytes = λ w. omega arith }
-of_row (operation.One one.INCT) e = record { starts = refl; goes = refl; bytes = λ w. omega arith }
-of_row (operation.One one.DECT) e = record { starts = refl; goes = refl; bytes = λ w. omega arith }
-of_row (operation.One one.FETCH) e = record { starts = refl; goes = refl; bytes = λ w. omega arith }
-of_row (operation.One one.PUSH) e = record { starts = refl; goes = refl; bytes = λ w. omega arith }
+of_row (operation.One _) e = record { starts = refl; goes = refl; bytes = λ w. omega arith }
 of_row (operation.Two two.ADD) e = record { starts = refl; goes = refl; bytes = λ w. omega arith }
-of_row (operation.Two two.SUB) e = record { starts = refl; goes = refl; bytes = λ w. omega arith }
-of_row (operation.Two two.MUL) e = record { starts = refl; goes = refl; bytes = λ w. omega arith }
-of_row (operation.Two two.DIV) e = record { starts = refl; goes = refl; bytes = λ w. omega arith }
-of_row (operation.Two two.AND) e = record { starts = refl; goes = refl; bytes = λ w. omega arith }
-of_row (operation.Two two.OR) e = record { starts = refl; goes = refl; bytes = λ w. omega arith }
-of_row (operation.Two two.XOR) e = record { starts = refl; goes = refl; bytes = λ w. omega arith }
-of_row (operation.Two two.ST) e = record { starts = refl; goes = refl; bytes = λ w. omega arith }
-of_row (operation.Two two.EX) e = record { starts = refl; goes = refl; bytes = λ w. omega arith }
-of_row (operation.Two two.CH) e = record { starts = refl; goes = refl; bytes = λ w. omega arith }
-of_row (operation.Two two.CHE) e = record { starts = refl; goes = refl; bytes = λ w. omega arith }
-of_row (operation.Two two.CGT) e = record { starts = refl; goes = refl; bytes = λ w. omega arith }
-of_row (operation.Two two.CGE) e = record { starts = refl; goes = refl; bytes = λ w. omega arith }
-of_row (operation.Two two.CEQ) e = record { starts = refl; goes = refl; bytes = λ w. omega arith }
-of_row (operation.Two two.CLOG) e = record { starts = refl; goes = refl; bytes = λ w. omega arith }
-of_row (operation.Two two.SRA) e = record { starts = refl; goes = refl; bytes = λ w. omega arith }
-of_row (operation.Two two.SLL) e = record { starts = refl; goes = refl; bytes = λ w. omega arith }
-of_row (operation.Two two.SRL) e = record { starts = refl; goes = refl; bytes = λ w. omega arith }
-of_row (operation.Two two.SRC) e = record { starts = refl; goes = refl; bytes = λ w. omega arith }
-of_row (operation.Plain op) e = absurd (cc)
-of_row (operation.Byte op) e = absurd (cc)
-of_row (operation.Jump op) e = absurd (cc)
-of_row (operation.Branch on) e = absurd (cc)
-of_row (operation.Move kind) e = absurd (cc)
+of_row (operation.Two _) e = record { starts = refl; goes = refl; bytes = λ w. omega arith }
+of_row _ e = absurd (cc)
 
 pub starts_row : (o : Option GplOperation) → is_row o ≡ true → is_end (operation_entry o) ≡ false
 starts_row (Some op) e = (of_row op e).starts

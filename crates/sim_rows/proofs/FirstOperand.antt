@@ -1,15 +1,14 @@
 -- The operands of a row, piece by piece: the first operand is asked for and found.
 use Rattle.std.proofs.Common.{ℕ, ◌%◌, ◌*◌, ◌+◌, ◌<◌, ◌==◌, ◌∙◌, ◌≡◌, ◌≤◌, ap, arith, Bool, false, List, refl, Result, subst, sym, true}
-use Rattle.std.proofs.lemmas.Bool.{eq-eqb, eqb-true}
 use Rattle.std.proofs.lemmas.Nat.{and_mask}
-use Rattle.sim_view.proofs.Common.{comes, comes_as, comes_on, Goes, is_view, previous-next}
+use Rattle.std.proofs.lemmas.Bool.Decides.{nat_tests}
+use Rattle.sim_view.proofs.Common.{comes, comes_as, comes_on, Goes, is_view, previous-next, pick}
 use Rattle.sim_rows.specs.Prelude.{ADDR, Addressed, Asking, AtDispatch, OperandStop, behind_code, behind_destination, code_byte, ReachesWithin, conjunction_of, Cpu}
 use Rattle.sim_rows.specs.Prelude.{destination_bytes}
 use Rattle.sim_rows.specs.Prelude.{Dispatched, even, Exits, Finds, FindsOperand, GplState, grom_at, GromState, GSTOP, Holds, is_row, Loaded, LoadsFrom}
 use Rattle.sim_rows.specs.Prelude.{MachineState, next_at, number_of_space, operand_at, operation_in, Place, place_in, place_of, Placed, previous_in_grom}
 use Rattle.sim_rows.specs.Prelude.{Reason, return_of, ROW, row_width, ShowsState, size_of, Space, state_at_dispatch, state_of, StoppedBy, Vdp, VdpState, View, view}
 use Rattle.sim_rows.specs.Prelude.{WIDE, width_in, word_or_byte}
-use Rattle.sim_operands.proofs.Facts.{not_both}
 use Rattle.sim_rows.proofs.Entries.{Kind, narrow, storer, wide}
 use Rattle.sim_rows.proofs.Steps.{place_same}
 use Rattle.sim_rows.specs.Pieces as pieces
@@ -26,14 +25,9 @@ twice_is : (code : ℕ) → code < 256 → pieces.twice_of_code code ≡ 2 * (co
 twice_is code h = omega arith
 
 pub size_is : (code : ℕ) → size_of (word_or_byte (code % 2 == 1)) ≡ code % 2 + 1
-size_is code = by (code % 2 == 1) refl
-  where
-    by : (b : Bool) → (code % 2 == 1) ≡ b → size_of (word_or_byte b) ≡ code % 2 + 1
-    by true e = let n : code % 2 ≡ 1 = eqb-true (code % 2) 1 e in omega arith
-    by false e = let n : code % 2 ≡ 0 = not_one e in omega arith
-      where
-        not_one : (code % 2 == 1) ≡ false → code % 2 ≡ 0
-        not_one f = let g : code % 2 ≡ 1 → ⊥ = λ m. not_both (code % 2 == 1) (eq-eqb (code % 2) 1 m) f in omega arith
+size_is code =
+    pick (code % 2 == 1) (λ e. let one : code % 2 ≡ 1 = grind (arith, nat_tests) in rw (e, one) refl)
+    (λ e. let none : code % 2 ≡ 0 = grind (arith, nat_tests) in rw (e, none) refl)
 
 -- register 3 says that width
 pub width_of_size : (w : Bool) → width_in (size_of (word_or_byte w)) ≡ word_or_byte w
@@ -196,14 +190,11 @@ pub record Located (s : GplState) (bytes : ℕ) (place : Place) (next : ℕ) (w 
   pub holds : Holds s bytes next w
   pub from : LoadsFrom place w
 
-link_is : (s : GplState) (bytes at to : ℕ) (w : View) → even to ≡ to → Asking s bytes at to w → return_of w ≡ to
-link_is s bytes at to w e a = ap even a.link ∙ e
-
 pub located : (s : GplState) (bytes at next to most : ℕ) (x y z : MachineState) (t u w : ℕ) (place : Place) → even to ≡ to →
     ReachesWithin most x y t u ADDR (Asking s bytes at to) →
     ReachesWithin most_of_address y z u w (return_of (view y)) (Placed (view y) next place) → ReachesWithin (most + most_of_address) x z t w to (Located s bytes place next)
 located s bytes at next to most x y z t u w place even_to c d =
-    let e : return_of (view y) ≡ to = link_is s bytes at to (view y) even_to c.holds in
+    let e : return_of (view y) ≡ to = ap even c.holds.link ∙ even_to in
     let d2 : ReachesWithin most_of_address y z u w to (Placed (view y) next place) =
     subst (λ (p : ℕ). ReachesWithin most_of_address y z u w p (Placed (view y) next place)) e d in
     comes_as (most + most_of_address) (Located s bytes place next) (comes_on most 38 c d2 refl) (omega arith)

@@ -1,11 +1,8 @@
 -- A matching machine at the beginning of a step.
 use Rattle.std.proofs.Common.{ℕ, ◌<◌, ◌≡◌, arith, refl, slice_index}
-use Rattle.sim_rows.specs.Prelude.{grom_at, GSTEP, IsMachine, IsMatching, IsMemory, MachineState, Memory, next_at, PortsAreIdle, ShowsState, shown_by, Stands, view}
+use Rattle.sim_rows.specs.Prelude.{grom_at, IsMatching, IsMemory, MachineState, Memory, next_at, PortsAreIdle, ShowsState, shown_by, view}
 use Rattle.sim_rows.specs.Prelude.{view_of}
 use Rattle.sim_operands.proofs.Ready.{idle_video, ready}
-
-pub stands_at : (x : MachineState) → IsMachine x → IsMatching x → Stands x GSTEP
-stands_at x i m = record { pc = m.pc; wp = m.wp; words = m.words; machine = i }
 
 sees_by : (m : Memory) → PortsAreIdle m → (view_of m).grom ≡ grom_at (view_of m).grom.image (next_at (view_of m)) →
     ShowsState (shown_by m) (shown_by m).pc (view_of m)

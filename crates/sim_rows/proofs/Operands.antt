@@ -1,8 +1,8 @@
 -- The values of the operands of a row.
-use Rattle.std.proofs.Common.{ℕ, ◌%◌, ◌*◌, ◌+◌, ◌-◌, ◌/◌, ◌<◌, ◌==◌, ◌∙◌, ◌≡◌, ◌≤◌, ap, arith, Bool, eqb, false, if◌then◌else◌, List, nat_lt, None, Option}
+use Rattle.std.proofs.Common.{ℕ, ◌%◌, ◌*◌, ◌+◌, ◌-◌, ◌/◌, ◌<◌, ◌==◌, ◌∙◌, ◌≡◌, ◌≤◌, ap, arith, Bool, eqb, false, List, nat_lt, None, Option}
 use Rattle.std.proofs.Common.{refl, slice_index, Some, subst, sym, true}
-use Rattle.std.proofs.lemmas.Bool.{eq-eqb, eqb-true}
-use Rattle.sim_view.proofs.Common.{comes_as, comes_on, comes_then, goes_in}
+use Rattle.std.proofs.lemmas.Bool.Decides.{nat_tests}
+use Rattle.sim_view.proofs.Common.{comes_as, comes_on, comes_then, goes_in, pick}
 use Rattle.sim_rows.specs.Prelude.{ADDR, Addressed, OperandStop, behind_first, Byte, byte_in, code_byte, ReachesWithin, Cpu, destination_bytes, even, Exits, GO}
 use Rattle.sim_rows.specs.Prelude.{GplState, GSTOP, Holds, in_register, INTERP, is_end, is_row, IsVisible, join, Kept, last_out, LOAD, Loaded, LoadsFrom}
 use Rattle.sim_rows.specs.Prelude.{LoadsFromSource, LoadsValue, MachineState, number_of_space, operation_in, OPVAL, Place, place_in, Placed, plus, Reason}
@@ -36,15 +36,10 @@ pub record Loading (s : GplState) (bytes : ℕ) (place kept : Place) (next to : 
   pub link : w.r.r11 ≡ to
 
 -- a width is no longer than the bytes that are told
-not_one : (bytes : ℕ) → (bytes == 1) ≡ false → bytes ≡ 1 → ⊥
-not_one bytes f m = not_both (bytes == 1) (eq-eqb bytes 1 m) f
-
 size_within : (bytes : ℕ) → 0 < bytes → size_of (width_in bytes) ≤ bytes
-size_within bytes some = by (bytes == 1) refl
-  where
-    by : (b : Bool) → (bytes == 1) ≡ b → size_of (if b then Byte else Word) ≤ bytes
-    by true e = let n : bytes ≡ 1 = eqb-true bytes 1 e in omega arith
-    by false e = let n = not_one bytes e in let m : bytes ≡ 1 → ⊥ = n in omega (arith, m)
+size_within bytes some =
+    pick (bytes == 1) (λ e. rw e (let one : bytes ≡ 1 = grind (arith, nat_tests) in omega arith))
+    (λ e. rw e (let two : 2 ≤ bytes = grind (arith, nat_tests) in two))
 
 -- the place is visible
 pub visible_of : (place : Place) (bytes space address told : ℕ) → space ≡ number_of_space place.space → address ≡ place.address → told ≡ bytes → 0 < bytes →

@@ -43,12 +43,7 @@ pub keep_wide : (v : View) → Leads (OPSTWO ∷ []) v WIDVAL (pieces.keep_wide 
 keep_wide v = record { by = λ f q. refl }
 
 pub ask_second : (v : View) → Leads (STREAM ∷ ADDR ∷ []) v OPSTWO (pieces.ask_second v)
-ask_second v = record {
-  by = λ f q.
-      pick (last_out SRL v.r.r0 2)
-      (λ c. rw c refl)
-      (λ c. rw c refl);
-}
+ask_second v = record { by = λ f q. pick (last_out SRL v.r.r0 2) (λ c. rw c refl) (λ c. rw c refl) }
 
 pub load_second : (v : View) → Leads (LOAD ∷ []) v OPVAL (pieces.load_second v)
 load_second v = record { by = λ f q. refl }
@@ -60,12 +55,7 @@ pub go_to_row : (v : View) → 0x80 ≤ v.r.r0 → v.r.r0 < 0xEC → Leads [] v 
 go_to_row v l h = record { by = λ f q. rw (spot_rows v.r.r0 l h) refl }
 
 pub show : (v : View) → Leads (STORE ∷ []) v SHOW (pieces.show v)
-show v = record {
-  by = λ f q.
-      pick (v.r.r13 == 0)
-      (λ c. rw c refl)
-      (λ c. rw c refl);
-}
+show v = record { by = λ f q. pick (v.r.r13 == 0) (λ c. rw c refl) (λ c. rw c refl) }
 
 -- GSTEP, behind the two reads of the counter and its test
 abbrev at_back : View → ℕ → ℕ → View

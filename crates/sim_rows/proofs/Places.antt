@@ -4,6 +4,7 @@ use Rattle.std.proofs.lemmas.Bool.{leb-true}
 use Rattle.sim_rows.specs.Prelude.{◌>>=◌, Cell, Cpu, GplOperand, GplState, indexed, is_visible, number_of_space, Place, place_of, plus, pointed, ranged}
 use Rattle.sim_rows.specs.Prelude.{Reason, Space, Vdp}
 use Rattle.sim_view.specs.gpl_step_defs.Place.{word_at}
+use Rattle.sim_view.proofs.Common.{pick}
 
 -- A place is visible where it lies in the cells, and there is none for one reason alone.
 abbrev pub Lies : ℕ → Result Place Reason → Type 0
@@ -11,11 +12,8 @@ Lies bytes (Ok place) = number_of_space place.space ≡ 0 → place.address + by
 Lies bytes (Err reason) = reason ≡ Cell
 
 ranged_lies : (bytes : ℕ) (space : Space) (address : ℕ) → Lies bytes (ranged bytes space address)
-ranged_lies bytes Cpu address = by (is_visible bytes address) refl
-  where
-    by : (b : Bool) → is_visible bytes address ≡ b → Lies bytes (if b then Ok (record { space = Cpu; address = address }) else Err Cell)
-    by true e = λ z. leb-true (address + bytes) 0xC2 e
-    by false e = refl
+ranged_lies bytes Cpu address =
+    pick (is_visible bytes address) (λ e. rw e (λ z. leb-true (address + bytes) 0xC2 e)) (λ e. rw e refl)
 ranged_lies bytes Vdp address = λ z. absurd (omega arith)
 
 abbrev Alone : Result ℕ Reason → Type 0

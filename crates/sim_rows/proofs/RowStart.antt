@@ -1,5 +1,5 @@
 -- The beginning of a row: its destination, its source, and the second dispatch.
-use Rattle.std.proofs.Common.{ℕ, ◌<◌, ◌≡◌, ap, arith, Bool, Err, false, if◌then◌else◌, None, Ok, Option, refl, Result, subst, sym, true}
+use Rattle.std.proofs.Common.{ℕ, ◌<◌, ◌≡◌, ap, arith, Bool, Err, false, if◌then◌else◌, Ok, Option, refl, Result, subst, sym, true}
 use Rattle.sim_view.proofs.Common.{comes_as, comes_on}
 use Rattle.sim_rows.specs.Prelude.{◌>>=◌, behind_first, code_byte, ReachesWithin, Exits, first_of, GO, GplOperation, GplState, has_source, is_row, Kept}
 use Rattle.sim_rows.specs.Prelude.{KeepsDestination, AtRow, LoadsBy, LoadsDestination, LoadsOperands, MachineState, next_of, operands_of, operation_in, Place}
@@ -17,14 +17,6 @@ abbrev Loads : GplState → MachineState → MachineState → ℕ → ℕ → Bo
 Loads s x y t u went first second = LoadsOperands s x y t u went (first >>= λ place. (second >>= λ source. Ok (place, source)))
 
 module _ (s : GplState) (x b : MachineState) (t u : ℕ) where
-  -- the destination is not visible
-  pub operand_stop : LoadsDestination s x b t u false (first_of s) → LoadsOperands s x b t u false (operands_of s)
-  operand_stop l = by (first_of s) l
-    where
-      by : (r : Result Place Reason) → LoadsDestination s x b t u false r → Loads s x b t u false r (second_of s)
-      by (Ok place) l = absurd (not_both false l.0 refl)
-      by (Err reason) l = (refl, comes_as 107 _ l.1 (omega arith) (λ v a. a))
-
   -- it was kept
   pub record Begun : Type 0 where
     pub place : Place
@@ -74,14 +66,6 @@ module _ (s : GplState) (x b : MachineState) (t u : ℕ) where
         by (Err reason) l = (l.0, comes_as 107 _ (comes_on 65 42 o.comes l.1 refl) (omega arith) (λ v a. a))
 
 module _ (s : GplState) (x y : MachineState) (t u : ℕ) where
-  -- an operand is not visible
-  pub stopped : LoadsOperands s x y t u false (operands_of s) → StartsRow s x y t u None (operands_of s)
-  stopped l = by (operands_of s) l
-    where
-      by : (r : Result (Place × Source) Reason) → LoadsOperands s x y t u false r → StartsRow s x y t u None r
-      by (Ok o) l = absurd (not_both false l.0 refl)
-      by (Err reason) l = (refl, l.1)
-
   -- both are there
   pub record Ready : Type 0 where
     pub operands : Place × Source

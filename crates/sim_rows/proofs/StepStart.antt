@@ -8,6 +8,7 @@ use Rattle.sim_rows.specs.Prelude.{ReachesWithin, Dispatched, even, Exit, exit, 
 use Rattle.sim_rows.specs.Prelude.{low, operation_entry, past, return_of, ShowsState, with_grom_address, shifted, SLA, View, view}
 use Rattle.sim_operands.proofs.Ready.{set_is}
 use Rattle.sim_operands.specs.Pieces.{one_if}
+use Rattle.sim_operands.proofs.TransferPieces.{just}
 use Rattle.sim_rows.specs.Pieces as pieces
 use Rattle.sim_view.specs.interp_defs.Interpreter.{most_to_dispatch}
 
@@ -39,10 +40,6 @@ tested_at_most counter = by (low counter == 0) (pieces.at_first counter)
     by true true = omega arith
     by true false = omega arith
     by false b = omega arith
-
--- an exit of which all is known
-pub just : (e : Exit) (most to : ℕ) → e.count ≤ most → e.to ≡ to → Goes e most to (λ w. w ≡ e.left)
-just e most to le is = record { within = le; to_is = is; holds = refl }
 
 pub from : (f : View → Exit) {most to : ℕ} {Q : View → Type 0} {u w : View} → u ≡ w → Goes (f w) most to Q → Goes (f u) most to Q
 from f {most = most} {to = to} {Q = Q} is g = subst (λ (v : View). Goes (f v) most to Q) (sym is) g

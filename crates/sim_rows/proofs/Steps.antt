@@ -1,6 +1,7 @@
 -- The step of GPL by the operation of its code byte.
 use Rattle.std.proofs.Common.{ℕ, ◌%◌, ◌&&◌, ◌<◌, ◌==◌, ◌∙◌, ◌≡◌, ap, Bool, Err, false, if◌then◌else◌, List, nat_lt, None, not, Ok, Option, refl, Result}
 use Rattle.std.proofs.Common.{slice_index, Some, sym, true}
+use Rattle.std.proofs.lemmas.Bool.{not_from_true}
 use Rattle.sim_rows.specs.Prelude.{◌>>=◌, after, behind_code, behind_first, bound, bound_at, bound_by, branched, ByteOp, bytes_by, Cell, Changes, code_byte}
 use Rattle.sim_rows.specs.Prelude.{destination_bytes, destination_size, executed, finished, first_of, from_at, gone_on, GoOp, GplOperand}
 use Rattle.sim_rows.specs.Prelude.{GplOperation, GplRead, GplState, has_source, in_grom_of, indexed, is_row, is_visible, join, jump, length_at, moved}
@@ -11,7 +12,7 @@ use Rattle.sim_rows.specs.Prelude.{value_at, with_immediate, word_at, word_in}
 use Rattle.sim_view.specs.gpl_defs.declared.instruction.GplOperation.TheVariants as operation
 use Rattle.sim_rows.proofs.Codes.{one_below, two_above}
 
-reading_is : (s : GplState) → reading s.image s.pc ≡ read_by (operation_at (code_byte s)) (code_byte s) s.image (behind_code s)
+pub reading_is : (s : GplState) → reading s.image s.pc ≡ read_by (operation_at (code_byte s)) (code_byte s) s.image (behind_code s)
 unfolding reading
 reading_is s = refl
 
@@ -106,8 +107,7 @@ pub together : {X : Type 0} (first : Result Place Reason) (second : Result Sourc
     (first >>= λ place. (second >>= λ source. f place source)) ≡ ((first >>= λ place. (second >>= λ source. Ok (place, source))) >>= λ (o : Place × Source). f
     o.0 o.1)
 together (Ok place) (Ok source) f = refl
-together (Ok place) (Err reason) f = refl
-together (Err reason) second f = refl
+together _ _ f = refl
 
 abbrev pub row_after : GplState → GplOperation → Place × Source → Result GplState Reason
 row_after s op o = result_of op (row_width s) o.0 (value_at (gone_on s) (row_width s) o.0) o.1 (unchanged (gone_on s)) >>= λ (c : Changes). Ok (finished c)
@@ -165,20 +165,12 @@ step_one s op e has =
     ∙ together (first_of s) (second_of s)
     (λ place source. (one op (row_width s) place (value_at (gone_on s) (row_width s) place) (unchanged (gone_on s)) >>= λ (c : Changes). Ok (finished c)))
 
-not_is : (b : Bool) → b ≡ true → not b ≡ false
-not_is true e = refl
-not_is false e = absurd (cc)
-
 -- The step of a row: its operands are found, and then it does what its operation does with them.
 pub step_row : (s : GplState) (op : GplOperation) → code_byte s < 256 → operation_in s ≡ Some op → is_row (Some op) ≡ true →
     step s ≡ (operands_of s >>= row_after s op)
-step_row s (operation.One op) fits e row = step_one s op e (not_is (nat_lt (code_byte s) 0xA0) (one_below (code_byte s) fits op e))
+step_row s (operation.One op) fits e row = step_one s op e (not_from_true (nat_lt (code_byte s) 0xA0) (one_below (code_byte s) fits op e))
 step_row s (operation.Two op) fits e row = step_two s op e (two_above (code_byte s) fits op e)
-step_row s (operation.Plain op) fits e row = absurd (cc)
-step_row s (operation.Byte op) fits e row = absurd (cc)
-step_row s (operation.Jump op) fits e row = absurd (cc)
-step_row s (operation.Branch on) fits e row = absurd (cc)
-step_row s (operation.Move kind) fits e row = absurd (cc)
+step_row s _ fits e row = absurd (cc)
 
 -- The bound of a step: 400 where it stops, and else that of its instruction.
 pub bound_stop : (s : GplState) (reason : Reason) → step s ≡ Err reason → bound s ≡ 400
@@ -203,7 +195,7 @@ indexed_same s t (Some offset) address e =
     let at : List ℕ → Result ℕ Reason = λ cells. if is_visible 2 offset then Ok (plus address (word_in cells offset)) else Err Cell in
     ap at e
 
-bind_same : {X Y : Type 0} (a b : Result X Reason) (f g : X → Result Y Reason) → a ≡ b → ((x : X) → f x ≡ g x) → (a >>= f) ≡ (b >>= g)
+pub bind_same : {X Y : Type 0} (a b : Result X Reason) (f g : X → Result Y Reason) → a ≡ b → ((x : X) → f x ≡ g x) → (a >>= f) ≡ (b >>= g)
 bind_same a (Ok x) f g e h = ap (λ r. r >>= f) e ∙ h x
 bind_same a (Err reason) f g e h = ap (λ r. r >>= f) e
 

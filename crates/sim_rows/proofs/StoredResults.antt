@@ -1,7 +1,7 @@
 -- Results are stored, and the character goes to the screen.
 use Rattle.std.proofs.Common.{ℕ, ◌%◌, ◌*◌, ◌+◌, ◌<◌, ◌==◌, ◌||◌, ◌∙◌, ◌≡◌, ap, arith, Bool, false, List, refl, slice_index, slice_set, subst, sym, true}
 use Rattle.std.proofs.lemmas.Bool.{ne_eqb}
-use Rattle.sim_view.proofs.Common.{comes, comes_as, comes_on, goes_in, IsView, previous-next}
+use Rattle.sim_view.proofs.Common.{comes, comes_as, comes_on, goes_in, IsView, previous-next, high-join}
 use Rattle.sim_rows.specs.Prelude.{Byte, ShowsChanges, Changes, ReachesWithin, Cpu, EndsRow, even, Exit, exit, Exits, finished, GplState, grom_at, GromState, GSTEP, high}
 use Rattle.sim_rows.specs.Prelude.{join, low, MachineState, marked_by, number_of_space, of_register, Place, place_in, PortsAreIdle, previous_in_grom}
 use Rattle.sim_rows.specs.Prelude.{return_of, ShowsState, shifted, SHOW, shown, size_of, SLA, Space, SRL, Stands, state_of, STORE, Stored, StoresResult}
@@ -39,9 +39,8 @@ one_mark true s = refl
 one_mark false s = refl
 
 two_marks : (a b s : Bool) → marked_by (a || (b || s)) 0 ≡ marked_by (a || (b || false)) (marked_by s 0)
-two_marks true b s = refl
 two_marks false true s = refl
-two_marks false false s = refl
+two_marks _ _ s = refl
 
 abbrev Splits : Changes → Changes → Changes → Type 0
 Splits c alone both = (both.state ≡ alone.state) × (marked_by both.shows 0 ≡ marked_by alone.shows (marked_by c.shows 0))
@@ -158,9 +157,6 @@ mark_one : (shows : Bool) (mark : ℕ) → mark ≡ marked_by shows 0 → (mark 
 mark_one true mark e f = refl
 mark_one false mark e f = absurd (f e)
 
-not_zero : (n : ℕ) → (n ≡ 0 → ⊥) → (n == 0) ≡ false
-not_zero n f = ne_eqb n 0 f
-
 -- STORE is asked for the character
 abbrev drawn : View → View
 drawn v = record v {
@@ -179,9 +175,9 @@ ends_by : (v : View) → v.r.r13 ≡ 0 → pieces.show v ≡ exit 2 GSTEP v
 ends_by v e = let c : (v.r.r13 == 0) ≡ true = ap (λ n. n == 0) e in rw (c, pieces.show) refl
 
 draws_by : (v : View) → (v.r.r13 ≡ 0 → ⊥) → pieces.show v ≡ exit 13 STORE (drawn v)
-draws_by v n = let c : (v.r.r13 == 0) ≡ false = not_zero v.r.r13 n in rw (c, pieces.show) refl
+draws_by v n = let c : (v.r.r13 == 0) ≡ false = (ne_eqb v.r.r13 0 n) in rw (c, pieces.show) refl
 
-exits_by : {x y : MachineState} {t u : ℕ} (d e : Exit) → d ≡ e → Exits x y t u d → Exits x y t u e
+pub exits_by : {x y : MachineState} {t u : ℕ} (d e : Exit) → d ≡ e → Exits x y t u d → Exits x y t u e
 exits_by {x = x} {y = y} {t = t} {u = u} d e is h = subst (λ (k : Exit). Exits x y t u k) is h
 
 -- without a character the row has ended
@@ -203,9 +199,6 @@ screen_at : (row column r7 r4 : ℕ) → row < 256 → column < 256 → r7 < 655
     sum_of Word (shifted SLA (shifted SRL (join row (low r7)) 8) 5) (shifted SRL (join column (low r4)) 8) ≡ 32 * row + column
 screen_at row column r7 r4 h k a b = omega arith
 
-high_of : (byte word : ℕ) → high (join byte (low word)) ≡ byte
-high_of byte word = omega arith
-
 in_video : (address : ℕ) → address < 16384 → address % 16384 ≡ address
 in_video address h = omega arith
 
@@ -225,7 +218,7 @@ ends_drawn {x = x} {y = y} {z = z} {t = t} {u = u} {w = w} i some e store c h =
     screen_at (slice_index v.cells 0x7E) (slice_index v.cells 0x7F) v.r.r7 v.r.r4 (i.cells 0x7E) (i.cells 0x7F) (i.r 7) (i.r 4)
     ∙ ap (λ n. 32 * n + slice_index v.cells 0x7F) (cell 0x7E)
     ∙ ap (λ n. 32 * slice_index c.state.cells 0x7E + n) (cell 0x7F) in
-    let byte : high (drawn v).r.r9 ≡ slice_index c.state.cells 0x7D = high_of (slice_index v.cells 0x7D) v.r.r9 ∙ cell 0x7D in
+    let byte : high (drawn v).r.r9 ≡ slice_index c.state.cells 0x7D = high-join (slice_index v.cells 0x7D) v.r.r9 ∙ cell 0x7D in
     let c1 : ReachesWithin 13 x y t u STORE (λ q. q ≡ drawn v) = comes e2 (record { within = omega arith; to_is = refl; holds = refl }) in
     let r8 : (view y).r.r8 ≡ 1 = ap (λ (q : View). q.r.r8) c1.holds in
     let s1 = store (omega arith) in

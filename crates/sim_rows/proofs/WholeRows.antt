@@ -27,8 +27,7 @@ row_changed s place source w h =
       vdp = h.holds.sees.vdp;
       registers = h.holds.sees.registers;
       held = h.holds.sees.held;
-      grom =
-          h.holds.sees.grom;
+      grom = h.holds.sees.grom;
       mark = h.holds.mark;
     }
 
@@ -42,8 +41,7 @@ both_by : (first : Result Place Reason) (second : Result Source Reason) (o : Pla
     (first >>= λ place. (second >>= λ source. Ok (place, source))) ≡ Ok o → (first ≡ Ok o.0) × (second ≡ Ok o.1)
 unfolding value_in
 both_by (Ok place) (Ok source) o e = (ap (λ (p : Place × Source). Ok p.0) (ap (value_in o) e), ap (λ (p : Place × Source). Ok p.1) (ap (value_in o) e))
-both_by (Ok place) (Err reason) o e = absurd (cc)
-both_by (Err reason) second o e = absurd (cc)
+both_by _ _ o e = absurd (cc)
 
 pub both : (s : GplState) (place : Place) (source : Source) → operands_of s ≡ Ok (place, source) → (first_of s ≡ Ok place) × (second_of s ≡ Ok source)
 both s place source e = both_by (first_of s) (second_of s) (place, source) e
@@ -126,11 +124,7 @@ none_some op e = cc
 bound_row : (s next : GplState) (op : GplOperation) → operation_in s ≡ Some op → is_row (Some op) ≡ true → step s ≡ Ok next → bound s ≡ 440
 bound_row s next (operation.One op) e row is = bound_made s next (Some (operation.One op)) e is
 bound_row s next (operation.Two op) e row is = bound_made s next (Some (operation.Two op)) e is
-bound_row s next (operation.Plain op) e row is = absurd (cc)
-bound_row s next (operation.Byte op) e row is = absurd (cc)
-bound_row s next (operation.Jump op) e row is = absurd (cc)
-bound_row s next (operation.Branch on) e row is = absurd (cc)
-bound_row s next (operation.Move kind) e row is = absurd (cc)
+bound_row s next _ e row is = absurd (cc)
 
 module _ (s : GplState) (x : MachineState) (t : ℕ) (fits : code_byte s < 256) (start : is_end x.cpu.pc ≡ false) (row : is_row (operation_in s) ≡ true) where
   -- the operands are there, and the operation is told

@@ -20,7 +20,7 @@ pub use Rattle.sim_view.specs.Prelude.{GORTN, GOTO, GplInstr, GplOperand, GplOpe
 pub use Rattle.sim_view.specs.Prelude.{GplState, GREATER_BIT, grom_address_read, grom_address_written, grom_data_read}
 pub use Rattle.sim_view.specs.Prelude.{GromIndexedToMemory, GromState, GromToMemory, GromToRegisters, grown_by, GSTEP}
 pub use Rattle.sim_view.specs.Prelude.{GSTOP, GT, H, has_quotient, high, HIGHER_BIT, HoldsBytes, HoldsEntry}
-pub use Rattle.sim_view.specs.Prelude.{HoldsRegister, in_grom_of, INC, INCT, INCTV, INDEX, index_at, index_by}
+pub use Rattle.sim_view.specs.Prelude.{HoldsRegister, in_grom_of, INC, INCT, INCTV, INDEX, index_by}
 pub use Rattle.sim_view.specs.Prelude.{indexed, INTERP, INV, INVV, is_end, is_grom_idle, is_set, is_taken}
 pub use Rattle.sim_view.specs.Prelude.{is_vdp_idle, is_visible, IsBoot, IsFetched, IsHalted, IsMachine, IsMatching}
 pub use Rattle.sim_view.specs.Prelude.{IsMemory, IsNewVdp, IsStatus, IsTurn, join, Jump, jump, last_out, LDATA}
@@ -30,7 +30,7 @@ pub use Rattle.sim_view.specs.Prelude.{MOVEK, MoveKind, MOVEL, MoveLength, MOVEN
 pub use Rattle.sim_view.specs.Prelude.{MoveTarget, MOVEW, MOVEX, MUL, MULB, MULV, NEG, negation_flags, negation_of}
 pub use Rattle.sim_view.specs.Prelude.{NEGV, new_grom, next_from, next_in_grom, next_in_vdp, next_seed, next_to}
 pub use Rattle.sim_view.specs.Prelude.{NoOperation, number_of, on_stack, one, One, one_more, OneName, ones_cleared}
-pub use Rattle.sim_view.specs.Prelude.{ones_set, Opcode, operand_from, operation_at, operation_entry, OPTAB}
+pub use Rattle.sim_view.specs.Prelude.{ones_set, Opcode, operation_at, operation_entry, OPTAB}
 pub use Rattle.sim_view.specs.Prelude.{OPVAL, OR, origin, origin_of, ORV, OVER, OVERFLOW_BIT, OVF, pair_kind}
 pub use Rattle.sim_view.specs.Prelude.{PairKind, Place, place_of, plain, Plain, PlainOp, plus, pointed, PortsAreIdle}
 pub use Rattle.sim_view.specs.Prelude.{previous_in_grom, product_of, PUSH, PUSHV, RAND, RANDL, RANDOM, ranged}
@@ -48,7 +48,7 @@ pub use Rattle.sim_view.specs.Prelude.{two, Two, TwoName, unchanged, UNKN, value
 pub use Rattle.sim_view.specs.Prelude.{vdp_address_written, vdp_data_read, vdp_data_written, VdpState, view, View}
 pub use Rattle.sim_view.specs.Prelude.{VISIBLE_CELLS, WHERE, WIDE, Width, with_byte, with_byte_from, with_byte_in}
 pub use Rattle.sim_view.specs.Prelude.{with_byte_to, with_cell, with_condition, with_double, with_immediate}
-pub use Rattle.sim_view.specs.Prelude.{with_index, with_overflow, with_pc, with_quotient, with_register, with_status}
+pub use Rattle.sim_view.specs.Prelude.{with_overflow, with_pc, with_quotient, with_register, with_status}
 pub use Rattle.sim_view.specs.Prelude.{with_stop, with_tested, with_value, with_word, with_word_in, within_limit}
 pub use Rattle.sim_view.specs.Prelude.{Word, word_at, word_in, word_or_byte, WORKSPACE, WriteSetup, XOR, XORV}
 unfoldable pub use Rattle.sim_view.specs.Prelude.{after, operand_at, reading, view_of, zeros}

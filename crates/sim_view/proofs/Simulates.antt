@@ -24,21 +24,16 @@ use Rattle.tms_defs.specs.declared.instruction.BareOp.TheVariants.{LWPI, LIMI, I
 use Rattle.tms_defs.specs.declared.instruction.Instr.{Instr}
 use Rattle.tms_defs.specs.declared.instruction.Instr.TheVariants as instr
 use Rattle.tms_defs.specs.Accesses.{Answer, Gives, AtPort, NoInstruction, ◌>>=◌}
-use Rattle.tms_defs.specs.Operand.{Cpu, Mode, Register, Indirect, Symbolic, Increment, mode_of, register_in, with_word, with_words}
-use Rattle.tms_defs.specs.Operand.{register_address, next_word, index_of, operand, value_at, with_value}
+use Rattle.tms_defs.specs.Operand.{Cpu, Mode, Register, Indirect, Symbolic, Increment, mode_of, register_in, register}
+use Rattle.tms_defs.specs.Jumps.{jump_target, condition}
+use Rattle.tms_defs.specs.Shifts.{count_in}
+use Rattle.tms_defs.specs.Step.{with_word, with_words, next_word, index_of, operand, value_at, with_value, with_flags}
+use Rattle.tms_defs.specs.Step.{stored, kept_in, vector_at, kept_of, two, in_row, values_at, with_division, reg}
+use Rattle.tms_defs.specs.Step.{count_of, shift, one, jump_where, immediate, imm, bare, executed, executed_where}
+use Rattle.tms_defs.specs.Step.{execution, is_unsupported}
 use Rattle.console_defs.specs.Memory.{Memory, console, Port, VdpDataRead, VdpStatusRead, VdpDataWrite, VdpAddressWrite, GromDataRead, GromAddressRead}
 use Rattle.console_defs.specs.Memory.{GromDataWrite, GromAddressWrite, Region, region, word_read_in, word_read, word_written_in, byte_read_in}
 use Rattle.console_defs.specs.Memory.{byte_written_in, port_read, port_written}
-use Rattle.tms_defs.specs.forms.Results.{with_flags, stored}
-use Rattle.tms_defs.specs.forms.ContextSwitch.{kept_in, vector_at, kept_of}
-use Rattle.tms_defs.specs.forms.Two.{two}
-use Rattle.tms_defs.specs.forms.Reg.{in_row, values_at, with_division, reg}
-use Rattle.tms_defs.specs.forms.Shift.{count_in, count_of, shift}
-use Rattle.tms_defs.specs.forms.One.{one}
-use Rattle.tms_defs.specs.forms.Jump.{jump_target, jump_where, condition}
-use Rattle.tms_defs.specs.forms.Imm.{immediate, imm}
-use Rattle.tms_defs.specs.forms.Bare.{bare}
-use Rattle.tms_defs.specs.Step.{executed, executed_where, execution, is_unsupported}
 use Rattle.sim_view.specs.View.{View, Registers, listed, relisted}
 use Rattle.interp_defs.specs.Interpreter.{HoldsInterpreter}
 use Rattle.sim_view.proofs.Answers.{given}
@@ -308,17 +303,17 @@ module _ (y : Cpu View) (m : Memory) (h : Shows m y.memory) where
   at_pc = sim_num _ _ _ _ (at_word y.pc) (λ w. sim_gives m (w, record y { pc = plus y.pc 2 }) h)
 
   at_index : (n : ℕ) → SimNum (index_of Memory console (carry m y) n) (index_of View shown y n)
-  at_index n = pick (eqb n 0) (λ e. rw (e, index_of) (num_gives 0)) (λ e. rw (e, index_of) (at_word (register_address View shown y n)))
+  at_index n = pick (eqb n 0) (λ e. rw (e, index_of) (num_gives 0)) (λ e. rw (e, index_of) (at_word (register n y)))
 
 module _ (y : Cpu View) (m : Memory) (h : Shows m y.memory) where
   at_operand : (o : Mode) (w : Width) (n : ℕ) → SimPair (operand Memory console o w n (carry m y)) (operand View shown o w n y)
-  at_operand Register w n = sim_gives m (register_address View shown y n, y) h
-  at_operand Indirect w n = sim_num _ _ _ _ (at_word y m h (register_address View shown y n)) (λ a. sim_gives m (a, y) h)
+  at_operand Register w n = sim_gives m (register n y, y) h
+  at_operand Indirect w n = sim_num _ _ _ _ (at_word y m h (register n y)) (λ a. sim_gives m (a, y) h)
   at_operand Symbolic w n =
       sim_then _ _ _ _ (at_pc y m h) (λ b n1 k. sim_num _ _ _ _ (at_index b.1 n1 k n) (λ i. sim_gives n1 (plus b.0 i, b.1) k))
   at_operand Increment w n =
-      sim_num _ _ _ _ (at_word y m h (register_address View shown y n)) (λ a. sim_then _ _ (λ x. Gives (a, x)) _
-      (to_word y m h (register_address View shown y n) (plus a (size_of w))) (λ z n k. sim_gives n (a, z) k))
+      sim_num _ _ _ _ (at_word y m h (register n y)) (λ a. sim_then _ _ (λ x. Gives (a, x)) _
+      (to_word y m h (register n y) (plus a (size_of w))) (λ z n k. sim_gives n (a, z) k))
 
   at_value : (b : Width) (a : ℕ) → SimPair (value_at Memory console b a (carry m y)) (value_at View shown b a y)
   at_value Byte a =
@@ -356,8 +351,8 @@ module _ (y : Cpu View) (m : Memory) (h : Shows m y.memory) where
 
   do_kept : SimNum (kept_of Memory console (carry m y)) (kept_of View shown y)
   do_kept =
-      num_then _ _ _ _ (at_word y m h (register_address View shown y 13)) (λ w. num_then _ _ _ _ (at_word y m h (register_address View shown y 14))
-      (λ p. num_then _ _ _ _ (at_word y m h (register_address View shown y 15)) (λ s. num_gives (w, p, s))))
+      num_then _ _ _ _ (at_word y m h (register 13 y)) (λ w. num_then _ _ _ _ (at_word y m h (register 14 y))
+      (λ p. num_then _ _ _ _ (at_word y m h (register 15 y)) (λ s. num_gives (w, p, s))))
 
   do_values : (a b : ℕ) → SimNum (values_at Memory console a b (carry m y)) (values_at View shown a b y)
   do_values a b = num_then _ _ _ _ (at_word y m h a) (λ w. num_then _ _ _ _ (at_word y m h b) (λ p. num_gives (w, p)))
@@ -368,7 +363,7 @@ module _ (y : Cpu View) (m : Memory) (h : Shows m y.memory) where
 
   do_one : (o : OneOp) (a : ℕ) → SimCpu (one Memory console o a (carry m y)) (one View shown o a y)
   do_one BLWP a =
-      sim_num _ _ _ _ (do_vector a) (λ v. sim_then _ _ _ _ (to_words y m h (kept_in View v.0 y)) (λ z n k. sim_gives n (record z { wp = v.0; pc = v.1 }) k))
+      sim_num _ _ _ _ (do_vector a) (λ v. sim_then _ _ _ _ (to_words y m h (kept_in v.0 y)) (λ z n k. sim_gives n (record z { wp = v.0; pc = v.1 }) k))
   do_one B a = sim_gives m (record y { pc = even a }) h
   do_one X a = record { by = λ z e. absurd (cc) }
   do_one CLR a = to_word y m h a 0
@@ -378,54 +373,54 @@ module _ (y : Cpu View) (m : Memory) (h : Shows m y.memory) where
   do_one INCT a = sim_num _ _ _ _ (at_word y m h a) (λ v. to_stored y m h Word a _ _)
   do_one DEC a = sim_num _ _ _ _ (at_word y m h a) (λ v. to_stored y m h Word a _ _)
   do_one DECT a = sim_num _ _ _ _ (at_word y m h a) (λ v. to_stored y m h Word a _ _)
-  do_one BL a = sim_then _ _ _ _ (to_word y m h (register_address View shown y 11) y.pc) (λ z n k. sim_gives n (record z { pc = even a }) k)
+  do_one BL a = sim_then _ _ _ _ (to_word y m h (register 11 y) y.pc) (λ z n k. sim_gives n (record z { pc = even a }) k)
   do_one SWPB a = sim_num _ _ _ _ (at_word y m h a) (λ v. to_word y m h a (swapped v))
   do_one SETO a = to_word y m h a 0xFFFF
   do_one ABS a = sim_num _ _ _ _ (at_word y m h a) (λ v. to_stored y m h Word a _ _)
 
   do_reg : (o : RegOp) (n s : ℕ) → SimCpu (reg Memory console o n s (carry m y)) (reg View shown o n s y)
-  do_reg COC n s = sim_num _ _ _ _ (do_values s (register_address View shown y n)) (λ v. sim_gives m (with_flags View y (by_ones v.1 v.0 y.status.flags)) h)
-  do_reg CZC n s = sim_num _ _ _ _ (do_values s (register_address View shown y n)) (λ v. sim_gives m (with_flags View y (by_zeros v.1 v.0 y.status.flags)) h)
-  do_reg XOR n s = sim_num _ _ _ _ (do_values s (register_address View shown y n)) (λ v. to_stored y m h Word (register_address View shown y n) _ _)
+  do_reg COC n s = sim_num _ _ _ _ (do_values s (register n y)) (λ v. sim_gives m (with_flags y (by_ones v.1 v.0 y.status.flags)) h)
+  do_reg CZC n s = sim_num _ _ _ _ (do_values s (register n y)) (λ v. sim_gives m (with_flags y (by_zeros v.1 v.0 y.status.flags)) h)
+  do_reg XOR n s = sim_num _ _ _ _ (do_values s (register n y)) (λ v. to_stored y m h Word (register n y) _ _)
   do_reg XOP n s =
-      sim_num _ _ _ _ (do_vector (0x0040 + 4 * n)) (λ v. sim_then _ _ _ _ (to_words y m h (kept_in View v.0 y ++ ((register_in v.0 11, s) ∷ [])))
+      sim_num _ _ _ _ (do_vector (0x0040 + 4 * n)) (λ v. sim_then _ _ _ _ (to_words y m h (kept_in v.0 y ++ ((register_in v.0 11, s) ∷ [])))
       (λ z n1 k. sim_gives n1 (record z { wp = v.0; pc = v.1; status = with_extension z.status }) k))
   do_reg MPY n s =
-      sim_num _ _ _ _ (do_values s (register_address View shown y n)) (λ v. to_words y m h (in_row (register_address View shown y n) (product_of v.1 v.0)))
+      sim_num _ _ _ _ (do_values s (register n y)) (λ v. to_words y m h (in_row (register n y) (product_of v.1 v.0)))
   do_reg DIV n s =
-      sim_num _ _ _ _ (do_values s (register_address View shown y n)) (λ v. sim_num _ _ _ _ (at_word y m h (plus (register_address View shown y n) 2))
-      (λ l. sim_then _ _ _ _ (do_division (division_of v.1 l v.0) (register_address View shown y n))
-      (λ z n1 k. sim_gives n1 (with_flags View z (by_division v.1 l v.0 z.status.flags)) k)))
+      sim_num _ _ _ _ (do_values s (register n y)) (λ v. sim_num _ _ _ _ (at_word y m h (plus (register n y) 2))
+      (λ l. sim_then _ _ _ _ (do_division (division_of v.1 l v.0) (register n y))
+      (λ z n1 k. sim_gives n1 (with_flags z (by_division v.1 l v.0 z.status.flags)) k)))
   do_reg LDCR n s = record { by = λ z e. absurd (cc) }
   do_reg STCR n s = record { by = λ z e. absurd (cc) }
 
   do_count : (c : ℕ) → SimNum (count_of Memory console c (carry m y)) (count_of View shown c y)
   do_count c =
-      pick (eqb c 0) (λ e. rw (e, count_of) (num_then _ _ _ _ (at_word y m h (register_address View shown y 0)) (λ w. num_gives (count_in w))))
+      pick (eqb c 0) (λ e. rw (e, count_of) (num_then _ _ _ _ (at_word y m h (register 0 y)) (λ w. num_gives (count_in w))))
       (λ e. rw (e, count_of) (num_gives c))
 
   do_shift : (o : ShiftOp) (c n : ℕ) → SimCpu (shift Memory console o c n (carry m y)) (shift View shown o c n y)
   do_shift o c n =
-      sim_num _ _ _ _ (at_word y m h (register_address View shown y n)) (λ v. sim_num _ _ _ _ (do_count c)
-      (λ p. to_stored y m h Word (register_address View shown y n) _ _))
+      sim_num _ _ _ _ (at_word y m h (register n y)) (λ v. sim_num _ _ _ _ (do_count c)
+      (λ p. to_stored y m h Word (register n y) _ _))
 
-  do_jump : (o : Option Bool) (d : ℤ) → SimCpu (jump_where Memory o d (carry m y)) (jump_where View o d y)
+  do_jump : (o : Option Bool) (d : ℤ) → SimCpu (jump_where o d (carry m y)) (jump_where o d y)
   do_jump (Some true) d = sim_gives m (record y { pc = jump_target y.pc d }) h
   do_jump (Some false) d = sim_gives m y h
   do_jump None d = record { by = λ z e. absurd (cc) }
 
   do_immediate : (n : ℕ) → SimTriple (immediate Memory console n (carry m y)) (immediate View shown n y)
   do_immediate n =
-      sim_then _ _ _ _ (at_pc y m h) (λ w n1 k. sim_num _ _ _ _ (at_word w.1 n1 k (register_address View shown w.1 n)) (λ f. sim_gives n1 (w.0, f, w.1) k))
+      sim_then _ _ _ _ (at_pc y m h) (λ w n1 k. sim_num _ _ _ _ (at_word w.1 n1 k (register n w.1)) (λ f. sim_gives n1 (w.0, f, w.1) k))
 
   do_imm : (o : ImmOp) (n : ℕ) → SimCpu (imm Memory console o n (carry m y)) (imm View shown o n y)
-  do_imm LI n = sim_then _ _ _ _ (at_pc y m h) (λ w n1 k. to_stored w.1 n1 k Word (register_address View shown w.1 n) _ _)
-  do_imm AI n = sim_then _ _ _ _ (do_immediate n) (λ w n1 k. to_stored w.2 n1 k Word (register_address View shown w.2 n) _ _)
-  do_imm ANDI n = sim_then _ _ _ _ (do_immediate n) (λ w n1 k. to_stored w.2 n1 k Word (register_address View shown w.2 n) _ _)
-  do_imm ORI n = sim_then _ _ _ _ (do_immediate n) (λ w n1 k. to_stored w.2 n1 k Word (register_address View shown w.2 n) _ _)
+  do_imm LI n = sim_then _ _ _ _ (at_pc y m h) (λ w n1 k. to_stored w.1 n1 k Word (register n w.1) _ _)
+  do_imm AI n = sim_then _ _ _ _ (do_immediate n) (λ w n1 k. to_stored w.2 n1 k Word (register n w.2) _ _)
+  do_imm ANDI n = sim_then _ _ _ _ (do_immediate n) (λ w n1 k. to_stored w.2 n1 k Word (register n w.2) _ _)
+  do_imm ORI n = sim_then _ _ _ _ (do_immediate n) (λ w n1 k. to_stored w.2 n1 k Word (register n w.2) _ _)
   do_imm CI n = sim_then _ _ _ _ (do_immediate n) (λ w n1 k. sim_gives n1 (record w.2 { status = with_order Word w.1 w.0 w.2.status }) k)
-  do_imm STWP n = to_word y m h (register_address View shown y n) y.wp
-  do_imm STST n = to_word y m h (register_address View shown y n) (status_word y.status)
+  do_imm STWP n = to_word y m h (register n y) y.wp
+  do_imm STST n = to_word y m h (register n y) (status_word y.status)
 
   do_bare : (o : BareOp) → SimCpu (bare Memory console o (carry m y)) (bare View shown o y)
   do_bare LWPI = sim_then _ _ _ _ (at_pc y m h) (λ w n k. sim_gives n (record w.1 { wp = even w.0 }) k)

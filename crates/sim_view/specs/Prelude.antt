@@ -11,7 +11,7 @@ pub use Rattle.tms_defs.specs.Logic.{swapped}
 pub use Rattle.console_defs.specs.Machine.{IsMachine, MachineState, steps}
 pub use Rattle.console_defs.specs.Memory.{IsMemory, Memory}
 pub use Rattle.tms_defs.specs.MultiplyDivide.{division_of, double_word, product_of}
-pub use Rattle.tms_defs.specs.Shifts.{last_out, shifted}
+pub use Rattle.tms_defs.specs.Shifts.{last_out, shifted, count_in}
 pub use Rattle.tms_defs.specs.Status.{bit_of, is_set, IsStatus, status_word}
 pub use Rattle.console_defs.specs.Vdp.{is_vdp_idle, IsNewVdp, next_in_vdp, NoOperation, pair_kind, PairKind}
 pub use Rattle.console_defs.specs.Vdp.{ReadSetup, RegisterWrite, vdp_address_written, vdp_data_read, vdp_data_written}
@@ -21,11 +21,10 @@ pub use Rattle.tms_defs.specs.declared.flags.Flags.{Flags}
 pub use Rattle.tms_defs.specs.declared.instruction.ShiftOp.{ShiftOp}
 pub use Rattle.tms_defs.specs.declared.instruction.ShiftOp.TheVariants.{SLA, SRA, SRC, SRL}
 pub use Rattle.tms_defs.specs.declared.status.Status.{Status}
-pub use Rattle.tms_defs.specs.forms.Shift.{count_in}
 pub use Rattle.source_defs.specs.Refusals.{◌>>=◌}
 pub use Rattle.gpl_defs.specs.Codes.{operation_at}
-pub use Rattle.gpl_defs.specs.Reading.{address_at, from_at, index_at, index_by, length_at, operand_from, read_by}
-pub use Rattle.gpl_defs.specs.Reading.{source_at, space_at, space_of, target_at, with_index, word_at}
+pub use Rattle.gpl_defs.specs.Reading.{address_at, from_at, index_by, length_at, read_by}
+pub use Rattle.gpl_defs.specs.Reading.{source_at, space_at, space_of, target_at, word_at}
 unfoldable pub use Rattle.gpl_defs.specs.Reading.{operand_at, reading}
 pub use Rattle.gpl_defs.specs.declared.instruction.ByteOp.{ByteOp}
 pub use Rattle.gpl_defs.specs.declared.instruction.ByteOp.TheVariants.{ALL, BACK, RAND}

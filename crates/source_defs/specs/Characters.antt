@@ -20,6 +20,9 @@ is_asterisk byte = byte == 0x2A
 abbrev pub is_comma : ℕ → Bool
 is_comma byte = byte == 0x2C
 
+abbrev pub is_at_sign : ℕ → Bool
+is_at_sign byte = byte == 0x40
+
 -- 0 to 9
 abbrev pub is_digit : ℕ → Bool
 is_digit byte = nat_le 0x30 byte && nat_le byte 0x39

@@ -54,10 +54,7 @@ abbrev pub sum : Value → Value → Result Value ExprError
 sum (Absolute a) (Absolute b) = Ok (Absolute (to_word (a + b)))
 sum (Absolute a) (Relocatable b) = Ok (Relocatable (to_word (a + b)))
 sum (Relocatable a) (Absolute b) = Ok (Relocatable (to_word (a + b)))
-sum (Absolute a) (External name) = Err BadRelocation
-sum (Relocatable a) (Relocatable b) = Err BadRelocation
-sum (Relocatable a) (External name) = Err BadRelocation
-sum (External name) b = Err BadRelocation
+sum _ _ = Err BadRelocation
 
 -- Editor/Assembler manual, "Expressions": a relocatable value less an absolute one is relocatable, and less a
 -- relocatable one it is absolute.
@@ -65,26 +62,17 @@ abbrev pub difference : Value → Value → Result Value ExprError
 difference (Absolute a) (Absolute b) = Ok (Absolute (to_word (a + 0x10000 - b)))
 difference (Relocatable a) (Absolute b) = Ok (Relocatable (to_word (a + 0x10000 - b)))
 difference (Relocatable a) (Relocatable b) = Ok (Absolute (to_word (a + 0x10000 - b)))
-difference (Absolute a) (Relocatable b) = Err BadRelocation
-difference (Absolute a) (External name) = Err BadRelocation
-difference (Relocatable a) (External name) = Err BadRelocation
-difference (External name) b = Err BadRelocation
+difference _ _ = Err BadRelocation
 
 -- Editor/Assembler manual, "Expressions": a factor is absolute.
 abbrev pub product : Value → Value → Result Value ExprError
 product (Absolute a) (Absolute b) = Ok (Absolute (to_word (a * b)))
-product (Absolute a) (Relocatable b) = Err BadRelocation
-product (Absolute a) (External name) = Err BadRelocation
-product (Relocatable a) b = Err BadRelocation
-product (External name) b = Err BadRelocation
+product _ _ = Err BadRelocation
 
 -- Profile: a relocatable or an external value is no dividend, by 0 too.
 abbrev pub ratio : Value → Value → Result Value ExprError
 ratio (Absolute a) (Absolute b) = if b == 0 then Err DivideByZero else Ok (Absolute (quotient a b))
-ratio (Absolute a) (Relocatable b) = Err BadRelocation
-ratio (Absolute a) (External name) = Err BadRelocation
-ratio (Relocatable a) b = Err BadRelocation
-ratio (External name) b = Err BadRelocation
+ratio _ _ = Err BadRelocation
 
 -- two values, joined by an operator
 abbrev pub joined : ℕ → Value → Value → Result Value ExprError
@@ -131,18 +119,12 @@ known_value None = Err UnknownName
 -- the operator that a token is
 abbrev pub operator_of : Kind → Result ℕ ExprError
 operator_of (Sign operator) = Ok operator
-operator_of (Number number) = Err BadToken
-operator_of (Name name) = Err BadToken
-operator_of Here = Err BadToken
-operator_of Text = Err BadToken
+operator_of _ = Err BadToken
 
 -- whether a token is a minus sign
 abbrev pub is_minus : Kind → Bool
 is_minus (Sign operator) = operator == 0x2D
-is_minus (Number number) = false
-is_minus (Name name) = false
-is_minus Here = false
-is_minus Text = false
+is_minus _ = false
 
 -- by what each name stands for, what $ stands for, and the text that the tokens are of
 module _ (look : List ℕ → Option Value) (here : Value) (text : List ℕ) where

@@ -3,7 +3,7 @@
 -- Profile: the first checks judge a line by the lines before it, of which the nearest stands first. The second
 -- checks are made only where the first refuse no line, and see the names of all lines.
 use Rattle.std.specs.Prelude.{ℕ, ◌+◌, if◌then◌else◌, Bool, false, ◌||◌, List, [], ◌∷◌, map, Option, Some, None, Result}
-use Rattle.std.specs.Prelude.{Ok}
+use Rattle.std.specs.Prelude.{Ok, is_some}
 use Rattle.std.specs.FinMap.{insert}
 use Rattle.source_defs.specs.Refusals.{Refusal, ◌>>=◌, at_line}
 use Rattle.source_defs.specs.Expression.{Value}
@@ -27,10 +27,15 @@ abbrev pub set_or : {P : Type 0} → Option P → P → P
 set_or (Some origin) before = origin
 set_or None before = before
 
--- no bytes after the location that a line sets, or those before
-abbrev pub none_or : {P : Type 0} → Option P → ℕ → ℕ
-none_or (Some origin) bytes = 0
-none_or None bytes = bytes
+-- the lines from the last origin line on, the nearest first
+abbrev pub since_origin : {P S : Type 0} → List (Laid P S) → List (Laid P S)
+since_origin [] = []
+since_origin (line ∷ before) = line ∷ (if is_some line.origin then [] else since_origin before)
+
+-- the bytes that lines take, with those that are left free before them
+abbrev pub bytes_of : {P S : Type 0} → List (Laid P S) → ℕ
+bytes_of [] = 0
+bytes_of (line ∷ before) = bytes_of before + (line.gap + line.size)
 
 -- lines by the location at which their source starts, and the location some bytes after one
 module _ {P S : Type 0} (start : P) (behind : P → ℕ → P) where
@@ -39,14 +44,9 @@ module _ {P S : Type 0} (start : P) (behind : P → ℕ → P) where
   origin [] = start
   origin (line ∷ before) = set_or line.origin (origin before)
 
-  -- the sizes of the lines since then, with the bytes that are left free
-  abbrev pub since : List (Laid P S) → ℕ
-  since [] = 0
-  since (line ∷ before) = none_or line.origin (since before) + (line.gap + line.size)
-
-  -- The location after the lines: the last origin and the sizes since.
+  -- The location after the lines: the last origin, and the sizes of the lines from it on.
   abbrev pub location : List (Laid P S) → P
-  location before = behind (origin before) (since before)
+  location before = behind (origin before) (bytes_of (since_origin before))
 
   -- the place of a line after others
   abbrev pub place : List (Laid P S) → Laid P S → P

@@ -6,6 +6,7 @@ pub mod Fields
 pub mod Numbers
 pub mod Digits
 pub mod Refusals
+pub mod ByteValues
 pub mod Orders
 pub mod Tokens
 pub mod TokenLaw

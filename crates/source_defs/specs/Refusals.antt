@@ -19,9 +19,9 @@ unless true cause value = Err cause
 unless false cause value = Ok value
 
 -- an answer, with its value seen as something else
-abbrev pub seen : {A B C : Type 0} → (A → B) → Result A C → Result B C
-seen see (Ok value) = Ok (see value)
-seen see (Err cause) = Err cause
+abbrev pub map_ok : {A B C : Type 0} → (A → B) → Result A C → Result B C
+map_ok see (Ok value) = Ok (see value)
+map_ok see (Err cause) = Err cause
 
 -- what a line gives, or its refusal with the line's number
 abbrev pub at_line : {A C : Type 0} → ℕ → Result A C → Result A (Refusal C)

@@ -3,7 +3,7 @@
 ghost use Rattle.std.specs.Prelude.{IsTrue};
 ghost use Rattle.std.specs.List.{AllByRecursion};
 ghost use Rattle.object_defs.specs.Modules.{HasText, StandsEven};
-ghost use Rattle.object_tags.specs.Seen.{defined_module};
+ghost use Rattle.object_tags.specs.Seen.{model_of_module};
 
 use object_tags::{Module, Piece, Spot, TagCause, TagError, read_modules, write_module};
 use std::alloc::{AllocError, Global};
@@ -236,7 +236,7 @@ fn is_written(alloc: Global, text: &[u8]) -> bool {
 }
 
 fn writes(alloc: Global, module: &Module, text: &[u8]) -> bool
-    requires { HasText (defined_module «module».now) }
+    requires { HasText (model_of_module «module».now) }
 {
     match write_module(alloc, module) {
         Ok(written) => written.as_slice() == text,
@@ -246,7 +246,7 @@ fn writes(alloc: Global, module: &Module, text: &[u8]) -> bool
 
 /// Whether a module passes no limit, and its words stand at even places.
 fn has_text(module: &Module) -> bool
-    ensures { IsTrue result → HasText (defined_module «module».now) }
+    ensures { IsTrue result → HasText (model_of_module «module».now) }
 {
     module.defs.as_slice().len() <= 256
         && module.refs.as_slice().len() <= 256

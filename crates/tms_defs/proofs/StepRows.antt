@@ -6,8 +6,8 @@ use Rattle.tms_defs.specs.Words.{even, high, low}
 use Rattle.tms_defs.specs.Bytes.{word_in, with_word_in}
 use Rattle.tms_defs.specs.Accesses.{Gives, Accesses}
 use Rattle.tms_defs.specs.Operand.{Cpu}
-use Rattle.tms_defs.specs.Status.{status_at, status_word}
 use Rattle.tms_defs.specs.Step.{step}
+use Rattle.tms_defs.specs.Status.{status_at, status_word}
 use Rattle.tms_defs.specs.declared.step_end.StepEnd.{StepEnd}
 use Rattle.tms_defs.specs.declared.step_end.StepEnd.TheVariants.{Done, Refused}
 

@@ -74,7 +74,7 @@ abbrev pub differ : Bool → Bool → Bool
 differ true second = not second
 differ false second = second
 
--- That is the manual's rule: the operands have one sign, and the sum has the other.
+-- The manual's rule, which says the same as `sum_overflows`: the operands have one sign, and the sum has the other.
 -- TMS9900 data manual, "Status register".
 abbrev pub sum_has_wrong_sign : Width → ℕ → ℕ → Bool
 sum_has_wrong_sign width destination source =
@@ -103,8 +103,8 @@ abbrev pub difference_overflows : Width → ℕ → ℕ → Bool
 difference_overflows width destination source =
     leaves_range width (signed width destination -ℤ signed width source)
 
--- That is the manual's rule: the operands have different signs, and the difference has not the destination's.
--- TMS9900 data manual, "Status register".
+-- The manual's rule, which says the same as `difference_overflows`: the operands have different signs, and the
+-- difference has not the destination's. TMS9900 data manual, "Status register".
 abbrev pub difference_has_wrong_sign : Width → ℕ → ℕ → Bool
 difference_has_wrong_sign width destination source =
     differ (is_negative width destination) (is_negative width source)

@@ -2,11 +2,11 @@ pub mod Words
 pub mod Flags
 pub mod Logic
 pub mod Shifts
+pub mod Jumps
 pub mod MultiplyDivide
 pub mod Status
 pub mod Instructions
 pub mod Bytes
 pub mod Accesses
 pub mod Operand
-pub mod forms
 pub mod Step

@@ -18,7 +18,7 @@ division_of more less divisor =
     then Some (double_word more less / divisor, double_word more less % divisor)
     else None
 
--- That is the manual's rule: there is a quotient, and it is a word.
+-- The manual's rule, which says the same as `division_of`: there is a quotient, and it is a word.
 -- TMS9900 data manual, "Divide".
 abbrev pub has_quotient : ℕ → ℕ → ℕ → Bool
 has_quotient more less divisor = nat_lt 0 divisor && nat_lt (double_word more less / divisor) 65536

@@ -6,6 +6,10 @@ use Rattle.tms_defs.specs.declared.instruction.ShiftOp.{ShiftOp}
 use Rattle.tms_defs.specs.declared.instruction.ShiftOp.TheVariants.{SRA, SRL, SLA, SRC}
 use Rattle.tms_defs.specs.Flags.{Word, signed, leaves_range, result_flags}
 
+-- A count of 0 in the low four bits of register 0 is sixteen. TMS9900 data manual, "Shift instructions".
+abbrev pub count_in : ℕ → ℕ
+count_in word = if word % 16 == 0 then 16 else word % 16
+
 -- The sixteen bits that come in from the left as a word is shifted to the right: copies of its sign bit, zeros, or
 -- the word itself. TMS9900 data manual, "Shift right arithmetic", "Shift right logical", "Shift right circular".
 abbrev pub from_the_left : ShiftOp → ℕ → ℕ
@@ -34,11 +38,12 @@ abbrev pub shift_overflows : ShiftOp → ℕ → ℕ → Bool
 shift_overflows SLA word count = leaves_range Word (signed Word word *ℤ pos (2 ^ count))
 shift_overflows op word count = false
 
--- That is the manual's rule: the sign bit changes at some moment of the shift.
--- TMS9900 data manual, "Shift left arithmetic".
+-- The sign bit after some places of a shift to the left.
 abbrev pub sign_after : ℕ → ℕ → ℕ
 sign_after word places = word * 2 ^ places / 32768 % 2
 
+-- The manual's rule, which says the same as `shift_overflows` of SLA: the sign bit changes at some moment of the shift.
+-- TMS9900 data manual, "Shift left arithmetic".
 abbrev pub sign_changes : ℕ → ℕ → Bool
 sign_changes word zero = false
 sign_changes word (suc places) =

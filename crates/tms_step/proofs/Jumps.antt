@@ -4,7 +4,7 @@ use Rattle.std.specs.Prelude.{FitsSigned}
 use Rattle.std.specs.Int.{w8}
 use Rattle.std.proofs.lemmas.Int.{ints}
 use Rattle.tms_defs.specs.Words.{even}
-use Rattle.tms_defs.specs.forms.Jump.{jump_target}
+use Rattle.tms_defs.specs.Jumps.{jump_target}
 
 pub even_target : (pc : ℕ) (disp : ℤ) → even pc ≡ pc → FitsSigned w8 disp → even (jump_target pc disp)
     ≡ jump_target pc disp

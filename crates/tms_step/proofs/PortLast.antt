@@ -11,9 +11,8 @@ use Rattle.console_defs.specs.Memory.{GromDataRead, GromAddressRead, GromDataWri
 use Rattle.console_defs.specs.Memory.{LowExpansion, HighExpansion, Scratchpad, PortOf, Unmapped, region, is_port_region}
 use Rattle.console_defs.specs.Memory.{is_port_address, port_read, byte_read_in, word_read, word_written_in}
 use Rattle.console_defs.specs.Memory.{word_written, console}
-use Rattle.tms_defs.specs.Operand.{Cpu, Mode, Register, Indirect, Symbolic, Increment, mode_of, operand}
-use Rattle.tms_defs.specs.Operand.{register_address, index_of, with_word}
-use Rattle.tms_defs.specs.forms.Two.{two}
+use Rattle.tms_defs.specs.Operand.{Cpu, Mode, Register, Indirect, Symbolic, Increment, mode_of, register}
+use Rattle.tms_defs.specs.Step.{operand, index_of, with_word, two}
 use Rattle.tms_defs.specs.declared.instruction.TwoOp.{TwoOp}
 use Rattle.tms_defs.specs.declared.instruction.Place.{Place}
 use Rattle.console_defs.proofs.MemoryLaws.{with_ports, word_read_past_ports, word_written_past_ports}
@@ -84,7 +83,7 @@ module _ (a : VdpState → VdpState) (b : GromState → GromState)
       ≡ index_of Memory console x number
   index_past x number =
       ap (λ (word : Answer ℕ). if number == 0 then Gives 0 else word)
-      (read_past x (register_address Memory console x number))
+      (read_past x (register number x))
 
   indexed : (x : Cpu Memory) (number : ℕ) (word : Answer ℕ) →
       before x
@@ -128,8 +127,8 @@ module _ (a : VdpState → VdpState) (b : GromState → GromState)
   operand_past Register width number x = refl
   operand_past Indirect width number x =
       ap (λ (word : Answer ℕ). before x (word >>= λ w. Gives (w, moved x)))
-      (read_past x (register_address Memory console x number))
-      ∙ indirect x (word_read x.memory (register_address Memory console x number))
+      (read_past x (register number x))
+      ∙ indirect x (word_read x.memory (register number x))
   operand_past Symbolic width number x =
       let on : Cpu Memory = record x { pc = plus x.pc 2 } in
       ap
@@ -138,10 +137,10 @@ module _ (a : VdpState → VdpState) (b : GromState → GromState)
       ∙ indexed on number (word_read x.memory x.pc)
   operand_past Increment width number x =
       ap
-      (λ (word : Answer ℕ). before x (word >>= λ w. with_word Memory console (moved x) (register_address Memory console x number) (plus w (size_of width)) >>= λ y. Gives (w, y)))
-      (read_past x (register_address Memory console x number))
-      ∙ incremented x (register_address Memory console x number) (size_of width)
-      (word_read x.memory (register_address Memory console x number))
+      (λ (word : Answer ℕ). before x (word >>= λ w. with_word Memory console (moved x) (register number x) (plus w (size_of width)) >>= λ y. Gives (w, y)))
+      (read_past x (register number x))
+      ∙ incremented x (register number x) (size_of width)
+      (word_read x.memory (register number x))
 
 -- what follows a byte in a region, before a destination is derived and after it
 abbrev byte_first : Region → TwoOp → Place → Cpu Memory → Answer (Cpu Memory)

@@ -5,7 +5,8 @@ use Rattle.std.proofs.Math.ListN.{set}
 use Rattle.std.proofs.lemmas.List.{set_comm, set-set, set-get_or}
 use Rattle.tms_defs.specs.Words.{high, low, join, even}
 use Rattle.tms_defs.specs.Accesses.{Answer, Gives, AtPort, NoInstruction, ◌>>=◌, written_by}
-use Rattle.tms_defs.specs.Operand.{Cpu, with_word}
+use Rattle.tms_defs.specs.Operand.{Cpu}
+use Rattle.tms_defs.specs.Step.{with_word}
 use Rattle.tms_defs.specs.declared.instruction.Place.{Place}
 use Rattle.tms_defs.specs.declared.port_stop.PortStop.{PortStop}
 use Rattle.console_defs.specs.Memory.{Memory, Region, Rom, LowExpansion, HighExpansion, Scratchpad, PortOf, Unmapped}

@@ -3,8 +3,8 @@ use Rattle.std.specs.Prelude.{ℕ, Bool, true, false}
 use Rattle.tms_defs.specs.Accesses.{Answer, ◌>>=◌}
 use Rattle.console_defs.specs.Memory.{Memory, console}
 use Rattle.tms_defs.specs.Flags.{Width, Byte}
-use Rattle.tms_defs.specs.Operand.{Cpu, mode_of, operand, value_at}
-use Rattle.tms_defs.specs.forms.Two.{two}
+use Rattle.tms_defs.specs.Operand.{Cpu, mode_of}
+use Rattle.tms_defs.specs.Step.{operand, value_at, two}
 use Rattle.tms_defs.specs.declared.instruction.TwoOp.{TwoOp}
 use Rattle.tms_defs.specs.declared.instruction.TwoOp.TheVariants.{SZC, S, C, A, MOV, SOC}
 use Rattle.tms_defs.specs.declared.instruction.OneOp.{OneOp}

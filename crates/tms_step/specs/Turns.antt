@@ -1,6 +1,6 @@
 -- One turn of a run, a step; and the end of a run at its limit.
-use Rattle.std.specs.Prelude.{ℕ, ◌==◌, Option, Some, None, if◌then◌else◌}
-use Rattle.console_defs.specs.Runs.{is_reached}
+use Rattle.std.specs.Prelude.{ℕ, Option, Some, None, if◌then◌else◌}
+use Rattle.console_defs.specs.Runs.{is_reached, is_self_jump}
 use Rattle.tms_defs.specs.declared.step_end.StepEnd.{StepEnd}
 use Rattle.tms_defs.specs.declared.step_end.StepEnd.TheVariants.{Done, Refused, Port}
 use Rattle.console_defs.specs.declared.run_end.RunEnd.{RunEnd}
@@ -14,7 +14,7 @@ executed_by (Port address) = 0
 
 -- The end of a run that a step is.
 abbrev pub end_of_turn : StepEnd → Option RunEnd
-end_of_turn (Done word) = if word == 0x10FF then Some run.SelfJump else None
+end_of_turn (Done word) = if is_self_jump (Done word) then Some run.SelfJump else None
 end_of_turn (Refused address) = Some (run.Refused address)
 end_of_turn (Port address) = Some (run.Port address)
 

@@ -2,8 +2,7 @@
 
 ghost use Rattle.std.specs.Prelude.{◌≡◌, OnErr, IsFalse};
 ghost use Rattle.console_defs.specs.Memory.{Memory, console};
-ghost use Rattle.tms_defs.specs.Step.{is_unsupported};
-ghost use Rattle.tms_defs.specs.forms.Bare.{bare};
+ghost use Rattle.tms_defs.specs.Step.{is_unsupported, bare};
 ghost use Rattle.tms_defs.specs.declared.instruction.BareOp.TheVariants.{RTWP};
 ghost use Rattle.tms_defs.specs.declared.instruction.Instr.TheVariants.{Bare};
 ghost use Rattle.tms_step.specs.Stops.{left_by};

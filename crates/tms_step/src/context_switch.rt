@@ -3,7 +3,7 @@
 ghost use Rattle.std.specs.Prelude.{◌≡◌, IfOk};
 ghost use Rattle.tms_defs.specs.Words.{even};
 ghost use Rattle.console_defs.specs.Memory.{Memory, console};
-ghost use Rattle.tms_defs.specs.forms.ContextSwitch.{kept_in, vector_at, kept_of};
+ghost use Rattle.tms_defs.specs.Step.{kept_in, vector_at, kept_of};
 ghost use Rattle.tms_step.specs.Stops.{left_by};
 
 use crate::cpu::{Cpu, even, register_in};
@@ -24,7 +24,7 @@ impl Cpu {
     /// What a context switch keeps in registers 13, 14 and 15 of a workspace: each with the address of its register
     /// (TMS9900 data manual, "Branch and load workspace pointer", "Extended operation (XOP) instruction").
     pub(crate) fn kept_in(&self, wp: u16) -> [(u16, u16); 3]
-        ensures { result ≡ kept_in Memory wp self.now }
+        ensures { result ≡ kept_in wp self.now }
     {
         [
             (register_in(wp, 13), self.wp),

@@ -4,7 +4,8 @@ ghost use Rattle.std.specs.Prelude.{◌≡◌, ◌<◌, ◌*◌, OnErr};
 ghost use Rattle.tms_defs.specs.Words.{even};
 ghost use Rattle.tms_defs.specs.Status.{IsStatus};
 ghost use Rattle.console_defs.specs.Memory.{Memory, IsMemory, console};
-ghost use Rattle.tms_defs.specs.Operand.{word_at, with_word, register_in, register_address, next_word};
+ghost use Rattle.tms_defs.specs.Operand.{register_in, register};
+ghost use Rattle.tms_defs.specs.Step.{word_at, with_word, next_word};
 ghost use Rattle.tms_step.specs.Stops.{left_by};
 ghost use Rattle.tms_step.specs.Undo.{SameButPc};
 
@@ -63,7 +64,7 @@ impl Cpu {
     /// The word that holds an address.
     #[inline(always)]
     pub(crate) fn word_at(&self, at: u16) -> Result<u16, PortStop>
-        ensures { left_by result (λ word. (word, self.now)) ≡ word_at Memory console self.now at }
+        ensures { left_by result (λ word. word) ≡ word_at Memory console at self.now }
     {
         self.bus.word_at(at)
     }
@@ -81,7 +82,7 @@ impl Cpu {
     #[inline(always)]
     pub(crate) fn register_address(&self, number: u8) -> u16
         requires { number < 16 }
-        ensures { result ≡ register_address Memory console self.now number }
+        ensures { result ≡ register number self.now }
     {
         register_in(self.wp, number)
     }

@@ -2,7 +2,7 @@
 
 ghost use Rattle.std.specs.Prelude.{◌≡◌, ◌<◌, OnErr, IsTrue};
 ghost use Rattle.console_defs.specs.Memory.{Memory, console};
-ghost use Rattle.tms_defs.specs.forms.Imm.{immediate, imm};
+ghost use Rattle.tms_defs.specs.Step.{immediate, imm};
 ghost use Rattle.tms_step.specs.Parts.{reads_both};
 ghost use Rattle.tms_step.specs.Stops.{left_by};
 ghost use Rattle.tms_step.specs.Undo.{SameButPc};

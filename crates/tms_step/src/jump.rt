@@ -4,7 +4,8 @@ ghost use Rattle.std.specs.Prelude.{◌≡◌, ◌≢◌, Some};
 ghost use Rattle.tms_defs.specs.Words.{even};
 ghost use Rattle.tms_defs.specs.Accesses.{Gives};
 ghost use Rattle.console_defs.specs.Memory.{Memory};
-ghost use Rattle.tms_defs.specs.forms.Jump.{jump_target, condition, jump};
+ghost use Rattle.tms_defs.specs.Jumps.{jump_target, condition};
+ghost use Rattle.tms_defs.specs.Step.{jump};
 ghost use Rattle.tms_defs.specs.declared.instruction.JumpOp.TheVariants.{JMP, JEQ, JNE, SBO, SBZ, TB};
 
 use crate::cpu::Cpu;
@@ -17,7 +18,7 @@ impl Cpu {
         requires set { op ≢ SBO }
         requires cleared { op ≢ SBZ }
         requires tested { op ≢ TB }
-        ensures { Gives self.new ≡ jump Memory op disp self.old }
+        ensures { Gives self.new ≡ jump op disp self.old }
     {
         if condition(op, self.status) {
             self.pc = jump_target(self.pc, disp);

@@ -4,7 +4,7 @@ ghost use Rattle.std.specs.Prelude.{◌≡◌, ◌<◌, IsTrue};
 ghost use Rattle.tms_defs.specs.Words.{even};
 ghost use Rattle.tms_defs.specs.Accesses.{Gives};
 ghost use Rattle.console_defs.specs.Memory.{Memory, console, word_read};
-ghost use Rattle.tms_defs.specs.Operand.{register_address};
+ghost use Rattle.tms_defs.specs.Operand.{register};
 ghost use Rattle.tms_defs.specs.Status.{status_at, status_word};
 ghost use Rattle.console_defs.specs.Machine.{MachineState, IsMachine, new_machine, machine_step, WhereStopped};
 ghost use Rattle.console_defs.specs.Machine.{has_workspace};
@@ -132,7 +132,7 @@ impl Machine {
     pub fn register(&self, number: u8) -> u16
         requires number { number < 16 }
         requires workspace { IsTrue (has_workspace self.now.cpu.wp) }
-        ensures { Gives result ≡ word_read self.now.cpu.memory (register_address Memory console self.now.cpu number) }
+        ensures { Gives result ≡ word_read self.now.cpu.memory (register number self.now.cpu) }
     {
         match self.cpu.word_at(self.cpu.register_address(number)) {
             Ok(word) => word,

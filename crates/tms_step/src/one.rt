@@ -4,7 +4,7 @@ ghost use Rattle.std.specs.Prelude.{◌≡◌, ◌≢◌, ◌<◌, OnErr, IsTrue
 ghost use Rattle.tms_defs.specs.Instructions.{IsPlace};
 ghost use Rattle.tms_defs.specs.Accesses.{Gives};
 ghost use Rattle.console_defs.specs.Memory.{Memory, console};
-ghost use Rattle.tms_defs.specs.forms.One.{one, one_operand};
+ghost use Rattle.tms_defs.specs.Step.{one, one_operand};
 ghost use Rattle.tms_defs.specs.declared.instruction.OneOp.TheVariants.{BLWP, B, X, BL, CLR};
 ghost use Rattle.tms_step.specs.Parts.{is_increment};
 ghost use Rattle.tms_step.specs.Stops.{left_by};

@@ -3,7 +3,8 @@
 ghost use Rattle.std.specs.Prelude.{◌≡◌, ◌<◌, IfOk, IsOk, OnErr, Some, IsTrue, IsFalse};
 ghost use Rattle.tms_defs.specs.Flags.{Word, modulus, byte_or_word};
 ghost use Rattle.console_defs.specs.Memory.{Memory, console};
-ghost use Rattle.tms_defs.specs.Operand.{mode_of, index_of, operand, value_at, with_value};
+ghost use Rattle.tms_defs.specs.Operand.{mode_of};
+ghost use Rattle.tms_defs.specs.Step.{index_of, operand, value_at, with_value};
 ghost use Rattle.tms_defs.specs.Instructions.{IsPlace};
 ghost use Rattle.tms_step.specs.Stops.{left_by};
 ghost use Rattle.tms_step.specs.Undo.{put_back, auto_incremented_by, grown_register, SameButPc};

@@ -3,8 +3,7 @@
 ghost use Rattle.std.specs.Prelude.{◌≡◌, ◌≢◌, ◌<◌, OnErr};
 ghost use Rattle.tms_defs.specs.Instructions.{IsPlace};
 ghost use Rattle.console_defs.specs.Memory.{Memory, console};
-ghost use Rattle.tms_defs.specs.Operand.{register_address};
-ghost use Rattle.tms_defs.specs.forms.Reg.{values_at, with_division, reg, with_source};
+ghost use Rattle.tms_defs.specs.Step.{values_at, with_division, reg, with_source};
 ghost use Rattle.tms_defs.specs.declared.instruction.RegOp.TheVariants.{XOP, LDCR, STCR, DIV};
 ghost use Rattle.tms_step.specs.Stops.{left_by};
 ghost use Rattle.tms_step.specs.Undo.{SameButPc};

@@ -2,8 +2,8 @@
 
 ghost use Rattle.std.specs.Prelude.{◌≡◌, ◌<◌, ◌≤◌, IfOk, OnErr};
 ghost use Rattle.console_defs.specs.Memory.{Memory, console};
-ghost use Rattle.tms_defs.specs.Shifts.{shifted, by_shift};
-ghost use Rattle.tms_defs.specs.forms.Shift.{count_in, count_of, shift};
+ghost use Rattle.tms_defs.specs.Shifts.{shifted, by_shift, count_in};
+ghost use Rattle.tms_defs.specs.Step.{count_of, shift};
 ghost use Rattle.tms_step.specs.Stops.{left_by};
 ghost use Rattle.tms_step.specs.Undo.{SameButPc};
 

@@ -4,7 +4,7 @@ ghost use Rattle.std.specs.Prelude.{◌≡◌, ◌<◌, IsOk, OnErr, IsTrue};
 ghost use Rattle.tms_defs.specs.Flags.{Word, modulus, byte_or_word};
 ghost use Rattle.console_defs.specs.Memory.{Memory, console};
 ghost use Rattle.tms_defs.specs.Status.{with_order};
-ghost use Rattle.tms_defs.specs.forms.Results.{stored, stored_by_result};
+ghost use Rattle.tms_defs.specs.Step.{stored, stored_by_result};
 ghost use Rattle.tms_step.specs.Stops.{left_by};
 
 use crate::cpu::Cpu;

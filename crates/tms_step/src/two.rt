@@ -4,7 +4,7 @@ ghost use Rattle.std.specs.Prelude.{◌≡◌, ◌<◌, OnErr, IsTrue, IsFalse};
 ghost use Rattle.tms_defs.specs.Flags.{modulus, byte_or_word};
 ghost use Rattle.tms_defs.specs.Instructions.{IsPlace};
 ghost use Rattle.console_defs.specs.Memory.{Memory, console, is_port_address};
-ghost use Rattle.tms_defs.specs.forms.Two.{two, two_operands};
+ghost use Rattle.tms_defs.specs.Step.{two, two_operands};
 ghost use Rattle.tms_defs.specs.declared.instruction.TwoOp.TheVariants.{MOV};
 ghost use Rattle.tms_step.specs.Stops.{left_by};
 ghost use Rattle.tms_step.specs.Undo.{SameButPc};

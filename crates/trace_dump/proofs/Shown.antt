@@ -8,11 +8,11 @@ use Rattle.gpl_step_defs.specs.State.{GplState}
 use Rattle.interp_defs.specs.Match.{IsHalted}
 use Rattle.interp_defs.specs.Programs.{EndsAs}
 use Rattle.sim_view.proofs.Bridge.{register_is, reg_word}
-use Rattle.gpl_run.specs.Sessions.{SessionState, seen, address_in}
+use Rattle.gpl_run.specs.Sessions.{SessionState, gpl_state_of, address_in}
 use Rattle.report_defs.specs.Program.{showing, state_text, state_line, state_lines}
 
 -- A machine shows the state that is seen in it.
-pub showing_seen : (t : SessionState) → showing (seen t) t.machine ≡ t.machine
+pub showing_seen : (t : SessionState) → showing (gpl_state_of t) t.machine ≡ t.machine
 showing_seen t =
     let x = t.machine in
     ap (λ (cells : List ℕ). record x { cpu = record x.cpu { memory = record x.cpu.memory { scratchpad = cells } } })
@@ -20,7 +20,7 @@ showing_seen t =
 
 -- what is seen of a machine whose program has ended so
 abbrev pub seen_by : Option Reason → MachineState → GplState
-seen_by stop x = seen (record { machine = x; ended = stop })
+seen_by stop x = gpl_state_of (record { machine = x; ended = stop })
 
 -- States that look alike have the same lines.
 same_lines : (a b : GplState) (x : MachineState) → a.cells ≡ b.cells → a.vdp ≡ b.vdp → a.registers ≡ b.registers

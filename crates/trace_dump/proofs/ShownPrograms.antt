@@ -17,12 +17,12 @@ use Rattle.interp_defs.specs.Match.{IsMatching, shown_by}
 use Rattle.interp_defs.specs.Turned.{Turned, TurnedBy, whole_turn}
 use Rattle.sim_steps.specs.Running.{RunsTurns}
 use Rattle.sim_steps.proofs.TurnRuns.{Stepping, none_yet, stepped, stopped, whole, last_is, done_at_least}
-use Rattle.gpl_run.specs.Sessions.{SessionState, IsSession, seen, address_in, ended_by}
+use Rattle.gpl_run.specs.Sessions.{SessionState, IsSession, gpl_state_of, address_in, ended_by}
 use Rattle.report_defs.specs.Trace.{SeenState, ShowsChanges, seen_state, step_front, step_line, step_lines}
 use Rattle.trace_dump.specs.Plays.{PlaysWhole, BreaksOff}
 use Rattle.report_defs.proofs.Ranges.{mapped_split}
 
-pub seen_running : (t : SessionState) → t.ended ≡ None → seen t ≡ shown_by t.machine.cpu.memory
+pub seen_running : (t : SessionState) → t.ended ≡ None → gpl_state_of t ≡ shown_by t.machine.cpu.memory
 seen_running t e = ap (λ (o : Option Reason). record (shown_by t.machine.cpu.memory) { pc = address_in o t.machine }) e
 
 pub matches_of : (t : SessionState) → t.ended ≡ None → IsSession t.machine t.ended → IsMatching t.machine
@@ -45,12 +45,12 @@ lines_behind shows s made done le =
 
 -- So many steps were made and shown.
 pub record Playing (shows : ShowsChanges) (x y : SessionState) (t u made : ℕ) (o o' : SinkState) (kept : SeenState) : Type 0 where
-  pub stepping : Stepping made (seen x) x.machine y.machine t u
+  pub stepping : Stepping made (gpl_state_of x) x.machine y.machine t u
   pub running : y.ended ≡ None
-  pub kept_is : kept ≡ seen_state (seen y)
-  pub wrote : Wrote o o' (step_lines shows (seen x) made)
+  pub kept_is : kept ≡ seen_state (gpl_state_of y)
+  pub wrote : Wrote o o' (step_lines shows (gpl_state_of x) made)
 
-pub begun : (shows : ShowsChanges) (x : SessionState) (t : ℕ) (o : SinkState) (kept : SeenState) → x.ended ≡ None → IsSession x.machine x.ended → kept ≡ seen_state (seen x) → Playing shows x x t t 0 o o kept
+pub begun : (shows : ShowsChanges) (x : SessionState) (t : ℕ) (o : SinkState) (kept : SeenState) → x.ended ≡ None → IsSession x.machine x.ended → kept ≡ seen_state (gpl_state_of x) → Playing shows x x t t 0 o o kept
 unfolding step_lines
 begun shows x t o kept e h is = record {
   stepping = subst (λ (s : GplState). Stepping 0 s x.machine x.machine t t) (sym (seen_running x e)) (none_yet (matches_of x e h));
@@ -72,7 +72,7 @@ halted_by z w u v reason (Err other) t = same_seen (shown_by w.cpu.memory) (show
 
 module _ (shows : ShowsChanges) (x y z : SessionState) (t u v made : ℕ) (o o' : SinkState) (kept : SeenState) (p : Playing shows x y t u made o o' kept) where
   -- the state before the step
-  before_is : seen y ≡ (run made (seen x)).last
+  before_is : gpl_state_of y ≡ (run made (gpl_state_of x)).last
   before_is = seen_running y p.running ∙ p.stepping.matches.shows ∙ sym (last_is made p.stepping z.machine v)
 
   -- a step that stops
@@ -82,50 +82,50 @@ module _ (shows : ShowsChanges) (x y z : SessionState) (t u v made : ℕ) (o o' 
 
     pub stops_whole : (limit : ℕ) → made < limit → PlaysWhole shows limit x z t v o o' made
     stops_whole limit less = record {
-      runs = subst (RunsTurns (seen x) limit x.machine z.machine t v made) (sym (ended ∙ ap ended_by is))
+      runs = subst (RunsTurns (gpl_state_of x) limit x.machine z.machine t v made) (sym (ended ∙ ap ended_by is))
           (stopped made p.stepping z.machine v limit reason less stops);
       wrote = p.wrote;
     }
 
-    pub stops_kept : kept ≡ seen_state (seen z)
+    pub stops_kept : kept ≡ seen_state (gpl_state_of z)
     stops_kept = p.kept_is ∙ sym (halted_by y.machine z.machine u v reason (step (shown_by y.machine.cpu.memory)) stops)
 
   -- a step that is made
   module _ (turn : Turn) (is : turn ≡ Stepped) (turned : Turned (shown_by y.machine.cpu.memory) y.machine z.machine (whole_turn u v) turn) (ended : z.ended ≡ ended_by turn) where
-    more : Stepping (made + 1) (seen x) x.machine z.machine t v
+    more : Stepping (made + 1) (gpl_state_of x) x.machine z.machine t v
     more = stepped made p.stepping z.machine v (subst (λ (a : Turn). Turned (shown_by y.machine.cpu.memory) y.machine z.machine (whole_turn u v) a) is turned)
 
     runs_on : z.ended ≡ None
     runs_on = ended ∙ ap ended_by is
 
-    after_is : seen z ≡ (run (made + 1) (seen x)).last
+    after_is : gpl_state_of z ≡ (run (made + 1) (gpl_state_of x)).last
     after_is = seen_running z runs_on ∙ more.matches.shows ∙ sym (last_is (made + 1) more z.machine v)
 
     -- the line that was made is that of the step
-    module _ (front line : List ℕ) (number : ℕ) (first : front ≡ step_front number (seen y)) (numbered : number ≡ made + 1)
+    module _ (front line : List ℕ) (number : ℕ) (first : front ≡ step_front number (gpl_state_of y)) (numbered : number ≡ made + 1)
         (ends : line ≡ front ++ (shows kept (seen_state (shown_by z.machine.cpu.memory)) ++ codes "\n")) where
-      pub line_is : line ≡ line_at shows (seen x) made
+      pub line_is : line ≡ line_at shows (gpl_state_of x) made
       line_is =
-          let after : List ℕ = shows kept (seen_state (seen z)) ++ codes "\n" in
+          let after : List ℕ = shows kept (seen_state (gpl_state_of z)) ++ codes "\n" in
           ends
           ∙ ap (λ (f : List ℕ). f ++ after) first
-          ∙ ap (λ (n : ℕ). step_front n (seen y) ++ after) numbered
-          ∙ ap (λ (k : SeenState). step_front (made + 1) (seen y) ++ (shows k (seen_state (seen z)) ++ codes "\n")) p.kept_is
-          ∙ ap (λ (s : GplState). step_line shows (made + 1) s (seen z)) before_is
-          ∙ ap (λ (s : GplState). step_line shows (made + 1) (run made (seen x)).last s) after_is
+          ∙ ap (λ (n : ℕ). step_front n (gpl_state_of y) ++ after) numbered
+          ∙ ap (λ (k : SeenState). step_front (made + 1) (gpl_state_of y) ++ (shows k (seen_state (gpl_state_of z)) ++ codes "\n")) p.kept_is
+          ∙ ap (λ (s : GplState). step_line shows (made + 1) s (gpl_state_of z)) before_is
+          ∙ ap (λ (s : GplState). step_line shows (made + 1) (run made (gpl_state_of x)).last s) after_is
 
       pub shown : (o2 : SinkState) (kept2 : SeenState) → Wrote o' o2 (line ∷ []) → kept2 ≡ seen_state (shown_by z.machine.cpu.memory) → Playing shows x z t v (made + 1) o o2 kept2
       shown o2 kept2 wrote k = record {
         stepping = more;
         running = runs_on;
         kept_is = k;
-        wrote = subst (Wrote o o2) (ap (λ (l : List ℕ). step_lines shows (seen x) made ++ l ∷ []) line_is ∙ sym (one_more_line shows (seen x) made))
-            (wrote_more o o' o2 (step_lines shows (seen x) made) (line ∷ []) p.wrote wrote);
+        wrote = subst (Wrote o o2) (ap (λ (l : List ℕ). step_lines shows (gpl_state_of x) made ++ l ∷ []) line_is ∙ sym (one_more_line shows (gpl_state_of x) made))
+            (wrote_more o o' o2 (step_lines shows (gpl_state_of x) made) (line ∷ []) p.wrote wrote);
       }
 
       pub breaks_off : (limit : ℕ) (o2 : SinkState) → made < limit → Missed o' o2 (line ∷ []) → BreaksOff shows limit x z t v o o2
       breaks_off limit o2 less missed =
-          let within : made + 1 ≤ (run limit (seen x)).done = done_at_least (made + 1) limit (seen x) more.now more.steps_are (omega arith) in
+          let within : made + 1 ≤ (run limit (gpl_state_of x)).done = done_at_least (made + 1) limit (gpl_state_of x) more.now more.steps_are (omega arith) in
           record {
             shown = made;
             within = omega arith;
@@ -137,9 +137,9 @@ module _ (shows : ShowsChanges) (x y z : SessionState) (t u v made : ℕ) (o o' 
           }
 
 -- what was written is a front of the lines of all steps up to the limit
-pub breaks_front : (shows : ShowsChanges) (limit : ℕ) (x y : SessionState) (t u : ℕ) (o o' : SinkState) → BreaksOff shows limit x y t u o o' → Missed o o' (step_lines shows (seen x) (run limit (seen x)).done)
+pub breaks_front : (shows : ShowsChanges) (limit : ℕ) (x y : SessionState) (t u : ℕ) (o o' : SinkState) → BreaksOff shows limit x y t u o o' → Missed o o' (step_lines shows (gpl_state_of x) (run limit (gpl_state_of x)).done)
 breaks_front shows limit x y t u o o' b =
-    let s = seen x in
+    let s = gpl_state_of x in
     let less = b.within in
     let behind = lines_behind shows s (b.shown + 1) (run limit s).done (omega arith) in
     let here : Missed o o' (step_lines shows s (b.shown + 1)) =
@@ -150,6 +150,6 @@ pub plays_whole : (shows : ShowsChanges) (limit made : ℕ) (x y : SessionState)
 plays_whole shows limit made x y t u o o' kept all p =
     let q : Playing shows x y t u limit o o' kept = subst (λ (m : ℕ). Playing shows x y t u m o o' kept) all p in
     record {
-      runs = subst (RunsTurns (seen x) limit x.machine y.machine t u limit) (sym q.running) (whole limit q.stepping);
+      runs = subst (RunsTurns (gpl_state_of x) limit x.machine y.machine t u limit) (sym q.running) (whole limit q.stepping);
       wrote = q.wrote;
     }

@@ -2,7 +2,7 @@
 
 ghost use Rattle.std.specs.Prelude.{◌≡◌, ◌≤◌, ◌+◌, ◌++◌, None, length, codes};
 ghost use Rattle.arrayvec.specs.ArrayString.{array_string_len};
-ghost use Rattle.gpl_run.specs.Sessions.{seen};
+ghost use Rattle.gpl_run.specs.Sessions.{gpl_state_of};
 ghost use Rattle.report_defs.specs.Trace as spec;
 
 use crate::state::push_state;
@@ -20,7 +20,7 @@ const NUMBER_PLACES: usize = 6;
 pub fn trace_line(session: &Session, number: u32) -> ArrayString<120>
     requires running { session.now.ended ≡ None }
     requires number { number ≤ 100000 }
-    ensures text { result.bytes ≡ spec.step_front number (seen session.now) }
+    ensures text { result.bytes ≡ spec.step_front number (gpl_state_of session.now) }
     ensures size { array_string_len result ≤ 77 }
 {
     let mut line = ArrayString::new();

@@ -2,7 +2,7 @@
 
 ghost use Rattle.std.specs.Prelude.{◌≡◌};
 ghost use Rattle.bench_io.specs.Written.{Written};
-ghost use Rattle.gpl_run.specs.Sessions.{seen};
+ghost use Rattle.gpl_run.specs.Sessions.{gpl_state_of};
 ghost use Rattle.report_defs.specs.Program as spec;
 
 use crate::parts::dump;
@@ -16,7 +16,7 @@ use report_defs::Status;
 #[tactic(auto, using(bench_io::proofs::Writes::wrote_none))]
 pub fn put_stop<O: Sink>(session: &Session, out: &mut O) -> Result<(), Failed>
     ensures { Written result (O.state out.old) (O.state out.new)
-        (spec.stop_lines session.now.ended (seen session.now).pc) }
+        (spec.stop_lines session.now.ended (gpl_state_of session.now).pc) }
 {
     match session.ended() {
         Some(reason) => put_chunk(out, stop_line(reason, session.pc()).as_bytes()),
@@ -27,7 +27,7 @@ pub fn put_stop<O: Sink>(session: &Session, out: &mut O) -> Result<(), Failed>
 /// Writes the state of a program, and the dump of the machine that runs it. It takes no memory.
 pub fn put_state<O: Sink>(session: &Session, out: &mut O) -> Result<(), Failed>
     ensures { Written result (O.state out.old) (O.state out.new)
-        (spec.state_lines (seen session.now) session.now.machine) }
+        (spec.state_lines (gpl_state_of session.now) session.now.machine) }
 {
     put_chunk(out, state_line(session).as_bytes())?;
     dump(session.machine(), out)

@@ -4,7 +4,7 @@ ghost use Rattle.std.specs.Prelude.{◌≡◌, ◌<◌, ◌≤◌, ◌+◌, ◌+
 ghost use Rattle.arrayvec.specs.ArrayString.{array_string_len};
 ghost use Rattle.source_defs.specs.Digits.{byte_digits};
 ghost use Rattle.gpl_step_defs.specs.declared.cells.TheConstants.{VISIBLE_CELLS};
-ghost use Rattle.gpl_run.specs.Sessions.{seen};
+ghost use Rattle.gpl_run.specs.Sessions.{gpl_state_of};
 ghost use Rattle.report_defs.specs.Program as spec;
 
 use arrayvec::ArrayString;
@@ -17,7 +17,7 @@ use gpl_step_defs::{RETURN_STACK, Reason, STATUS, VALUE_STACK};
 /// its status and the pointers of its two stacks.
 #[tactic(auto, using(std::proofs::Common::append_assoc), unfolding(report_defs::specs::Program::state_line))]
 pub fn state_line(session: &Session) -> ArrayString<120>
-    ensures { result.bytes ≡ spec.state_line (seen session.now) }
+    ensures { result.bytes ≡ spec.state_line (gpl_state_of session.now) }
 {
     let mut line = ArrayString::new();
     line.push_str("gpl ");
@@ -31,7 +31,7 @@ pub fn state_line(session: &Session) -> ArrayString<120>
 #[tactic(auto, using(std::proofs::Common::append_assoc), unfolding(report_defs::specs::Program::state_text))]
 pub(crate) fn push_state(line: &mut ArrayString<120>, session: &Session)
     requires { array_string_len line.old + 17 ≤ 120 }
-    ensures text { line.new.bytes ≡ line.old.bytes ++ spec.state_text (seen session.now) }
+    ensures text { line.new.bytes ≡ line.old.bytes ++ spec.state_text (gpl_state_of session.now) }
     ensures size { array_string_len line.new ≡ array_string_len line.old + 17 }
 {
     push_word(line, session.pc());
@@ -43,7 +43,7 @@ pub(crate) fn push_state(line: &mut ArrayString<120>, session: &Session)
 /// The visible cell with a number.
 fn visible_cell(session: &Session, cell: u8) -> u8
     requires { cell < VISIBLE_CELLS }
-    ensures { result ≡ slice_index (seen session.now).cells cell }
+    ensures { result ≡ slice_index (gpl_state_of session.now).cells cell }
 {
     session.machine().bus().cell(cell)
 }

@@ -30,11 +30,11 @@ pub fn play<T: StepLine, O: Sink, L: Ledger>(
     steps: &mut Steps<L>,
 ) -> Result<u32, Failed>
     requires running { session.old.ended ≡ None }
-    requires kept { seen.old ≡ seen_state (sessions.seen session.old) }
+    requires kept { seen.old ≡ seen_state (sessions.gpl_state_of session.old) }
     requires limit { limit ≤ 100000 }
     ensures plays { Plays T.shows limit session.old session.new steps.old steps.new
         (O.state out.old) (O.state out.new) result }
-    ensures kept { seen.new ≡ seen_state (sessions.seen session.new) }
+    ensures kept { seen.new ≡ seen_state (sessions.gpl_state_of session.new) }
 {
     session.holds_match();
     for made in 0..limit {

@@ -10,7 +10,7 @@ use Rattle.interp_defs.specs.Programs.{EndsAs, RunsSteps, most_of_boot}
 use Rattle.interp_defs.proofs.Machines.{runs_program}
 use Rattle.sim_steps.specs.Running.{RunsTurns}
 use Rattle.sim_steps.specs.Starting.{Begins}
-use Rattle.gpl_run.specs.Sessions.{SessionState, IsNew, seen, address_in, image_of, entry_of}
+use Rattle.gpl_run.specs.Sessions.{SessionState, IsNew, gpl_state_of, address_in, image_of, entry_of}
 use Rattle.trace_dump.proofs.Shown.{seen_by, same_pc, same_state}
 use Rattle.watch_defs.specs.declared.item.Item.{Item}
 use Rattle.watch_defs.specs.declared.found.Found.{Found}
@@ -50,9 +50,9 @@ module _ (limit : ℕ) (s : GplState) (t : SessionState) (memory : IsMemory t.ma
 
 -- A program that is watched is run up to what is found.
 runs_of : (found : Found) (limit : ℕ) (x y : SessionState) (before after : ℕ) → Watches limit x y before after found
-    → (done : ℕ) × RunsTurns (seen x) (steps_to found limit) x.machine y.machine before after done y.ended
+    → (done : ℕ) × RunsTurns (gpl_state_of x) (steps_to found limit) x.machine y.machine before after done y.ended
 runs_of (result.Hit step from item change) limit x y before after w = (step, w.0.runs)
-runs_of result.None limit x y before after w = ((run limit (seen x)).done, w.runs)
+runs_of result.None limit x y before after w = ((run limit (gpl_state_of x)).done, w.runs)
 
 -- The interpreter has booted on a new machine, and the program was watched.
 module _ (new : MachineState) (machine : IsMachine new) (is_new : IsNew new) (first : SessionState) (begun booted : ℕ)
@@ -61,13 +61,13 @@ module _ (new : MachineState) (machine : IsMachine new) (is_new : IsNew new) (fi
   abbrev s : GplState
   s = start (image_of new) (entry_of new)
 
-  seen_is : seen first ≡ s
+  seen_is : gpl_state_of first ≡ s
   seen_is =
       ap (λ (o : Option Reason). record (shown_by first.machine.cpu.memory) { pc = address_in o first.machine }) running
       ∙ begins.matches.shows
 
   pub watches : (limit : ℕ) (items watched_items : List Item) (found : Found) (t : SessionState) (before after : ℕ)
-      → watched_items ≡ items → found ≡ hits.found watched_items limit (seen first)
+      → watched_items ≡ items → found ≡ hits.found watched_items limit (gpl_state_of first)
       → Watches limit first t before after found
       → IsMemory t.machine.cpu.memory
       → WatchesProgram (image_of new) (entry_of new) limit items (record { found = found; session = t })

@@ -9,7 +9,7 @@ use Rattle.watch_defs.specs.Hits as hits
 use Rattle.report_defs.specs.Watching.{steps_to, watch_report}
 use Rattle.reports.specs.declared.watched.Watched.{Watched}
 use Rattle.reports.specs.declared.report.Report.TheVariants as made
-use Rattle.reports.specs.Made.{defined_report}
+use Rattle.reports.specs.Made.{model_of_report}
 
 -- The program with an image and an entry was run up to the first hit, or for as many steps as may be; what was found is
 -- the first hit of its run; and the report is that of this run.
@@ -19,5 +19,5 @@ pub record WatchesProgram (image : List ℕ) (entry limit : ℕ) (items : List I
   pub ended : watched.session.ended ≡ (run (steps_to watched.found limit) (start image entry)).stop
   pub memory : IsMemory watched.session.machine.cpu.memory
   pub report :
-      defined_report (made.Watched watched)
+      model_of_report (made.Watched watched)
       ≡ watch_report watched.found limit (start image entry) watched.session.machine

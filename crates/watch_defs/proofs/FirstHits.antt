@@ -75,8 +75,7 @@ module _ (list : List Item) (number : ℕ) (before next : GplState) where
   abbrev of_place : ℕ → Found
   of_place place = result.Hit number before.pc (place + 1) (change_at list place before next)
 
-  nothing : (o : Option ℕ) → first_item list before next ≡ o → option_map of_place o ≡ None
-      → NoneHolds list before next
+  nothing : (o : Option ℕ) → first_item list before next ≡ o → option_map of_place o ≡ None → NoneHolds list before next
   nothing None is none =
       λ place item at. fails_there (λ i. holds i before next) list place item
       (nowhere (λ i. holds i before next) list is) at

@@ -19,8 +19,7 @@ range_split from (suc n) m =
     rw (e, f) (ap (λ ks. from ∷ ks) (range_split (from + 1) n m))
 
 module _ (items : List Item) (s : GplState) where
-  split : (n m : ℕ)
-      → hits items s (n + m) ≡ hits items s n ++ filter_map (hit_at items s) (range_with_len (1 + n) m)
+  split : (n m : ℕ) → hits items s (n + m) ≡ hits items s n ++ filter_map (hit_at items s) (range_with_len (1 + n) m)
   split n m =
       ap (filter_map (hit_at items s)) (range_split 1 n m)
       ∙ filter_map-append (hit_at items s) (range_with_len 1 n) (range_with_len (1 + n) m)

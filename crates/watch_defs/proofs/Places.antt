@@ -12,8 +12,7 @@ module _ {X Y : Type 0} (p : Y → Bool) (f : X → Y) where
 
   -- in a list of images
   pub position_mapped : (xs : List X) → position p (map f xs) ≡ position (λ x. p (f x)) xs
-  position_mapped xs =
-      position_from-zero p (map f xs) ∙ from_mapped 0 xs ∙ sym (position_from-zero (λ x. p (f x)) xs)
+  position_mapped xs = position_from-zero p (map f xs) ∙ from_mapped 0 xs ∙ sym (position_from-zero (λ x. p (f x)) xs)
 
 module _ {X : Type 0} (p : X → Bool) where
   -- the test passes nowhere

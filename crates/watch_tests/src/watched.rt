@@ -1,7 +1,7 @@
 //! The first step that changes a watched place.
 
 ghost use Rattle.std.specs.Prelude.{◌≡◌, ◌<◌, All, IsTrue};
-ghost use Rattle.gpl_run.specs.Sessions.{IsNew, seen};
+ghost use Rattle.gpl_run.specs.Sessions.{IsNew, gpl_state_of};
 ghost use Rattle.gpl_watch.specs.Watches.{Keeps};
 ghost use Rattle.watch_defs.specs.Items.{AreItems, IsItem};
 
@@ -44,8 +44,8 @@ fn find<L: Ledger>(
     limit: u32,
     steps: &mut Steps<L>,
 ) -> Option<Found>
-    requires { Keeps watch.old (seen session.old) }
-    ensures { Keeps watch.new (seen session.new) }
+    requires { Keeps watch.old (gpl_state_of session.old) }
+    ensures { Keeps watch.new (gpl_state_of session.new) }
 {
     match session.ended() {
         None => Some(watch.run(session, limit, steps)),

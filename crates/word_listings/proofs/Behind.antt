@@ -170,8 +170,7 @@ pub settles_now : (before : List Line) (number : ℕ) (text : List ℕ) (at next
     (taken : Taken before number text at next last (Ok found)) → settled (settle predefined) before ≡ Ok earlier
     → with_room earlier (record { at = absolute_at at; outcome = found }) ≡ Ok (record { at = absolute_at at; outcome = found })
     → settled (settle predefined) (taken.line ∷ before) ≡ Ok (record { at = absolute_at at; outcome = found } ∷ earlier)
-settles_now before number text at next last found earlier taken is room =
-    rw (is, taken.settle_is earlier, room) refl
+settles_now before number text at next last found earlier taken is room = rw (is, taken.settle_is earlier, room) refl
 
 numbers_back : (words : List ℕ) → numbers_of (map Absolute words) ≡ Some words
 numbers_back [] = refl
@@ -294,9 +293,8 @@ module _ (from : ℕ) (total : List ℕ) (tails : List (List ℕ)) (whole : Modu
 
     pub goes_from : (most : ℕ) → GoesFrom most
     goes_from zero (word ∷ words) at number before come few even size are stands comes all = absurd (omega (arith, few))
-    goes_from zero [] at number before come few even size are stands comes all = no_more at number before come size stands comes all
-    goes_from (suc most) [] at number before come few even size are stands comes all = no_more at number before come size stands comes all
     goes_from (suc most) (word ∷ words) at number before come few even size are stands comes all =
         let back = words_back at (omega (arith, size, below)) even word words are in
         goes_by most word words (goes_from most) at number before (omega (arith, few)) even size are stands
         (wraps at (instr_at word)) back.0 back.1 come comes all
+    goes_from _ _ at number before come few even size are stands comes all = no_more at number before come size stands comes all

@@ -35,14 +35,14 @@ use Rattle.instruction_defs.specs.declared.causes.FormError.{FormError}
 use Rattle.instruction_defs.specs.declared.causes.FormError.TheVariants.{JumpTooFar}
 use Rattle.instruction_defs.specs.declared.operand_kind.OperandKind.{OperandKind}
 use Rattle.instruction_defs.specs.declared.operand_kind.OperandKind.TheVariants as kind
-use Rattle.instruction_defs.specs.Forms.{Form, Symbolic, Indexed}
+use Rattle.instruction_defs.specs.Forms.{Form, Indexed}
 use Rattle.instruction_defs.specs.Operands.{following_words, words_of, kinds_of, reg_kinds, jump_kinds, has_immediate, has_value}
-use Rattle.instruction_defs.specs.FirstChecks.{Skeleton, Instruction, first_checks, form_in, following, forms_of, all_following, size_of}
+use Rattle.instruction_defs.specs.FirstChecks.{Skeleton, Instruction, first_checks, form_in, words_after, forms_of, all_words_after, size_of}
 use Rattle.instruction_defs.specs.SecondChecks as second
 use Rattle.instruction_defs.specs.SecondChecks.{EncodedOperand, Located, Counted, Displaced, Followed, all_valued, all_ranged, second_checks, displaced}
 use Rattle.instruction_defs.specs.SecondChecks.{instruction_of, following_in}
 use Rattle.tms_defs.specs.Words.{plus}
-use Rattle.tms_defs.specs.forms.Jump.{jump_target}
+use Rattle.tms_defs.specs.Jumps.{jump_target}
 use Rattle.instruction_defs.specs.Printed.{operand_text, register_text, number_text, signed_text, target_text, operands_text}
 use Rattle.listed_lines.proofs.Scans.{all_both, all_also, and_left, and_right}
 use Rattle.listed_lines.proofs.OperandLines.{whole, one_text, two_operands}
@@ -68,7 +68,6 @@ pub names : (operation : Operation) → Names operation
 unfolding directive mnemonic
 names (Two SZC false) = record { no_directive = refl; reads = refl; some = omega arith; short = omega arith; plain = refl; no_copy = refl }
 names (Two _ false) = record { no_directive = refl; reads = refl; some = omega arith; short = omega arith; plain = refl; no_copy = refl }
-names (Two _ true) = record { no_directive = refl; reads = refl; some = omega arith; short = omega arith; plain = refl; no_copy = refl }
 names (Reg COC) = record { no_directive = refl; reads = refl; some = omega arith; short = omega arith; plain = refl; no_copy = refl }
 names (Shift SRA) = record { no_directive = refl; reads = refl; some = omega arith; short = omega arith; plain = refl; no_copy = refl }
 names (One BLWP) = record { no_directive = refl; reads = refl; some = omega arith; short = omega arith; plain = refl; no_copy = refl }
@@ -84,17 +83,15 @@ pub record FieldBack (here : Value) (kinds : List OperandKind) (operands : Optio
   pub forms : List Form
   pub forms_are : forms_of kinds (field_of operands) ≡ Ok forms
   pub readies_are : (all_valued known here kinds forms >>= all_ranged here) ≡ answer
-  pub count_is : all_following kinds forms ≡ count
+  pub count_is : all_words_after kinds forms ≡ count
   pub few : count ≤ 2
   pub short : length (field_of operands) ≤ 11 + 6 * count
   pub is_plain : list_all plain_byte (field_of operands) ≡ true
   pub some : (operands ≡ None) ⊎ (0 < length (field_of operands))
 
-following_few : (kind : OperandKind) (form : Form) → following kind form ≤ 1
+following_few : (kind : OperandKind) (form : Form) → words_after kind form ≤ 1
 following_few kind.General (Indexed text index) = omega arith
-following_few kind.General (Symbolic text) = omega arith
-following_few kind.General _ = omega arith
-following_few _ form = omega arith
+following_few _ _ = omega arith
 
 some_text : (kind : OperandKind) (text : List ℕ) (form : Form) → form_in kind text ≡ Ok form → 0 < length text
 some_text kind [] form e = cc e
@@ -312,20 +309,16 @@ two_follow : (src dst : Place) (a b : Bool) (word : ℕ) (rest : List ℕ) → f
     → following_in (Located src (if a then Some (Absolute (slice_index (word ∷ rest) 1)) else None))
     ++ (following_in (Located dst (if b then Some (Absolute (slice_index (word ∷ rest) (1 + follows a))) else None)) ++ [])
     ≡ map Absolute (take (follows a + follows b) rest)
-two_follow src dst false false word rest le = refl
 two_follow src dst false true word [] le = absurd (omega (arith, le))
-two_follow src dst false true word (first ∷ rest) le = refl
 two_follow src dst true false word [] le = absurd (omega (arith, le))
-two_follow src dst true false word (first ∷ rest) le = refl
 two_follow src dst true true word [] le = absurd (omega (arith, le))
 two_follow src dst true true word (first ∷ []) le = absurd (omega (arith, le))
-two_follow src dst true true word (first ∷ second ∷ rest) le = refl
+two_follow src dst _ _ word _ le = refl
 
 alone_follows : (b : Bool) (word : ℕ) (rest : List ℕ) (place : Place) → follows b ≤ length rest
     → following_in (Located place (if b then Some (Absolute (slice_index (word ∷ rest) 1)) else None)) ++ [] ≡ map Absolute (take (follows b) rest)
-alone_follows false word rest place le = refl
 alone_follows true word [] place le = absurd (omega (arith, le))
-alone_follows true word (first ∷ rest) place le = refl
+alone_follows _ word _ place le = refl
 
 -- the values of the words of an instruction, unless it is a jump that wraps
 abbrev pub values_unless : Bool → List ℕ → Result (List Value) FormError

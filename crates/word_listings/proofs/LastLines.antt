@@ -101,9 +101,7 @@ lone at word = record { at = spot.Absolute at; word = spot.Absolute word } ∷ [
 
 pieces_append : (from : ℕ) (words : List ℕ) (word : ℕ) (at : ℕ) → at ≡ from + 2 * length words
     → pieces_of from (words ++ word ∷ []) ≡ pieces_of from words ++ record { at = spot.Absolute at; word = spot.Absolute word } ∷ []
-pieces_append from [] word at e =
-    let same : at ≡ from = omega (arith, e) in
-    ap (λ at. lone at word) (sym same)
+pieces_append from [] word at e = let same : at ≡ from = omega (arith, e) in ap (λ at. lone at word) (sym same)
 pieces_append from (first ∷ words) word at e =
     ap (λ rest. record { at = spot.Absolute from; word = spot.Absolute first } ∷ rest) (pieces_append (from + 2) words word at (omega (arith, e)))
 

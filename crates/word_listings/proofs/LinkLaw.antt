@@ -93,16 +93,14 @@ modules_of_words_link at words entry are even below inside = record {
 -- ---- bytes
 
 padded_fit : (bytes : List ℕ) → AllBytes bytes → AreWords (padded_words bytes)
-padded_fit [] all k = omega arith
 padded_fit (byte ∷ []) all zero = let a = all 0 in omega (arith, a)
-padded_fit (byte ∷ []) all (suc k) = omega arith
 padded_fit (more ∷ less ∷ rest) all zero = let a = all 0 in let b = all 1 in omega (arith, a, b)
 padded_fit (more ∷ less ∷ rest) all (suc k) = padded_fit rest (λ k. all (suc (suc k))) k
+padded_fit _ all _ = omega arith
 
 padded_size : (bytes : List ℕ) → 2 * length (padded_words bytes) ≤ length bytes + 1
-padded_size [] = omega arith
-padded_size (byte ∷ []) = omega arith
 padded_size (more ∷ less ∷ rest) = let size = padded_size rest in omega (arith, size)
+padded_size _ = omega arith
 
 -- what is not refused is the module
 taken_module : (far : Option ℕ) (found m : Module) → unless_far far found ≡ Ok m → found ≡ m

@@ -131,16 +131,14 @@ abbrev pub AllBytes : List ℕ → Type 0
 AllBytes bytes = (k : ℕ) → slice_index bytes k < 256
 
 pub are_words : (bytes : List ℕ) → AllBytes bytes → AreWords (words_in bytes)
-are_words [] all k = omega arith
-are_words (byte ∷ []) all k = omega arith
 are_words (more ∷ less ∷ rest) all zero = let a = all 0 in let b = all 1 in omega (arith, a, b)
 are_words (more ∷ less ∷ rest) all (suc k) = are_words rest (λ k. all (suc (suc k))) k
+are_words _ all k = omega arith
 
 -- they take no more bytes
 pub words_fit : (bytes : List ℕ) → 2 * length (words_in bytes) ≤ length bytes
-words_fit [] = omega arith
-words_fit (byte ∷ []) = omega arith
 words_fit (more ∷ less ∷ rest) = let ih = words_fit rest in omega (arith, ih)
+words_fit _ = omega arith
 
 -- the bytes behind the words: none, or one
 data Rest (bytes : List ℕ) : Type 0 where
@@ -209,8 +207,6 @@ module _ (half : ℕ) (bytes : List ℕ) (entered : Option ℕ) (all : AllBytes 
   -- ---- no text has a line feed
 
   clean_from : (most : ℕ) (words : List ℕ) (at : ℕ) → at % 2 ≡ 0 → at + 2 * length words ≤ 65536 → AreWords words → clean (texts_from most at words) ≡ true
-  clean_from zero words at even below are = refl
-  clean_from (suc most) [] at even below are = refl
   clean_from (suc most) (word ∷ words) at even below are =
       let there : at < 65536 = omega (arith, below) in
       let back = words_back at there even word words are in
@@ -219,6 +215,7 @@ module _ (half : ℕ) (bytes : List ℕ) (entered : Option ℕ) (all : AllBytes 
       let within = back.1.within in
       let rest = clean_from most (drop count (word ∷ words)) (at + 2 * count) (omega (arith, even)) (omega (arith, below, left, within)) (drop_words count (word ∷ words) are) in
       rw (back.0.clean, rest) refl
+  clean_from _ _ at even below are = refl
 
   clean_tail : Rest bytes → clean (tail_texts bytes entered) ≡ true
   clean_tail (Even none padded size) = rw (none, (end_line 0 entered is_entry).clean) refl
@@ -239,16 +236,14 @@ module _ (half : ℕ) (bytes : List ℕ) (entered : Option ℕ) (all : AllBytes 
 
 -- the lines of a listing by their texts
 lines_are : (most : ℕ) (words : List ℕ) (at : ℕ) → lines_from most at words ≡ map listing_line (texts_from most at words)
-lines_are zero words at = refl
-lines_are (suc most) [] at = refl
 lines_are (suc most) (word ∷ words) at =
     let front = printed (word ∷ words) at in
     ap (λ rest. listing_line front.text ∷ rest) (lines_are most (drop front.count (word ∷ words)) (at + 2 * front.count))
+lines_are _ _ at = refl
 
 odd_are : (bytes : List ℕ) → odd_byte_lines bytes ≡ map listing_line (odd_texts bytes)
-odd_are [] = refl
-odd_are (byte ∷ []) = refl
 odd_are (more ∷ less ∷ rest) = odd_are rest
+odd_are _ = refl
 
 map_both : (xs ys : List (List ℕ)) → map listing_line xs ++ map listing_line ys ≡ map listing_line (xs ++ ys)
 map_both [] ys = refl
@@ -351,8 +346,6 @@ own_origin at inside = record {
 }
 
 own_words : (most : ℕ) (words : List ℕ) (at : ℕ) → at % 2 ≡ 0 → at + 2 * length words ≤ 65536 → AreWords words → AreOwn (texts_from most at words)
-own_words zero words at even below are = _
-own_words (suc most) [] at even below are = _
 own_words (suc most) (word ∷ words) at even below are =
     let there : at < 65536 = omega (arith, below) in
     let back = words_back at there even word words are in
@@ -362,6 +355,7 @@ own_words (suc most) (word ∷ words) at even below are =
       own_back at _ _ false _ back.0,
       own_words most (drop count (word ∷ words)) (at + 2 * count) (omega (arith, even)) (omega (arith, below, left, within)) (drop_words count (word ∷ words) are),
     )
+own_words _ _ at even below are = _
 
 own_odd : (bytes : List ℕ) → AllBytes bytes → AreOwn (odd_texts bytes)
 own_odd [] all = _
@@ -397,12 +391,9 @@ jump_stays _ next disp e = e
 
 instr_stays : (at : ℕ) (found : Option Instr) → IfSome found HasSignedByte → 254 ≤ at → at + 2 ≤ 65281 → wraps at found ≡ false
 instr_stays at (Some (Jump op disp)) fits from to = jump_stays op (at + 2) disp (stays_in (at + 2) disp fits (omega (arith, from)) to)
-instr_stays at (Some _) fits from to = refl
-instr_stays at None fits from to = refl
+instr_stays at _ fits from to = refl
 
 none_wraps : (most : ℕ) (words : List ℕ) (number at : ℕ) → 254 ≤ at → at + 2 * length words ≤ 65281 → wrapping_from most number at words ≡ None
-none_wraps zero words number at from to = refl
-none_wraps (suc most) [] number at from to = refl
 none_wraps (suc most) (word ∷ words) number at from to =
     let count = (printed (word ∷ words) at).count in
     let rest = drop count (word ∷ words) in
@@ -411,6 +402,7 @@ none_wraps (suc most) (word ∷ words) number at from to =
     ap (λ far. if far then Some number else wrapping_from most (number + 1) (at + 2 * count) rest)
     (instr_stays at (instr_at word) (instr_at-signed word) from (omega (arith, to)))
     ∙ none_wraps most rest (number + 1) (at + 2 * count) (omega (arith, from)) (omega (arith, to, left, within))
+none_wraps _ _ number at from to = refl
 
 pub inner_listings_come_back : InnerListingsComeBack
 inner_listings_come_back at bytes stands from to =

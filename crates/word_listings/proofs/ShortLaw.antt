@@ -1,5 +1,5 @@
 -- How long a listing is.
-use Rattle.std.proofs.Common.{◌≡◌, ℕ, zero, suc, ◌+◌, ◌*◌, ◌%◌, ◌≤◌, List, [], ◌∷◌, ◌++◌, length, length-append, length-drop, drop, refl, arith}
+use Rattle.std.proofs.Common.{◌≡◌, ℕ, suc, ◌+◌, ◌*◌, ◌%◌, ◌≤◌, List, [], ◌∷◌, ◌++◌, length, length-append, length-drop, drop, refl, arith}
 use Rattle.std.specs.Prelude.{codes}
 use Rattle.std.specs.List.{concat}
 use Rattle.source_defs.specs.Digits.{hex_word, word_digits, byte_digits}
@@ -25,8 +25,6 @@ line_size text = let l = length-append text (codes "\n") in omega (arith, l)
 
 lines_short : (most : ℕ) (words : List ℕ) (at : ℕ) → at % 2 ≡ 0 → at + 2 * length words ≤ 65536 → AreWords words
     → length (concat (lines_from most at words)) ≤ 26 * length words
-lines_short zero words at even below are = omega arith
-lines_short (suc most) [] at even below are = omega arith
 lines_short (suc most) (word ∷ words) at even below are =
     let back = words_back at (omega (arith, below)) even word words are in
     let within = back.1.within in
@@ -38,12 +36,12 @@ lines_short (suc most) (word ∷ words) at even below are =
     let rest = lines_short most after (at + 2 * count) (omega (arith, even)) (omega (arith, below, left, within)) (drop_words count (word ∷ words) are) in
     let all = length-append (listing_line (printed (word ∷ words) at).text) (concat (lines_from most (at + 2 * count) after)) in
     omega (arith, left, within, short, size, rest, all)
+lines_short _ _ at even below are = omega arith
 
 odd_short : (bytes : List ℕ) → length (concat (odd_byte_lines bytes)) ≤ 16
 unfolding byte_digits
-odd_short [] = omega arith
-odd_short (byte ∷ []) = omega arith
 odd_short (more ∷ less ∷ rest) = odd_short rest
+odd_short _ = omega arith
 
 first_short : (at : ℕ) → length (listing_line (codes "AORG " ++ hex_word at)) ≡ 18
 unfolding word_digits

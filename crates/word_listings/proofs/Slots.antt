@@ -1,6 +1,6 @@
 -- The operands of a listed instruction, by the forms and the values that the assembler finds in their texts.
 use Rattle.std.proofs.Common.{◌≡◌, ℕ, ◌<◌, ◌≤◌, Bool, true, false, List, ◌∷◌, refl, ap, ◌∙◌, Ok, Option, arith}
-use Rattle.std.specs.Prelude.{Result, Err, eqb}
+use Rattle.std.specs.Prelude.{Result, eqb}
 use Rattle.std.specs.Fmt.{decimal, digits}
 use Rattle.std.proofs.lemmas.Bool.{agree_below, agree_below_at}
 use mathlib.Core.Path.{fun_ext}
@@ -24,7 +24,7 @@ use Rattle.std.proofs.lemmas.List.{get_or_push}
 use Rattle.std.proofs.Math.Seq.{take-append_seam}
 use Rattle.source_defs.specs.Parentheses.{last_place}
 use Rattle.tms_defs.specs.Words.{plus}
-use Rattle.tms_defs.specs.forms.Jump.{jump_target}
+use Rattle.tms_defs.specs.Jumps.{jump_target}
 use Rattle.tms_defs.specs.Instructions.{IsPlace}
 use Rattle.tms_defs.specs.declared.instruction.Place.{Place}
 use Rattle.instruction_defs.specs.declared.causes.FormError.{FormError}
@@ -32,7 +32,7 @@ use Rattle.instruction_defs.specs.declared.operand_kind.OperandKind.{OperandKind
 use Rattle.instruction_defs.specs.declared.operand_kind.OperandKind.TheVariants.{General, Register, Count, Immediate, Target, Displacement}
 use Rattle.instruction_defs.specs.Forms.{Form, Plain, Indirect, Increment, Symbolic, Indexed, form_of, is_plus}
 use Rattle.instruction_defs.specs.Operands.{following_words}
-use Rattle.instruction_defs.specs.FirstChecks.{form_in, following, is_mode_sign}
+use Rattle.instruction_defs.specs.FirstChecks.{form_in, words_after, is_mode_sign}
 use Rattle.instruction_defs.specs.SecondChecks.{Operand, InRegister, ByRegister, AutoIncrement, AtAddress, AtIndexed, Number, Bit, To}
 use Rattle.instruction_defs.specs.SecondChecks.{Following, EncodedOperand, Located, Counted, Displaced, Followed, valued, ranged, displaced}
 use Rattle.instruction_defs.specs.SecondChecks.{displacement_to, is_displacement}
@@ -49,8 +49,7 @@ comes_to _ n = false
 
 is_value : (answer : Result Value ExprError) (n : ℕ) → comes_to answer n ≡ true → answer ≡ Ok (Absolute n)
 is_value (Ok (Absolute m)) n e = ap (λ n. Ok (Absolute n)) (eqb_same m n e)
-is_value (Ok _) n e = cc e
-is_value (Err cause) n e = cc e
+is_value _ n e = cc e
 
 -- a register by its name
 abbrev pub known : List ℕ → Option Value
@@ -106,13 +105,13 @@ pub record SlotBack (here : Value) (kind : OperandKind) (text : List ℕ) (answe
   pub form_is : form_in kind text ≡ Ok form
   pub value_is : valued known here kind form ≡ Ok operand
   pub range_is : ranged here operand ≡ answer
-  pub count_is : following kind form ≡ count
+  pub count_is : words_after kind form ≡ count
   pub short : length text ≤ 5 + 6 * count
   pub of_letters : list_all letter text ≡ true
 
 back : {here : Value} {kind : OperandKind} {text : List ℕ} {answer : Result EncodedOperand FormError} {count : ℕ} (form : Form) (operand : Operand) →
     form_in kind text ≡ Ok form → valued known here kind form ≡ Ok operand → ranged here operand ≡ answer →
-    following kind form ≡ count → length text ≤ 5 + 6 * count → letters text ≡ true → SlotBack here kind text answer count
+    words_after kind form ≡ count → length text ≤ 5 + 6 * count → letters text ≡ true → SlotBack here kind text answer count
 back form operand a b c d e f =
     record { form = form; operand = operand; form_is = a; value_is = b; range_is = c; count_is = d; short = e; of_letters = f }
 
@@ -313,11 +312,7 @@ go_backward next target n e lt =
     rw (ahead, distance, even, near, half) refl
 
 far_by : (bytes most : ℕ) (disp : ℤ) → most < bytes → (if (bytes % 2 == 0) && nat_le bytes most then Some disp else None) ≡ None
-far_by bytes most disp lt = by (bytes % 2 == 0)
-  where
-    by : (b : Bool) → (if b && nat_le bytes most then Some disp else None) ≡ None
-    by false = refl
-    by true = let no : nat_le bytes most ≡ false = grind (arith, nat_tests, lt) in rw no refl
+far_by bytes most disp lt = grind (arith, nat_tests)
 
 not_backward : (next target : ℕ) → target + 256 < next → displacement_to next target ≡ None
 not_backward next target lt =

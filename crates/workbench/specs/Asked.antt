@@ -7,14 +7,14 @@ use Rattle.workbench.specs.declared.command.FileCommand.TheVariants.{AsmFiles, L
 use Rattle.workbench.specs.declared.command.ProgramCommand.{ProgramCommand}
 use Rattle.workbench.specs.declared.command.ProgramCommand.TheVariants.{OverFiles, Plain}
 
-abbrev pub defined_over : FileCommand → spec.FileCommand
-defined_over AsmFiles = spec.AsmFiles
-defined_over (LinkFiles names) = spec.LinkFiles names
-defined_over (Watch limit items) = spec.Watch limit items
+abbrev pub model_of_over : FileCommand → spec.FileCommand
+model_of_over AsmFiles = spec.AsmFiles
+model_of_over (LinkFiles names) = spec.LinkFiles names
+model_of_over (Watch limit items) = spec.Watch limit items
 
-abbrev pub defined_command : ProgramCommand → spec.ProgramCommand
-defined_command (OverFiles command) = spec.OverFiles (defined_over command)
-defined_command (Plain command) = spec.Plain command
+abbrev pub model_of_command : ProgramCommand → spec.ProgramCommand
+model_of_command (OverFiles command) = spec.OverFiles (model_of_over command)
+model_of_command (Plain command) = spec.Plain command
 
 -- a command of `bench` is within its limits
 abbrev pub IsWithin : ProgramCommand → Type 0

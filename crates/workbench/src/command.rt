@@ -1,9 +1,9 @@
 //! Which command the words say, those over files among them.
 
 ghost use Rattle.std.specs.Prelude.{◌≡◌, ◌∷◌, map, option_map, IfSome};
-ghost use Rattle.report_defs.specs.Commands.{same_word};
+ghost use Rattle.source_defs.specs.Names.{same_text};
 ghost use Rattle.report_defs.specs.ProgramCommands as spec;
-ghost use Rattle.workbench.specs.Asked.{defined_command, defined_over, IsWithin};
+ghost use Rattle.workbench.specs.Asked.{model_of_command, model_of_over, IsWithin};
 
 use crate::names::{FileNames, MOST_FILES};
 use bench_shelf::FileName;
@@ -38,7 +38,7 @@ pub(crate) enum ProgramCommand {
 
 /// The command that the words say, or `None` where they are in no shape of one. It takes no memory.
 pub(crate) fn read_program_command(words: &Words) -> Option<ProgramCommand>
-    ensures command { option_map defined_command result ≡ spec.program_command words.now }
+    ensures command { option_map model_of_command result ≡ spec.program_command words.now }
     ensures within { IfSome result IsWithin }
 {
     match words.as_slice() {
@@ -55,7 +55,7 @@ pub(crate) fn read_program_command(words: &Words) -> Option<ProgramCommand>
 
 /// Whether a word is this one.
 fn is_word(word: &Vec<u8>, name: &[u8]) -> bool
-    ensures { result ≡ same_word word.now.items name.now }
+    ensures { result ≡ same_text word.now.items name.now }
 {
     word.as_slice() == name
 }
@@ -63,7 +63,7 @@ fn is_word(word: &Vec<u8>, name: &[u8]) -> bool
 /// `link` with the names that a word and those after it say, where each says one and they are not too many.
 #[tactic(auto, using(crate::proofs::NameLaws::many_names))]
 fn link_command(first: &Vec<u8>, words: &[Vec<u8>]) -> Option<FileCommand>
-    ensures { option_map defined_over result
+    ensures { option_map model_of_over result
         ≡ spec.link_command (first.now.items ∷ map (λ word. word.items) words.now) }
 {
     if words.len() >= MOST_FILES {
@@ -78,7 +78,7 @@ fn link_command(first: &Vec<u8>, words: &[Vec<u8>]) -> Option<FileCommand>
 
 /// `watch` with what the words say.
 fn watch_command(words: &[Vec<u8>]) -> Option<FileCommand>
-    ensures { option_map defined_over result ≡ spec.watch_command (map (λ word. word.items) words.now) }
+    ensures { option_map model_of_over result ≡ spec.watch_command (map (λ word. word.items) words.now) }
 {
     let (limit, items) = watch_words(words)?;
     Some(FileCommand::Watch { limit, items })
@@ -86,7 +86,7 @@ fn watch_command(words: &[Vec<u8>]) -> Option<FileCommand>
 
 /// A command over one input.
 fn input_command(words: &Words) -> Option<ProgramCommand>
-    ensures command { option_map defined_command result ≡ spec.input_command words.now }
+    ensures command { option_map model_of_command result ≡ spec.input_command words.now }
     ensures within { IfSome result IsWithin }
 {
     match read_command(words)? {

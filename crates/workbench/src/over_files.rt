@@ -3,7 +3,7 @@
 ghost use Rattle.bench_shelf.specs.Causes.{CountsGrew};
 ghost use Rattle.reports.specs.Answers.{answer};
 ghost use Rattle.workbench.specs.Answered.{AnswersWith};
-ghost use Rattle.workbench.specs.Asked.{defined_over};
+ghost use Rattle.workbench.specs.Asked.{model_of_over};
 
 use crate::asm::asm;
 use crate::command::FileCommand;
@@ -21,7 +21,7 @@ pub(crate) fn report_over<S: Source, F: Shelf>(
     input: &mut S,
     shelf: &mut F,
 ) -> Result<Report, CommandError>
-    ensures answers { AnswersWith (defined_over command.now)
+    ensures answers { AnswersWith (model_of_over command.now)
         (record { input = S.state input.old; shelf = F.shelf shelf.old })
         (record { input = S.state input.new; shelf = F.shelf shelf.new }) (answer result) }
     ensures later { CountsGrew (F.shelf shelf.old) (F.shelf shelf.new) }

@@ -2,7 +2,7 @@
 
 ghost use Rattle.std.specs.Prelude.{◌≡◌, ◌<◌, ◌≤◌, ℕ, length, None, IfOk};
 ghost use Rattle.console_defs.specs.Runs.{IsRun};
-ghost use Rattle.link_loader.specs.View.{defined_linked};
+ghost use Rattle.link_loader.specs.View.{model_of_linked};
 ghost use Rattle.report_defs.specs.Exec as runs;
 ghost use Rattle.report_defs.specs.Report as spec;
 ghost use Rattle.report_defs.specs.ObjectInput.{linked_input};
@@ -50,7 +50,7 @@ pub fn start_input(alloc: Global, input: &[u8]) -> Result<Machine, CommandError>
 
 /// The report of up to `limit` instructions of linked memory, from its entry on.
 fn execute(alloc: Global, limit: u32, linked: &Linked) -> Result<Report, CommandError>
-    ensures { Reported (spec.ReportsExecution limit (defined_linked linked.now)) WantsMemory (answer result) }
+    ensures { Reported (spec.ReportsExecution limit (model_of_linked linked.now)) WantsMemory (answer result) }
 {
     let mut machine = start(alloc, linked)?;
     let ending = run::<Brand>(&mut machine, u64::from(limit), Blank::new(1));
@@ -59,7 +59,7 @@ fn execute(alloc: Global, limit: u32, linked: &Linked) -> Result<Report, Command
 
 /// A machine at the entry of linked memory.
 fn start(alloc: Global, linked: &Linked) -> Result<Machine, AllocError>
-    ensures { IfOk result (λ machine. runs.IsStart (defined_linked linked.now) machine) }
+    ensures { IfOk result (λ machine. runs.IsStart (model_of_linked linked.now) machine) }
 {
     let image = zeros(alloc, ALL_GROMS)?;
     load_machine(

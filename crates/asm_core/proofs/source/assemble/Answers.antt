@@ -1,4 +1,4 @@
-use Rattle.std.proofs.Common.{◌≡◌, ◌+◌, ℕ, List, [], ◌∷◌, Ok, length, sym, ap, subst, ◌∙◌, arith}
+use Rattle.std.proofs.Common.{◌≡◌, ◌+◌, ℕ, List, [], ◌∷◌, Ok, Err, length, sym, ap, subst, ◌∙◌, arith}
 use Rattle.source_defs.specs.declared.text.Line.{Line as TextLine}
 use Rattle.source_defs.specs.Refusals.{◌>>=◌}
 use Rattle.source_defs.specs.Lines.{LinesLieInside}
@@ -11,7 +11,7 @@ use Rattle.std.proofs.lemmas.Result.{err_from_is_err_and}
 use Rattle.source_defs.specs.Refusals.{Refusal}
 use Rattle.asm_defs.specs.declared.causes.AsmCause.{AsmCause}
 use Rattle.source_defs.specs.Layout.{has_ended}
-use Rattle.asm_core.specs.Building.{IsBehind}
+use Rattle.asm_core.specs.Building.{IsBehind, Takes}
 use Rattle.asm_core.specs.Finishing.{GivesModule}
 use Rattle.asm_core.proofs.ResolveLaws.{refuses_on}
 use Rattle.asm_core.proofs.SourceLaws.{IsNumbered, lines_numbered, texts_of, refused_there, ends_there, goes_on, first_of_two, none_of_two}
@@ -46,7 +46,7 @@ loop-line-preserved c =
     let steps = c.in-Some.ensures.steps in
     let inside : LinesLieInside text (line ∷ next) = subst (LinesLieInside text) steps i.3 in
     let numbered : IsNumbered (length before + 1) (line ∷ next) = subst (IsNumbered (length before + 1)) steps i.4 in
-    let taken = c.in_ok-take.ensures {u = tt} before i.1 in
+    let taken = (rw c.split_line.ensures at (c.in_ok-take.ensures {u = tt} before i.1)) in
     let last = none_of_two taken.0.last (has_ended before) (sym taken.2.ended ∙ c.if-builder.false) in
     let count : length before + 1 + 1 ≡ length (taken.0 ∷ before) + 1 = omega arith in (
       taken.0 ∷ before,
@@ -68,7 +68,8 @@ returns-in_err-take c =
     let numbered : IsNumbered (length before + 1) (line ∷ next) = subst (IsNumbered (length before + 1)) steps i.4 in
     let error = c.in_err-take.field-0.0 in
     let p = err_from_is_err_and c.from_residual.result c.from_residual.ensures.1 in
-    let refused = refused_there text before line next numbered.0 error c.take.new.self (c.in_err-take.ensures {u = tt} before i.1) in
+    let refused = refused_there text before line next numbered.0 error c.take.new.self
+    (subst (λ (own : List ℕ). Takes {A = Unit {0}} before own (Err error) c.take.new.self) c.split_line.ensures (c.in_err-take.ensures {u = tt} before i.1)) in
     rw (p.1, p.2) (refuses_on error (left_from text before (line ∷ next)) _
     (λ refusal e. ap (λ answer. answer >>= module_behind) (sym i.5 ∙ (ap (left_from text before) steps ∙ e)))
     refused)
@@ -88,7 +89,7 @@ returns c =
           let next = c.next.new.self in
           let steps = w.in-Some.ensures.steps in
           let numbered : IsNumbered (length before + 1) (line ∷ next) = subst (IsNumbered (length before + 1)) steps i.4 in
-          let taken = w.in_ok-take.ensures {u = tt} before i.1 in
+          let taken = (rw w.split_line.ensures at (w.in_ok-take.ensures {u = tt} before i.1)) in
           let last =
           first_of_two taken.0.last (has_ended before) (sym taken.2.ended ∙ w.if-builder.true) (sym i.1.ended ∙ i.2) in
           let whole : Ok (taken.0 ∷ before) ≡ laid check (line_texts text) =

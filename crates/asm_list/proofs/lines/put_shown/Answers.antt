@@ -1,13 +1,13 @@
 use Rattle.std.proofs.Common.{◌∷◌, ◌++◌, [], List, ℕ, take, drop, sym, ap, ◌∙◌, append_assoc}
 use Rattle.asm_list_defs.specs.Rows.{first_row, eight_on}
-use Rattle.bench_shelf.specs.Kept.{defined_kept}
+use Rattle.bench_shelf.specs.Kept.{model_of_kept}
 use Rattle.asm_list.specs.Adding.{texts_in, below}
 use Rattle.asm_list.proofs.RowLaws.{line_by}
 use Rattle.asm_list.proofs.lines.put_shown.Goals as goal
 
 pub returns : goal.returns
 returns c =
-    let line = defined_kept c.args.line.now in
+    let line = model_of_kept c.args.line.now in
     let at = c.args.shown.now.at in
     let text = c.args.shown.now.placed.items in
     let before = texts_in c.args.rows.now.items in

@@ -1,7 +1,7 @@
 use Rattle.std.proofs.Common.{◌<◌, [], ◌∷◌, length, Err, ◌∙◌, rules}
 use Rattle.source_defs.specs.Symbols.{look_up}
-use Rattle.asm_text.specs.GivenTokens.{defined_token}
-use Rattle.asm_text.specs.GivenValues.{defined_value}
+use Rattle.asm_text.specs.GivenTokens.{model_of_token}
+use Rattle.asm_text.specs.GivenValues.{model_of_value}
 use Rattle.asm_text.proofs.Inside.{tokens_lie_inside}
 use Rattle.asm_text.proofs.OneToken.{one_token, value_is, refusal_is, yielded}
 use Rattle.asm_text.proofs.expressions.expression_value.Goals as goal
@@ -11,14 +11,14 @@ returns-in-Err c =
     let text = c.args.text.now in
     let some : 0 < length text = search rules in
     yielded (Err c.in-Err.error) _
-    (refusal_is (look_up c.args.symbols.now) (defined_value c.args.here) text some c.in-Err.error c.in-Err.ensures)
+    (refusal_is (look_up c.args.symbols.now) (model_of_value c.args.here) text some c.in-Err.error c.in-Err.ensures)
 
 pub term_value-requires : goal.term_value-requires
 term_value-requires c =
     let text = c.args.text.now in
     let some : 0 < length text = search rules in
     (tokens_lie_inside text (c.in-Ok.first ∷ [])
-    (one_token text (defined_token c.in-Ok.first) some c.in-Ok.ensures c.if-first-text.true)).0
+    (one_token text (model_of_token c.in-Ok.first) some c.in-Ok.ensures c.if-first-text.true)).0
 
 pub returns-then-first-text : goal.returns-then-first-text
 returns-then-first-text c =
@@ -26,5 +26,5 @@ returns-then-first-text c =
     let some : 0 < length text = search rules in
     yielded c.term_value.result _
     (c.term_value.ensures
-    ∙ value_is (look_up c.args.symbols.now) (defined_value c.args.here) text some (defined_token c.in-Ok.first) c.in-Ok.ensures
+    ∙ value_is (look_up c.args.symbols.now) (model_of_value c.args.here) text some (model_of_token c.in-Ok.first) c.in-Ok.ensures
     c.if-first-text.true)

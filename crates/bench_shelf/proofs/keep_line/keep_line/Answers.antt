@@ -1,6 +1,6 @@
 use Rattle.std.proofs.Common.{Some, Vec, Global, refl, sym, ap, subst}
 use Rattle.std.specs.Prelude.{Option, List, ℕ}
-use Rattle.bench_shelf.specs.CopyAnswers.{defined_place, place_in}
+use Rattle.bench_shelf.specs.CopyAnswers.{model_of_place, place_in}
 use Rattle.bench_shelf.specs.Kept.{KeepsLine}
 use Rattle.bench_shelf.specs.declared.kept_line.KeptLine.{KeptLine}
 use Rattle.bench_shelf.proofs.keep_line.keep_line.Goals as goal
@@ -12,6 +12,6 @@ returns-in_ok-push-clause-kept c =
     (record {
       line = _;
       are = c.in_ok-push.ensures.items;
-      is = ap (λ (text : List ℕ). record { place = defined_place place; text = text }) c.in_ok-text.ensures.items;
+      is = ap (λ (text : List ℕ). record { place = model_of_place place; text = text }) c.in_ok-text.ensures.items;
       here = refl;
     })

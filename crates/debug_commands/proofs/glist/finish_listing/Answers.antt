@@ -7,13 +7,13 @@ use Rattle.report_defs.specs.SourceFaults.{gpl_line}
 use Rattle.reports.specs.Outputs.{Outputs, EndsWith}
 use Rattle.gpl_list_defs.specs.Text.{listing_lines}
 use Rattle.gpl_list_defs.specs.Listing.{report_by}
-use Rattle.gpl_list.specs.Listings.{defined_listing, defined_refusal}
+use Rattle.gpl_list.specs.Listings.{model_of_listing, model_of_refusal}
 use Rattle.debug_commands.proofs.Listed.{rows_missed, rows_written, line_told}
 use Rattle.debug_commands.proofs.glist.finish_listing.Goals as goal
 
 pub returns-then-is_err : goal.returns-then-is_err
 returns-then-is_err g c =
-    let listing = defined_listing c.args.listing.now in
+    let listing = model_of_listing c.args.listing.now in
     let o : Outputs = record {
       out = g.O.Sink.state c.args.out.now;
       out' = g.O.Sink.state c.write.new.out;
@@ -25,7 +25,7 @@ returns-then-is_err g c =
 
 pub returns-in-Some : goal.returns-in-Some
 returns-in-Some g c =
-    let listing = defined_listing c.args.listing.now in
+    let listing = model_of_listing c.args.listing.now in
     let lines = listing_lines listing.rows listing.names in
     let o : Outputs = record {
       out = g.O.Sink.state c.args.out.now;
@@ -36,11 +36,11 @@ returns-in-Some g c =
     let wrote = rows_written c.write.result o lines (sym c.is_err.ensures.value ∙ c.if-is_err.false) c.write.ensures in
     let told = rw (c.as_slice.ensures.value, c.gpl_line.ensures) at c.tell.ensures in
     subst (λ (refused : Result Unit (Refusal GplCause)). EndsWith o (report_by lines refused) c.tell.result) c.in-Some.ensures
-    (line_told o lines (gpl_line (defined_refusal c.in-Some.refused)) c.tell.result wrote told)
+    (line_told o lines (gpl_line (model_of_refusal c.in-Some.refused)) c.tell.result wrote told)
 
 pub returns-in-None : goal.returns-in-None
 returns-in-None g c =
-    let listing = defined_listing c.args.listing.now in
+    let listing = model_of_listing c.args.listing.now in
     let lines = listing_lines listing.rows listing.names in
     let o : Outputs = record {
       out = g.O.Sink.state c.args.out.now;

@@ -4,12 +4,12 @@ use Rattle.reports.specs.declared.command_error.CommandError.{CommandError}
 use Rattle.reports.specs.Outputs.{Outputs}
 use Rattle.reports.specs.Answers.{Ends, error_answer}
 use Rattle.gpl_list_defs.specs.Listing.{listing_report}
-use Rattle.gpl_list.specs.Listings.{defined_listing}
+use Rattle.gpl_list.specs.Listings.{model_of_listing}
 use Rattle.debug_commands.proofs.glist.glist.Goals as goal
 
 pub returns-in-Ok : goal.returns-in-Ok
 returns-in-Ok g c =
-    (Ok (listing_report (defined_listing c.in-Ok.listing)), ap listing_report c.in-Ok.ensures, c.finish_listing.ensures)
+    (Ok (listing_report (model_of_listing c.in-Ok.listing)), ap listing_report c.in-Ok.ensures, c.finish_listing.ensures)
 
 pub returns-in-Err : goal.returns-in-Err
 returns-in-Err g c =

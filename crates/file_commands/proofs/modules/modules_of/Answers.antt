@@ -1,7 +1,7 @@
 use Rattle.std.proofs.Common.{◌≡◌, ◌+◌, List, [], ◌∷◌, ◌++◌, take, drop, length, sym, ap, ◌∙◌, arith, length-append}
 use Rattle.std.proofs.lemmas.List.{take_more, drop_more, take-append-drop}
-use Rattle.object_tags.specs.Answers.{defined_modules}
-use Rattle.object_tags.specs.Seen.{defined_module}
+use Rattle.object_tags.specs.Answers.{model_of_modules}
+use Rattle.object_tags.specs.Seen.{model_of_module}
 use Rattle.std.proofs.lemmas.List.{map-append}
 use Rattle.file_commands.specs.declared.file_text.FileText.{FileText}
 use Rattle.reports.specs.Answers.{error_answer}
@@ -28,8 +28,8 @@ loop-text-preserved c =
     take_more texts i text (omega arith) ∙ ap (λ (x : FileText). take i texts ++ x ∷ []) (sym c.text-item.is) in
     let items = c.in_ok-append-in-Ok.ensures.items in
     record {
-      found = modules_next (take i texts) (take (i + 1) texts) text _ (defined_modules c.in-Ok.found.items) _ next
-          (ap defined_modules items ∙ map-append defined_module c.loop-text.modules.items c.in-Ok.found.items)
+      found = modules_next (take i texts) (take (i + 1) texts) text _ (model_of_modules c.in-Ok.found.items) _ next
+          (ap model_of_modules items ∙ map-append model_of_module c.loop-text.modules.items c.in-Ok.found.items)
           c.loop-text.invariant.found c.in-Ok.ensures.is;
       few = omega (
         arith,

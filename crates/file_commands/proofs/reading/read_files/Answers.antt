@@ -4,7 +4,7 @@ use Rattle.shelf_defs.specs.Questions.{Bytes}
 use Rattle.bench_shelf.specs.Causes.{AsksOne}
 use Rattle.bench_shelf.proofs.LoopLaws.{later_then}
 use Rattle.report_defs.specs.Report.{largest_input}
-use Rattle.file_commands.specs.Reading.{defined_texts}
+use Rattle.file_commands.specs.Reading.{model_of_texts}
 use Rattle.file_commands.proofs.ReadingLaws.{names_in, names_more, next_name, memory_ran_out, read_more, reads_kept, reads_stopped, reads_all, causes_since}
 use Rattle.file_commands.proofs.reading.read_files.Goals as goal
 
@@ -30,7 +30,7 @@ returns-in-Err-clause-reads g c =
     let name = c.name-item.result in
     reads_stopped c.loop-name.texts.items _ _ _ c.loop-name.invariant.read names name (drop (i + 1) names)
     (next_name names (names_in c.loop-name.texts.items) i name (omega arith) c.name-item.is c.loop-name.invariant.names)
-    (λ texts. defined_texts texts.items) c.in-Err.error c.in-Err.ensures.missed c.in-Err.ensures.refused
+    (λ texts. model_of_texts texts.items) c.in-Err.error c.in-Err.ensures.missed c.in-Err.ensures.refused
 
 pub returns-in-Err-clause-causes : goal.returns-in-Err-clause-causes
 returns-in-Err-clause-causes g c =
@@ -42,14 +42,14 @@ returns-in_err-push-in-Ok-clause-reads g c =
     let i = c.loop-name.name-index in
     let name = c.name-item.result in
     let bytes = c.in-Ok.bytes.items in
-    memory_ran_out _ _ names (λ texts. defined_texts texts.items) c.from_residual.result c.from_residual.ensures.1
+    memory_ran_out _ _ names (λ texts. model_of_texts texts.items) c.from_residual.result c.from_residual.ensures.1
     (reads_kept c.loop-name.texts.items _ _ _ c.loop-name.invariant.read names name (drop (i + 1) names)
     (next_name names (names_in c.loop-name.texts.items) i name (omega arith) c.name-item.is c.loop-name.invariant.names)
-    (λ texts. defined_texts texts.items) bytes c.in-Ok.ensures.given)
+    (λ texts. model_of_texts texts.items) bytes c.in-Ok.ensures.given)
 
 pub returns-clause-reads : goal.returns-clause-reads
 returns-clause-reads g c =
     let names = c.args.names.now in
     let i = c.loop-name.name-index in
-    reads_all c.loop-name.texts.items _ _ c.loop-name.invariant.read (λ texts. defined_texts texts.items) c.loop-name.texts names refl
+    reads_all c.loop-name.texts.items _ _ c.loop-name.invariant.read (λ texts. model_of_texts texts.items) c.loop-name.texts names refl
     (c.loop-name.invariant.names ∙ take_all i names c.loop-name-test.false)

@@ -47,7 +47,7 @@ returns c =
           let next = c.next.new.self in
           let steps = w.in-Some.ensures.steps in
           let numbered : IsNumbered (length before + 1) (line ∷ next) = subst (IsNumbered (length before + 1)) steps i.4 in
-          let taken = w.in_ok-take.ensures.takes before i.1 in
+          let taken = (rw w.split_line.ensures at (w.in_ok-take.ensures.takes before i.1)) in
           let last = first_of_two taken.0.last (has_ended before) (sym taken.2.ended ∙ w.if-builder.true) (sym i.1.ended ∙ i.2) in
           let whole : Ok (taken.0 ∷ before) ≡ laid check (line_texts text) =
           sym (ends_there check text before line next numbered.0 taken.0 taken.1 last) ∙ (ap (left_from text before) (sym steps) ∙ i.5) in

@@ -8,7 +8,7 @@ use Rattle.gpl_source_defs.specs.FirstChecks.{check}
 use Rattle.gpl_list_defs.specs.Rows as spec
 use Rattle.gpl_list_defs.specs.Listing.{laid_listing, let_through}
 use Rattle.gpl_asm.specs.declared.error.GplError.{GplError}
-use Rattle.gpl_list.specs.Reading.{defined_name, ReadsLines}
+use Rattle.gpl_list.specs.Reading.{model_of_name, ReadsLines}
 use Rattle.gpl_list.proofs.ListingLaws.{unplaced}
 use Rattle.gpl_list.proofs.listing.list_source.Goals as goal
 
@@ -19,7 +19,7 @@ returns-in-Err-At c =
     let r = subst (λ (error : GplError). ReadsLines {A = Unit {0}} texts (Err error) c.read.new.self) c.in-Err-At.field-0-is (c.in-Err-At.ensures {u = tt}) in
     let rows = unplaced texts r.1 c.read.new.self.rows.items r.3.rows
     ∙ ap (λ (answer : Result (List Line) (Refusal GplCause)). spec.rows spec.no_bytes texts (let_through answer)) (sym r.2) in
-    ap (λ (rows : List spec.Row). record { rows = rows; names = map defined_name c.new-in-Err-At.result.items; refused = Err refused }) rows
+    ap (λ (rows : List spec.Row). record { rows = rows; names = map model_of_name c.new-in-Err-At.result.items; refused = Err refused }) rows
     ∙ (ap (λ (names : List spec.NameRow). record { rows = spec.rows spec.no_bytes texts (let_through (laid check (take (c.in-Err-At.line - 1) texts))); names = names; refused = Err refused })
-    (ap (map defined_name) c.new-in-Err-At.ensures.items)
+    (ap (map model_of_name) c.new-in-Err-At.ensures.items)
     ∙ sym (ap (laid_listing texts) r.0))

@@ -5,7 +5,7 @@ use Rattle.gpl_source_defs.specs.Locations.{Line}
 use Rattle.gpl_source_defs.specs.FirstChecks.{names}
 use Rattle.gpl_asm.specs.declared.error.GplError.{GplError}
 use Rattle.gpl_asm.specs.declared.error.GplError.TheVariants.{At}
-use Rattle.gpl_list.specs.Reading.{defined_row, defined_name, Describes, onto}
+use Rattle.gpl_list.specs.Reading.{model_of_row, model_of_name, Describes, onto}
 use Rattle.gpl_list.specs.Settling.{SettlesLines}
 use Rattle.gpl_list.proofs.ListingLaws.{listed_whole, listed_front}
 use Rattle.gpl_list.proofs.listing.settled_listing.Goals as goal
@@ -17,7 +17,7 @@ returns-in-Ok c = λ texts lines keeps.
     let describes = subst (λ (known : Names). Describes texts known [] rest c.args.read.rows.items) (sym same)
     (keeps.rows.2 (names lines) (grown_not (names lines))) in
     let s = rw keeps.rows.1 at (c.in-Ok.ensures {u = tt} texts rest describes) in
-    listed_whole texts lines (map defined_row c.settle_rows.new.settled.items) (map defined_name c.args.read.names.items) c.names.result.now s.0 same s.1 s.2
+    listed_whole texts lines (map model_of_row c.settle_rows.new.settled.items) (map model_of_name c.args.read.names.items) c.names.result.now s.0 same s.1 s.2
     keeps.names
 
 pub returns-in-Err-At : goal.returns-in-Err-At
@@ -30,5 +30,5 @@ returns-in-Err-At c = λ texts lines keeps.
     keeps.rows.1
     (subst (λ (error : GplError). SettlesLines {A = Unit {0}} texts c.names.result.now (onto rest []) (Err error) c.settle_rows.new.settled.items) c.in-Err-At.field-0-is
     (c.in-Err-At.ensures {u = tt} texts rest describes)) in
-    listed_front texts lines (map defined_row c.settle_rows.new.settled.items) (map defined_name c.new.result.items) c.names.result.now
-    (record { line = c.in-Err-At.line; cause = c.in-Err-At.cause }) same s.0 s.1 (ap (map defined_name) c.new.ensures.items)
+    listed_front texts lines (map model_of_row c.settle_rows.new.settled.items) (map model_of_name c.new.result.items) c.names.result.now
+    (record { line = c.in-Err-At.line; cause = c.in-Err-At.cause }) same s.0 s.1 (ap (map model_of_name) c.new.ensures.items)

@@ -4,7 +4,7 @@ use Rattle.console_defs.specs.Machine.{MachineState}
 use Rattle.native_interp.specs.declared.addresses.TheConstants.{GBOOT, WORKSPACE}
 use Rattle.load_defs.specs.Loaded.{IsLoadedMachine}
 use Rattle.interp_defs.specs.Boot.{IsBoot}
-use Rattle.link_loader.specs.View.{defined_linked}
+use Rattle.link_loader.specs.View.{model_of_linked}
 use Rattle.gpl_run.proofs.load.load_interpreter.Goals as goal
 
 -- what holds of each machine holds of one that was made
@@ -14,7 +14,7 @@ where_made P Q (Err error) each p = p
 
 pub returns : goal.returns
 returns c =
-    let linked = defined_linked c.args.interpreter.now in
+    let linked = model_of_linked c.args.interpreter.now in
     let image = c.args.grom.now in
     let entry = c.args.entry in
     where_made (IsLoadedMachine linked image entry WORKSPACE GBOOT) (IsBoot image entry) c.load_machine.result

@@ -1,6 +1,6 @@
 use Rattle.std.proofs.Common.{◌≡◌, sym, arith, ◌∙◌}
 use Rattle.std.proofs.lemmas.Option.{slice_get-get_or}
-use Rattle.gpl_run.specs.Sessions.{seen}
+use Rattle.gpl_run.specs.Sessions.{gpl_state_of}
 use Rattle.gpl_watch.proofs.Kept.{kept_items, keeps, kept_from}
 use Rattle.gpl_watch.proofs.WatchedRuns
 use Rattle.gpl_watch.proofs.run.run_watched.Goals as goal
@@ -46,13 +46,13 @@ returns-in-Some-clause-runs g c =
 
 pub returns-in-Some-clause-items : goal.returns-in-Some-clause-items
 returns-in-Some-clause-items g c =
-    let s = seen c.next.new.self in
-    kept_items _ s _ (c.keep_all.ensures ∙ kept_from _ (seen c.loop-made.session) _ s c.loop-made.invariant.kept)
+    let s = gpl_state_of c.next.new.self in
+    kept_items _ s _ (c.keep_all.ensures ∙ kept_from _ (gpl_state_of c.loop-made.session) _ s c.loop-made.invariant.kept)
 
 pub returns-in-Some-clause-kept : goal.returns-in-Some-clause-kept
 returns-in-Some-clause-kept g c =
-    let s = seen c.next.new.self in
-    keeps _ s _ (c.keep_all.ensures ∙ kept_from _ (seen c.loop-made.session) _ s c.loop-made.invariant.kept)
+    let s = gpl_state_of c.next.new.self in
+    keeps _ s _ (c.keep_all.ensures ∙ kept_from _ (gpl_state_of c.loop-made.session) _ s c.loop-made.invariant.kept)
 
 pub loop-made-preserved : goal.loop-made-preserved
 loop-made-preserved g c =
@@ -74,4 +74,4 @@ pub returns-clause-items : goal.returns-clause-items
 returns-clause-items g c = kept_items _ _ _ c.loop-made.invariant.kept
 
 pub returns-clause-kept : goal.returns-clause-kept
-returns-clause-kept g c = keeps _ (seen c.loop-made.session) _ c.loop-made.invariant.kept
+returns-clause-kept g c = keeps _ (gpl_state_of c.loop-made.session) _ c.loop-made.invariant.kept

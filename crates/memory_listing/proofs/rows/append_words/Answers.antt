@@ -2,13 +2,13 @@ use Rattle.std.proofs.Common.{◌≡◌, suc, ◌+◌, ◌-◌, ◌++◌, [], �
 use Rattle.std.specs.List.{flat_map}
 use Rattle.std.specs.FinMap.{entries}
 use Rattle.report_defs.specs.MemoryListing.{word_text}
-use Rattle.link_loader.specs.View.{defined_linked}
+use Rattle.link_loader.specs.View.{model_of_linked}
 use Rattle.memory_listing.proofs.Progress.{drop_next}
 use Rattle.memory_listing.proofs.rows.append_words.Goals as goal
 
 pub loop-index-preserved : goal.loop-index-preserved
 loop-index-preserved c =
-    let words = entries (defined_linked c.args.linked.now).words in
+    let words = entries (model_of_linked c.args.linked.now).words in
     let i = c.loop-index.index in
     let pair = c.pair-word.result in
     let left : c.args.end - i ≡ suc (c.args.end - (i + 1)) = omega (arith, c.loop-index-test.true) in

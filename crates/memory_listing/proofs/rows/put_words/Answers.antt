@@ -4,7 +4,7 @@ use Rattle.std.proofs.Math.ListN.{drop_of_length-le}
 use Rattle.std.proofs.lemmas.List.{drop_more}
 use Rattle.std.proofs.lemmas.Result.{err_from_is_err_and}
 use Rattle.report_defs.specs.MemoryListing.{following, words_line}
-use Rattle.link_loader.specs.View.{defined_linked}
+use Rattle.link_loader.specs.View.{model_of_linked}
 use Rattle.memory_listing.proofs.Progress.{listed_more, listed_missed, listed_same, listed_all}
 use Rattle.memory_listing.proofs.Followers.{rows_by, rows_are, belongs, ended, row_at}
 use Rattle.memory_listing.proofs.rows.put_words.Goals as goal
@@ -12,14 +12,14 @@ use Rattle.memory_listing.proofs.rows.put_words.Goals.{then-belonging-gt0, else-
 
 pub returns : goal.returns
 returns g c =
-    let words = (defined_linked c.args.linked.now).words in
+    let words = (model_of_linked c.args.linked.now).words in
     let past : length (entries words) ≤ c.loop-index.index = omega (arith, c.loop-index-test.false, c.len-index-end.ensures, len-entries words) in
     rw (rows_are (length (entries words)) (entries words) (omega arith))
     (listed_all _ _ _ (listed_same _ _ _ _ _ (ap (rows_by c.loop-index.belonging) (drop_of_length-le (entries words) past) ∙ ended c.loop-index.belonging) c.loop-index.invariant))
 
 pub returns-in_err-put_chunk : goal.returns-in_err-put_chunk
 returns-in_err-put_chunk g c =
-    let words = entries (defined_linked c.args.linked.now).words in
+    let words = entries (model_of_linked c.args.linked.now).words in
     let i = c.loop-index.index in
     let more = c.following-belonging.result in
     let is : more ≡ following 7 (c.pair-at.result.0 + 2) (drop (i + 1) words) = c.following-belonging.ensures.count ∙ ap (λ at. following 7 (at + 2) (drop (i + 1) words)) c.from.ensures in
@@ -30,7 +30,7 @@ returns-in_err-put_chunk g c =
 
 pub loop-index-preserved : goal.loop-index-preserved
 loop-index-preserved g c =
-    let words = (defined_linked c.args.linked.now).words in
+    let words = (model_of_linked c.args.linked.now).words in
     let i = c.loop-index.index in
     elim c.if-belonging-gt0.branch [
       | then-belonging-gt0 w ↦

@@ -3,13 +3,13 @@ use Rattle.std.specs.List.{flat_map}
 use Rattle.std.specs.FinMap.{entries}
 use Rattle.source_defs.specs.Digits.{hex_word}
 use Rattle.report_defs.specs.MemoryListing.{word_text, words_line}
-use Rattle.link_loader.specs.View.{defined_linked}
+use Rattle.link_loader.specs.View.{model_of_linked}
 use Rattle.memory_listing.proofs.Progress.{drop_next}
 use Rattle.memory_listing.proofs.rows.words_line.Goals as goal
 
 pub returns : goal.returns
 returns c =
-    let words = entries (defined_linked c.args.linked.now).words in
+    let words = entries (model_of_linked c.args.linked.now).words in
     let pair = c.pair-at.result in
     let left : c.args.end - c.args.from ≡ suc (c.args.end - (c.args.from + 1)) = omega (arith, c.requires.some) in
     let row : take (c.args.end - c.args.from) (drop c.args.from words) ≡ pair ∷ take (c.args.end - (c.args.from + 1)) (drop (c.args.from + 1) words) =

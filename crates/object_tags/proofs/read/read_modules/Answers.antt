@@ -6,7 +6,7 @@ use Rattle.object_defs.specs.Modules as defined
 use Rattle.object_defs.specs.Reading.{read, form_of, text_lines}
 use Rattle.object_laws.specs.Running.{kept_lines, finished}
 use Rattle.object_laws.proofs.ReaderRuns.{read_is}
-use Rattle.object_tags.specs.Answers.{Gives, defined_modules}
+use Rattle.object_tags.specs.Answers.{Gives, model_of_modules}
 use Rattle.object_tags.specs.Reads.{kept_of}
 use Rattle.object_tags.proofs.LineSteps.{refuses_same}
 use Rattle.object_tags.proofs.read.read_modules.Goals as goal
@@ -26,5 +26,5 @@ returns c =
     read_is c.args.bytes.now ∙ ap (λ kept. kept_lines (form_of c.args.bytes.now) kept text) (sym c.new-reader.ensures) in
     let same : read c.args.bytes.now ≡ finished (kept_of c.take_text.new.reader) (kept_of c.take_text.new.reader).current =
     begins ∙ c.in_ok-take_text.ensures {u = tt} in
-    subst (λ (all : Result (List defined.Module) (Refusal TagCause)). Gives (λ modules. defined_modules modules.items) c.finish.result all)
+    subst (λ (all : Result (List defined.Module) (Refusal TagCause)). Gives (λ modules. model_of_modules modules.items) c.finish.result all)
     (sym same) c.finish.ensures

@@ -3,8 +3,7 @@ use Rattle.sim_copy.proofs.copy.copy_bytes.Goals as goal
 
 pub copy_rest-requires : goal.copy_rest-requires
 copy_rest-requires g c =
-    let q = c.requires in
-    CopyEnds.at_copy c.start_copy.ensures q.stands q.idle q.fetched q.source q.target q.registers
+    let q = c.requires in CopyEnds.at_copy c.start_copy.ensures q.stands q.idle q.fetched q.source q.target q.registers
 
 pub returns : goal.returns
 returns g c =

@@ -7,12 +7,10 @@ pub leave_copy-requires : goal.leave_copy-requires
 leave_copy-requires g c = CopyEnds.stands_ended c.requires.at c.requires.none_left
 
 pub end_row-requires-clause-idle : goal.end_row-requires-clause-idle
-end_row-requires-clause-idle g c =
-    CopyEnds.idle_ended c.requires.at c.leave_copy.ensures
+end_row-requires-clause-idle g c = CopyEnds.idle_ended c.requires.at c.leave_copy.ensures
 
 pub resume_row-requires-clause-idle : goal.resume_row-requires-clause-idle
-resume_row-requires-clause-idle g c =
-    CopyEnds.idle_ended c.requires.at c.leave_copy.ensures
+resume_row-requires-clause-idle g c = CopyEnds.idle_ended c.requires.at c.leave_copy.ensures
 
 pub returns-then-pc-eq-SHOW : goal.returns-then-pc-eq-SHOW
 returns-then-pc-eq-SHOW g c =

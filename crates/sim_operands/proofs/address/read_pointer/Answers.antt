@@ -4,8 +4,7 @@ use Rattle.sim_operands.proofs.Paths
 use Rattle.sim_operands.proofs.address.read_pointer.Goals as goal
 
 pub returns-clause-exits : goal.returns-clause-exits
-returns-clause-exits g c =
-    piece c.requires (Paths.pointer _ (is_view _ c.requires.machine)) c.run_piece.ensures
+returns-clause-exits g c = piece c.requires (Paths.pointer _ (is_view _ c.requires.machine)) c.run_piece.ensures
 
 pub returns-clause-went : goal.returns-clause-went
 returns-clause-went g c =

@@ -3,7 +3,7 @@ use Rattle.std.proofs.lemmas.Result.{err_from_is_err_and}
 use Rattle.console_defs.specs.Machine.{MachineState}
 use Rattle.bench_io.specs.Written.{Written}
 use Rattle.bench_io.proofs.Writes.{missed_early, written_more}
-use Rattle.gpl_run.specs.Sessions.{seen}
+use Rattle.gpl_run.specs.Sessions.{gpl_state_of}
 use Rattle.report_defs.specs.Dump.{dump_lines}
 use Rattle.report_defs.specs.Program.{state_line, showing}
 use Rattle.trace_dump.proofs.Shown.{showing_seen}
@@ -14,7 +14,7 @@ returns-in_err-put_chunk g c =
     let t = c.args.session.now in
     let missed = rw (c.as_bytes.ensures.value, c.deref.ensures.0, c.state_line.ensures) at c.in_err-put_chunk.ensures in
     let p = err_from_is_err_and c.from_residual.result c.from_residual.ensures.1 in
-    rw p.1 (missed_early _ _ (state_line (seen t) ∷ []) (dump_lines (showing (seen t) t.machine)) missed)
+    rw p.1 (missed_early _ _ (state_line (gpl_state_of t) ∷ []) (dump_lines (showing (gpl_state_of t) t.machine)) missed)
 
 pub returns : goal.returns
 returns g c =
@@ -26,4 +26,4 @@ returns g c =
     (λ (x : MachineState).
     Written c.dump.result (g.O.Sink.state c.put_chunk.new.sink) (g.O.Sink.state c.dump.new.out) (dump_lines x))
     (sym (showing_seen t)) dumped in
-    written_more _ _ _ _ (state_line (seen t) ∷ []) (dump_lines (showing (seen t) t.machine)) wrote shown
+    written_more _ _ _ _ (state_line (gpl_state_of t) ∷ []) (dump_lines (showing (gpl_state_of t) t.machine)) wrote shown

@@ -1,5 +1,5 @@
 use Rattle.reports.specs.Answers.{answer}
-use Rattle.workbench.specs.Asked.{defined_over}
+use Rattle.workbench.specs.Asked.{model_of_over}
 use Rattle.workbench.proofs.Ends.{ends_said, ends_over, ends_plain}
 use Rattle.workbench.proofs.ShelfUse.{takes_of_shelf}
 use Rattle.workbench.proofs.running.bench_with.Goals as goal
@@ -7,7 +7,7 @@ use Rattle.workbench.proofs.running.bench_with.Goals as goal
 pub returns-in-Some-OverFiles-clause-ends : goal.returns-in-Some-OverFiles-clause-ends
 returns-in-Some-OverFiles-clause-ends g c =
     let said = rw c.in-Some-OverFiles.field-0-is at c.in-Some-OverFiles.ensures.command in
-    ends_said _ _ _ _ _ _ said (ends_over (defined_over c.in-Some-OverFiles.command) _ (answer c.report_over.result) _ c.report_over.ensures.answers
+    ends_said _ _ _ _ _ _ said (ends_over (model_of_over c.in-Some-OverFiles.command) _ (answer c.report_over.result) _ c.report_over.ensures.answers
     c.finish.ensures)
 
 pub returns-in-Some-OverFiles-clause-shelf : goal.returns-in-Some-OverFiles-clause-shelf

@@ -5,7 +5,7 @@ use Rattle.std.proofs.lemmas.List.{map-append}
 use Rattle.source_defs.specs.Lines.{part}
 use Rattle.source_defs.specs.Operands.{OperandsLieInside}
 use Rattle.source_defs.specs.Symbols.{look_up}
-use Rattle.asm_forms.specs.Placed.{defined_word, defined_words}
+use Rattle.asm_forms.specs.Placed.{model_of_word, model_of_words}
 use Rattle.asm_defs.specs.SecondChecks.{data_values}
 use Rattle.source_defs.specs.Refusals.{after}
 use Rattle.asm_checks.proofs.Listed.{data_more}
@@ -17,15 +17,15 @@ loop-span-preserved c =
     let look = look_up c.args.self.now.symbols.now in
     let at = c.args.self.now.at in
     let field = c.args.field.now in
-    let front = defined_words c.loop-span.words.items in
+    let front = model_of_words c.loop-span.words.items in
     let ok : is_ok c.push.result ≡ true = c.is_err.ensures.negation ∙ ap not c.if-is_err.false in
     let kept : c.push.new.self.items ≡ c.loop-span.words.items ++ c.in_ok-word.word ∷ [] = rw ok at c.push.ensures.items in
-    let longer : defined_words c.push.new.self.items ≡ front ++ defined_word c.in_ok-word.word ∷ [] =
-    ap defined_words kept ∙ map-append defined_word c.loop-span.words.items (c.in_ok-word.word ∷ []) in
+    let longer : model_of_words c.push.new.self.items ≡ front ++ model_of_word c.in_ok-word.word ∷ [] =
+    ap model_of_words kept ∙ map-append model_of_word c.loop-span.words.items (c.in_ok-word.word ∷ []) in
     let inside : OperandsLieInside field (c.in-Some.span ∷ c.next.new.self) = rw c.in-Some.ensures.steps at i.inside in
     let more =
     data_more look at c.loop-span.place front (part field c.in-Some.span) (map (part field) c.next.new.self)
-    (defined_word c.in_ok-word.word) c.in_ok-word.ensures in
+    (model_of_word c.in_ok-word.word) c.in_ok-word.ensures in
     record {
       inside = inside.1;
       room = omega (arith, ap length c.in-Some.ensures.steps, i.room, ap (λ place. place.number) c.behind-place.ensures);

@@ -4,7 +4,7 @@ use Rattle.std.proofs.lemmas.List.{length-replicate}
 use Rattle.asm_defs.specs.declared.content.Content.TheVariants.{Byte}
 use Rattle.asm_defs.specs.SecondChecks.{Bytes}
 use Rattle.asm_defs.specs.Growing.{declared_size}
-use Rattle.asm_checks.specs.Defined.{defined_statement}
+use Rattle.asm_checks.specs.Defined.{model_of_statement}
 use Rattle.asm_core.proofs.AssembleLaws.{gives}
 use Rattle.asm_core.proofs.first_pass.FirstPass.zeros.Goals as goal
 
@@ -18,7 +18,7 @@ if_ok (Err error) holds each = tt
 
 pub returns : goal.returns
 returns c =
-    let size = declared_size (defined_statement c.args.parsed.now.statement) in
+    let size = declared_size (model_of_statement c.args.parsed.now.statement) in
     let within : c.args.self.now.at.number + length (replicate {A = ℕ} size 0) ≤ 65536 = omega (arith, length-replicate {A = ℕ} size 0, c.requires.fits) in
     if_ok c.vec.result c.vec.ensures.items_if_clones_equal
     (λ zeros is.

@@ -1,7 +1,7 @@
 use Rattle.std.proofs.Common.{ℕ, [], List, subst}
 use Rattle.std.specs.Prelude.{map}
 use Rattle.std.proofs.lemmas.Result.{err_from_is_err_and}
-use Rattle.object_tags.specs.Seen.{defined_module}
+use Rattle.object_tags.specs.Seen.{model_of_module}
 use Rattle.asm_defs.specs.FirstChecks.{refs}
 use Rattle.asm_defs.specs.Modules.{unused}
 use Rattle.asm_core.specs.Resolving.{IsOutput}
@@ -30,5 +30,5 @@ returns-clause-gives c = λ lines is.
     c.in_default.is
     (λ founds image. subst (λ (names : List (List ℕ)). IsOutput (map unused names) [] founds c.in_ok-output.output) is.refs
     (c.in_ok-output.ensures.output founds image))
-    (defined_module c.in_ok-module.module)
+    (model_of_module c.in_ok-module.module)
     (λ settled knows. c.in_ok-module.ensures lines settled (record { names = knows.names; reached = knows.reached; title = knows.title; defs = knows.defs }))

@@ -1,7 +1,7 @@
 use Rattle.std.proofs.Common.{◌≡◌, ◌++◌, ℕ, refl, ap, ◌∙◌}
 use Rattle.std.specs.Prelude.{map, Option}
 use Rattle.source_defs.specs.Symbols.{Names}
-use Rattle.object_tags.specs.Seen.{defined_ref, defined_def}
+use Rattle.object_tags.specs.Seen.{model_of_ref, model_of_def}
 use Rattle.asm_defs.specs.declared.content.Content.{Content}
 use Rattle.asm_defs.specs.declared.location.Part.{Part}
 use Rattle.asm_defs.specs.declared.location.Part.TheVariants as part
@@ -26,9 +26,9 @@ returns c = λ lines settled is output.
     c.in_ok-pieces.ensures
     ∙ (ap (λ pieces. pieces ++ pieces_in (cell image.absolute.cells.items) part.Absolute) relocatable
     ∙ ap (λ pieces. pieces_in (content_at references settled part.Relocatable) part.Relocatable ++ pieces) absolute) in
-    let listed : map defined_def c.in_ok-defs.field-0 ≡ map (definition_in (names lines)) (defs lines) =
+    let listed : map model_of_def c.in_ok-defs.field-0 ≡ map (definition_in (names lines)) (defs lines) =
     c.in_ok-defs.ensures
     ∙ (ap (map (definition_in c.args.self.now.symbols)) (c.as_slice.ensures.value ∙ is.defs)
     ∙ ap (λ (known : Names). map (definition_in known) (defs lines)) is.names) in
-    let last = c.in_ok-refs.ensures ∙ (ap (map defined_ref) c.as_slice-2.ensures.value ∙ output.bytes.references) in
+    let last = c.in_ok-refs.ensures ∙ (ap (map model_of_ref) c.as_slice-2.ensures.value ∙ output.bytes.references) in
     rw (is.title, is.reached, pieces, listed, last, output.entry) refl

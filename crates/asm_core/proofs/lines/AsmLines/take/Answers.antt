@@ -8,7 +8,7 @@ use Rattle.asm_defs.specs.FirstChecks as spec
 use Rattle.asm_defs.specs.FirstChecks.{EarlierLines, known_of, line_of, location_behind, defs_in, refs_in, is_end}
 use Rattle.asm_defs.specs.Modules.{title_by}
 use Rattle.asm_defs.proofs.CheckLaws.{checked_within, checked_titled, checked_said}
-use Rattle.asm_checks.specs.Checks.{defined_checked, checked_as_new}
+use Rattle.asm_checks.specs.Checks.{model_of_checked, checked_as_new}
 use Rattle.asm_checks.proofs.Labels.{checked_new, checked_known, has_room}
 use Rattle.asm_core.specs.Building.{Takes}
 use Rattle.asm_core.specs.declared.error.AsmError.{AsmError}
@@ -22,75 +22,75 @@ use Rattle.asm_core.proofs.lines.AsmLines.take.Goals as goal
 
 pub returns-in_err-count : goal.returns-in_err-count
 returns-in_err-count c = λ lines is.
-    takes_none lines c.args.text.now c.from_residual.result c.count.new.self c.from_residual.ensures.1
+    takes_none lines c.args.line.now.text.now c.from_residual.result c.count.new.self c.from_residual.ensures.1
     (still_behind lines c.args.self.now c.count.new.self c.in_err-count.ensures.unchanged c.in_err-count.ensures.still is)
 
-pub returns-then-is_comment_line : goal.returns-then-is_comment_line
-returns-then-is_comment_line c = λ lines is.
-    counted lines c.args.text.now c.args.self.now c.count.new.self (c.is_comment_line.ensures.fields c.if-is_comment_line.true)
+pub returns-then-is_comment : goal.returns-then-is_comment
+returns-then-is_comment c = λ lines is.
+    counted lines c.args.line.now.text.now c.args.self.now c.count.new.self (c.is_comment.ensures.0 c.if-is_comment.true)
     c.in_ok-count.ensures.counted is {A = Unit {0}} tt
 
 pub work-requires-clause-room : goal.work-requires-clause-room
 work-requires-clause-room c =
-    let found = defined_checked c.in-Ok.checked in
-    let is : checked_as_new (known_in c.args.self.now) c.args.text.now ≡ Ok found =
-    ap (λ (before : EarlierLines). checked_as_new before c.args.text.now) (sym c.known.ensures.known) ∙ c.in-Ok.ensures.checked in
+    let found = model_of_checked c.in-Ok.checked in
+    let is : checked_as_new (known_in c.args.self.now) c.args.line.now.text.now ≡ Ok found =
+    ap (λ (before : EarlierLines). checked_as_new before c.args.line.now.text.now) (sym c.known.ensures.known) ∙ c.in-Ok.ensures.checked in
     record {
-      room = held.has_room (known_in c.args.self.now) c.args.text.now found c.args.self.now.placed is;
-      fits = omega (arith, has_room (known_in c.args.self.now) c.args.text.now found is c.args.self.now.placed);
+      room = held.has_room (known_in c.args.self.now) c.args.line.now.text.now found c.args.self.now.placed is;
+      fits = omega (arith, has_room (known_in c.args.self.now) c.args.line.now.text.now found is c.args.self.now.placed);
     }
 
 pub returns : goal.returns
 returns c = λ lines is.
-    let is_new : checked_as_new (known_in c.args.self.now) c.args.text.now ≡ Ok (defined_checked c.in-Ok.checked) =
-    ap (λ (before : EarlierLines). checked_as_new before c.args.text.now) (sym c.known.ensures.known) ∙ c.in-Ok.ensures.checked in
+    let is_new : checked_as_new (known_in c.args.self.now) c.args.line.now.text.now ≡ Ok (model_of_checked c.in-Ok.checked) =
+    ap (λ (before : EarlierLines). checked_as_new before c.args.line.now.text.now) (sym c.known.ensures.known) ∙ c.in-Ok.ensures.checked in
     let behind = still_behind lines c.args.self.now c.work.new.self c.in-Err-work.ensures.unchanged c.work.ensures.still is in
-    let failed = takes_failed (Unit {0}) lines c.args.text.now c.args.self.now.symbols c.in-Ok.checked.parsed.label c.in-Err-work.failure c.work.new.self
+    let failed = takes_failed (Unit {0}) lines c.args.line.now.text.now c.args.self.now.symbols c.in-Ok.checked.parsed.label c.in-Err-work.failure c.work.new.self
     c.in-Err-work.ensures.known
     (λ known.
     ap (λ answer. answer >>= λ found. Ok (line_of (length lines + 1) found))
-    (ap (λ (before : EarlierLines). spec.checked before c.args.text.now) (sym (known_same lines c.args.self.now is))
-    ∙ checked_known (known_in c.args.self.now) c.args.text.now (defined_checked c.in-Ok.checked) is_new known))
+    (ap (λ (before : EarlierLines). spec.checked before c.args.line.now.text.now) (sym (known_same lines c.args.self.now is))
+    ∙ checked_known (known_in c.args.self.now) c.args.line.now.text.now (model_of_checked c.in-Ok.checked) is_new known))
     behind.taken behind in
-    subst (λ (error : AsmError). Takes {A = Unit {0}} lines c.args.text.now (Err error) c.work.new.self) (sym c.refusal-in-Err-work.ensures) failed
+    subst (λ (error : AsmError). Takes {A = Unit {0}} lines c.args.line.now.text.now (Err error) c.work.new.self) (sym c.refusal-in-Err-work.ensures) failed
 
 pub advance-requires-clause-place : goal.advance-requires-clause-place
 advance-requires-clause-place c =
-    let found = defined_checked c.in-Ok.checked in
-    let is_new : checked_as_new (known_in c.args.self.now) c.args.text.now ≡ Ok (defined_checked c.in-Ok.checked) =
-    ap (λ (before : EarlierLines). checked_as_new before c.args.text.now) (sym c.known.ensures.known) ∙ c.in-Ok.ensures.checked in
-    let known : spec.checked (known_in c.args.self.now) c.args.text.now ≡ Ok found =
-    checked_new (known_in c.args.self.now) c.args.text.now (defined_checked c.in-Ok.checked) is_new c.in-Ok-work.ensures.fresh in
+    let found = model_of_checked c.in-Ok.checked in
+    let is_new : checked_as_new (known_in c.args.self.now) c.args.line.now.text.now ≡ Ok (model_of_checked c.in-Ok.checked) =
+    ap (λ (before : EarlierLines). checked_as_new before c.args.line.now.text.now) (sym c.known.ensures.known) ∙ c.in-Ok.ensures.checked in
+    let known : spec.checked (known_in c.args.self.now) c.args.line.now.text.now ≡ Ok found =
+    checked_new (known_in c.args.self.now) c.args.line.now.text.now (model_of_checked c.in-Ok.checked) is_new c.in-Ok-work.ensures.fresh in
     subst (λ (from : Location). is_in_part (location_behind from found.move) ≡ true) (sym c.work.ensures.still.location)
-    (checked_within (known_in c.args.self.now) c.args.text.now found known)
+    (checked_within (known_in c.args.self.now) c.args.line.now.text.now found known)
 
 pub advance-requires-clause-titled : goal.advance-requires-clause-titled
 advance-requires-clause-titled c =
-    let found = defined_checked c.in-Ok.checked in
-    let is_new : checked_as_new (known_in c.args.self.now) c.args.text.now ≡ Ok (defined_checked c.in-Ok.checked) =
-    ap (λ (before : EarlierLines). checked_as_new before c.args.text.now) (sym c.known.ensures.known) ∙ c.in-Ok.ensures.checked in
-    let known : spec.checked (known_in c.args.self.now) c.args.text.now ≡ Ok found =
-    checked_new (known_in c.args.self.now) c.args.text.now (defined_checked c.in-Ok.checked) is_new c.in-Ok-work.ensures.fresh in
-    checked_titled (known_in c.args.self.now) c.args.text.now found known
+    let found = model_of_checked c.in-Ok.checked in
+    let is_new : checked_as_new (known_in c.args.self.now) c.args.line.now.text.now ≡ Ok (model_of_checked c.in-Ok.checked) =
+    ap (λ (before : EarlierLines). checked_as_new before c.args.line.now.text.now) (sym c.known.ensures.known) ∙ c.in-Ok.ensures.checked in
+    let known : spec.checked (known_in c.args.self.now) c.args.line.now.text.now ≡ Ok found =
+    checked_new (known_in c.args.self.now) c.args.line.now.text.now (model_of_checked c.in-Ok.checked) is_new c.in-Ok-work.ensures.fresh in
+    checked_titled (known_in c.args.self.now) c.args.line.now.text.now found known
 
 pub returns-in-Ok-work : goal.returns-in-Ok-work
 returns-in-Ok-work c = λ lines is.
-    let found = defined_checked c.in-Ok.checked in
+    let found = model_of_checked c.in-Ok.checked in
     let number = length lines + 1 in
     let next_line : Line = line_of number found in
-    let is_new : checked_as_new (known_in c.args.self.now) c.args.text.now ≡ Ok (defined_checked c.in-Ok.checked) =
-    ap (λ (before : EarlierLines). checked_as_new before c.args.text.now) (sym c.known.ensures.known) ∙ c.in-Ok.ensures.checked in
-    let known : spec.checked (known_in c.args.self.now) c.args.text.now ≡ Ok found =
-    checked_new (known_in c.args.self.now) c.args.text.now (defined_checked c.in-Ok.checked) is_new c.in-Ok-work.ensures.fresh in
-    let checked : spec.checked (known_of lines) c.args.text.now ≡ Ok found =
-    ap (λ (before : EarlierLines). spec.checked before c.args.text.now) (sym (known_same lines c.args.self.now is)) ∙ known in
+    let is_new : checked_as_new (known_in c.args.self.now) c.args.line.now.text.now ≡ Ok (model_of_checked c.in-Ok.checked) =
+    ap (λ (before : EarlierLines). checked_as_new before c.args.line.now.text.now) (sym c.known.ensures.known) ∙ c.in-Ok.ensures.checked in
+    let known : spec.checked (known_in c.args.self.now) c.args.line.now.text.now ≡ Ok found =
+    checked_new (known_in c.args.self.now) c.args.line.now.text.now (model_of_checked c.in-Ok.checked) is_new c.in-Ok-work.ensures.fresh in
+    let checked : spec.checked (known_of lines) c.args.line.now.text.now ≡ Ok found =
+    ap (λ (before : EarlierLines). spec.checked before c.args.line.now.text.now) (sym (known_same lines c.args.self.now is)) ∙ known in
     let added = c.in-Ok-work.ensures.added in
     let still = c.work.ensures.still in
     let went = c.advance.ensures in
-    let next : IsNext c.args.self.now c.args.text.now c.in-Ok.checked lines next_line = record {
+    let next : IsNext c.args.self.now c.args.line.now.text.now c.in-Ok.checked lines next_line = record {
       at = ap (λ (from : Location). behind from found.move.gap) is.location;
       number = ap (λ taken. taken + 1) is.taken;
-      parsed = checked_said (known_of lines) c.args.text.now found checked;
+      parsed = checked_said (known_of lines) c.args.line.now.text.now found checked;
       statement = refl;
     } in
     let place : c.advance.new.self.location ≡ location (next_line ∷ lines) =

@@ -1,5 +1,5 @@
 use Rattle.std.proofs.Common.{◌+◌, sym, subst, ◌∙◌}
-use Rattle.asm_checks.specs.Defined.{defined_statement}
+use Rattle.asm_checks.specs.Defined.{model_of_statement}
 use Rattle.asm_defs.specs.declared.location.Location.{Location}
 use Rattle.asm_core.specs.Assembling.{AssemblesBy}
 use Rattle.asm_core.specs.Emitting.{Emits}
@@ -32,7 +32,7 @@ returns-clause-added c =
     c.in_ok-waiting.field-0.waiting c.in_ok-waiting.field-0.emitted c.behind-at.result
     (sym c.is_some.ensures ∙ c.if-is_some.false) c.prepare.ensures.lines c.prepare.ensures.image c.behind-at.ensures
     (subst (λ (at : Location). AssemblesBy c.prepare.new.self.symbols (c.prepare.new.self.taken + 1) at c.args.text.now
-    (defined_statement c.args.checked.now.parsed.statement) c.in_ok-waiting.field-0.waiting c.in_ok-waiting.field-0.emitted)
+    (model_of_statement c.args.checked.now.parsed.statement) c.in_ok-waiting.field-0.waiting c.in_ok-waiting.field-0.emitted)
     (sym c.behind-at.ensures) c.in_ok-waiting.ensures)
     c.in_ok-keep.ensures.kept c.keep-2.ensures.work c.keep-2.ensures.still c.emit.ensures.known
     (subst (λ waits. Emits c.keep-2.new.self c.behind-at.result c.in_ok-waiting.field-0.emitted waits c.emit.new.self) c.is_some-waits.ensures

@@ -3,7 +3,7 @@ use Rattle.std.specs.Prelude.{IsSome}
 use Rattle.std.specs.FinMap.{get, insert}
 use Rattle.std.specs.Option.{option_map}
 use Rattle.source_defs.specs.Symbols.{Names}
-use Rattle.asm_text.specs.GivenValues.{defined_value}
+use Rattle.asm_text.specs.GivenValues.{model_of_value}
 use Rattle.asm_text.proofs.Names.{define_kept, kept_same, get_free, register_some, register_none, some_seen, seen_some, on_ok, on_err}
 use Rattle.asm_text.proofs.symbols.Symbols.define.Goals as goal
 
@@ -23,8 +23,8 @@ returns-clause-defined c =
     register_none c.register_number.result name (rw c.as_bytes.ensures.value at c.register_number.ensures) (sym c.is_some.ensures ∙ c.if-is_some.false) in
     on_ok c.insert_new.result c.insert_new.ensures.kept c.insert_new.ensures.fresh
     (λ updates fresh.
-    define_kept kept c.insert_new.new.kept name c.args.value updates (get_free kept name none ∙ ap (option_map defined_value) fresh)
-    ∙ ap (λ (names : Names). insert names name (defined_value c.args.value)) c.self.view_is)
+    define_kept kept c.insert_new.new.kept name c.args.value updates (get_free kept name none ∙ ap (option_map model_of_value) fresh)
+    ∙ ap (λ (names : Names). insert names name (model_of_value c.args.value)) c.self.view_is)
 
 pub returns-clause-duplicate : goal.returns-clause-duplicate
 returns-clause-duplicate c =

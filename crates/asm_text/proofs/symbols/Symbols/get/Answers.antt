@@ -4,7 +4,7 @@ use Rattle.std.specs.FinMap.{get}
 use Rattle.source_defs.specs.Expression.{Absolute}
 use Rattle.source_defs.specs.Symbols.{registers}
 use Rattle.source_defs.proofs.SymbolLaws.{found}
-use Rattle.asm_text.specs.GivenValues.{defined_value}
+use Rattle.asm_text.specs.GivenValues.{model_of_value}
 use Rattle.asm_text.proofs.Names.{get_kept}
 use Rattle.asm_text.proofs.symbols.Symbols.get.Goals as goal
 
@@ -23,4 +23,4 @@ returns-in-None c =
     let kept =
     ap (λ names. get names name) (sym c.self.view_is) ∙ get_kept c.self.inside.defined.entries name in
     let register : found name registers ≡ None = sym (rw c.as_bytes.ensures.value at c.in-None.ensures) in
-    ap (option_map defined_value) (c.copied.ensures ∙ c.get.ensures.value) ∙ sym (rw register at kept)
+    ap (option_map model_of_value) (c.copied.ensures ∙ c.get.ensures.value) ∙ sym (rw register at kept)

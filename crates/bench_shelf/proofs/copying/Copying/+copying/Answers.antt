@@ -6,7 +6,7 @@ use Rattle.shelf_defs.specs.CopyLines.{File, Bad}
 use Rattle.shelf_defs.specs.Copied as spec
 use Rattle.shelf_defs.specs.Copied.{most_bytes}
 use Rattle.bench_shelf.specs.declared.copy_error.CopyCause.TheVariants as cause
-use Rattle.bench_shelf.specs.CopyAnswers.{defined_place}
+use Rattle.bench_shelf.specs.CopyAnswers.{model_of_place}
 use Rattle.bench_shelf.proofs.CountLaws.{file_room}
 use Rattle.bench_shelf.proofs.FileLaws.{refuses_none, deep_copies, many_copies, copies_unread, copies_read}
 use Rattle.bench_shelf.proofs.SinceLaws.{causes_unread, causes_since, each_since}
@@ -17,22 +17,22 @@ use Rattle.bench_shelf.proofs.copying.Copying.+copying.Goals as goal
 
 pub copy_asked-returns-in-Ok-clause-copies : goal.copy_asked-returns-in-Ok-clause-copies
 copy_asked-returns-in-Ok-clause-copies g t c =
-    own_copies c.args.levels _ c.args.self.now c.take.new.self (defined_place c.args.place) c.args.text.now None (sym c.in-Itself.ensures) c.take.ensures.copies tt
+    own_copies c.args.levels _ c.args.self.now c.take.new.self (model_of_place c.args.place) c.args.line.now.text.now None (sym c.in-Itself.ensures) c.take.ensures.copies tt
     c.in-Ok.ensures.leads
 
 pub copy_asked-returns-in-Err-clause-copies : goal.copy_asked-returns-in-Err-clause-copies
 copy_asked-returns-in-Err-clause-copies g t c =
-    own_refuses c.args.levels _ c.args.self.now c.take.new.self (defined_place c.args.place) c.args.text.now c.args.place c.in-Err.failure c.failed.result
+    own_refuses c.args.levels _ c.args.self.now c.take.new.self (model_of_place c.args.place) c.args.line.now.text.now c.args.place c.in-Err.failure c.failed.result
     (sym c.failed.ensures) (sym c.in-Itself.ensures) c.take.ensures.copies c.in-Err.ensures.leads
 
 pub copy_asked-returns-in-File-clause-copies : goal.copy_asked-returns-in-File-clause-copies
 copy_asked-returns-in-File-clause-copies g t c =
-    asked_copies c.args.levels _ _ c.args.self.now c.copy_file.new.self (defined_place c.args.place) c.args.text.now (File c.in-File.name) _ c.in-File.ensures
+    asked_copies c.args.levels _ _ c.args.self.now c.copy_file.new.self (model_of_place c.args.place) c.args.line.now.text.now (File c.in-File.name) _ c.in-File.ensures
     c.copy_file.ensures.copies
 
 pub copy_asked-returns-in-Bad-clause-copies : goal.copy_asked-returns-in-Bad-clause-copies
 copy_asked-returns-in-Bad-clause-copies g t c =
-    asked_copies c.args.levels _ _ c.args.self.now c.args.self.now (defined_place c.args.place) c.args.text.now Bad _ c.in-Bad.ensures
+    asked_copies c.args.levels _ _ c.args.self.now c.args.self.now (model_of_place c.args.place) c.args.line.now.text.now Bad _ c.in-Bad.ensures
     (refuses_none c.args.self.now _ c.args.place spec.BadCopy cause.BadCopy c.refused.result _ refl tt c.refused.ensures (λ contents. refl))
 
 pub copy_file-returns-then-levels-eq0-clause-copies : goal.copy_file-returns-then-levels-eq0-clause-copies
@@ -95,7 +95,7 @@ copy_lines-returns-clause-grows g t c = counts_grow _ _ _ _ c.loop-line.invarian
 -- a line of a file is refused
 pub copy_lines-returns-in-Err-clause-copies : goal.copy_lines-returns-in-Err-clause-copies
 copy_lines-returns-in-Err-clause-copies g t c =
-    follows_refused c.loop-line.invariant.follows (first_text c.args.text.now c.in-Some.ensures.steps c.part-own.ensures) c.in-Err.error
+    follows_refused c.loop-line.invariant.follows (first_text c.args.text.now c.in-Some.ensures.steps (c.split_line-own.ensures ∙ c.part.ensures)) c.in-Err.error
     (rw c.place_in.ensures at c.in-Err.ensures.copies)
 
 pub copy_lines-returns-in-Err-clause-causes : goal.copy_lines-returns-in-Err-clause-causes
@@ -105,7 +105,7 @@ copy_lines-returns-in-Err-clause-causes g t c =
 -- or it was taken
 pub copy_lines-returns-then-is_ended-clause-copies : goal.copy_lines-returns-then-is_ended-clause-copies
 copy_lines-returns-then-is_ended-clause-copies g t c =
-    follows_end c.loop-line.invariant.follows (first_text c.args.text.now c.in-Some.ensures.steps c.part-own.ensures)
+    follows_end c.loop-line.invariant.follows (first_text c.args.text.now c.in-Some.ensures.steps (c.split_line-own.ensures ∙ c.part.ensures))
     (λ going. (cc (c.is_ended.ensures.open.1 going, c.if-is_ended.true))) (rw c.place_in.ensures at c.in-Ok.ensures.copies)
 
 pub copy_lines-returns-then-is_ended-clause-grows : goal.copy_lines-returns-then-is_ended-clause-grows
@@ -128,7 +128,7 @@ copy_lines-loop-line-preserved g t c =
       same = c.copy_asked.ensures.same ∙ i.same;
       counts = counts_more _ _ _ _ _ _ _ i.counts c.in-Some.ensures.steps c.in-Ok.ensures.grows;
       inside = inside.1;
-      follows = follows_more i.follows (first_text text c.in-Some.ensures.steps c.part-own.ensures) going (rw c.place_in.ensures at c.in-Ok.ensures.copies);
+      follows = follows_more i.follows (first_text text c.in-Some.ensures.steps (c.split_line-own.ensures ∙ c.part.ensures)) going (rw c.place_in.ensures at c.in-Ok.ensures.copies);
       within = within_then most_bytes (state c.args.shelf.now) (state c.loop-line.shelf) (state c.copy_asked.new.shelf) i.within c.in-Ok.ensures.within;
     }
 

@@ -1,7 +1,7 @@
 use Rattle.std.proofs.Common.{◌≡◌, [], ap, ◌∙◌}
 use Rattle.std.specs.Prelude.{map}
 use Rattle.asm_list_defs.specs.Listed.{heres}
-use Rattle.bench_shelf.specs.Kept.{defined_kept}
+use Rattle.bench_shelf.specs.Kept.{model_of_kept}
 use Rattle.bench_shelf.proofs.copying.Copying.keeping.Goals as goal
 
 pub returns-clause-none : goal.returns-clause-none
@@ -12,7 +12,7 @@ returns-clause-none c =
       taken = holds.taken;
       places = holds.places;
       kept = record {
-        are = ap (map defined_kept) c.new.ensures.items;
+        are = ap (map model_of_kept) c.new.ensures.items;
         heres = ap (map (λ line. line.here)) c.new.ensures.items ∙ ap heres none;
       };
     }

@@ -1,5 +1,5 @@
 use Rattle.std.proofs.Common.{ap, ◌∙◌, subst}
-use Rattle.object_tags.specs.Seen.{defined_module}
+use Rattle.object_tags.specs.Seen.{model_of_module}
 use Rattle.asm_defs.specs.Modules.{module_of_lines}
 use Rattle.asm_core.specs.Finishing.{GivesModule}
 use Rattle.shelf_defs.specs.Assembly.{texts}
@@ -15,7 +15,7 @@ returns-in-Ok c = record {
         subst (IsKept done holds.taken.lines) c.unwrap-lines.ensures holds.kept,
         (
           c.finish_with_names-module.ensures.names (texts done) holds.taken,
-          all_settled done c.args.self.builder holds.taken (defined_module c.in-Ok.field-0)
+          all_settled done c.args.self.builder holds.taken (model_of_module c.in-Ok.field-0)
               (subst (λ answer. GivesModule answer (module_of_lines (texts done))) c.in-Ok.is gives),
         ),
       );

@@ -3,6 +3,7 @@ use Rattle.std.specs.Prelude.{Option}
 use Rattle.source_defs.specs.Refusals.{◌>>=◌}
 use Rattle.source_defs.specs.Fields.{no_fields}
 use Rattle.source_defs.specs.Symbols.{Names, look_up}
+use Rattle.source_defs.proofs.FieldLaws.{fields_stand_apart}
 use Rattle.source_defs.specs.Layout.{with_names}
 use Rattle.gpl_source_defs.specs.declared.location.Location.{Location}
 use Rattle.source_defs.specs.Growing.{Grows}
@@ -10,49 +11,43 @@ use Rattle.gpl_source_defs.specs.Locations.{location, behind, origin_of}
 use Rattle.source_defs.specs.Layout.{set_or}
 use Rattle.gpl_source_defs.specs.FirstChecks.{checked, line_of, names, label_entry, label_value, is_taken, is_full, is_end}
 use Rattle.gpl_source_defs.specs.SecondChecks.{outcome}
-use Rattle.gpl_lines.specs.Defined.{defined_checked}
+use Rattle.gpl_lines.specs.Defined.{model_of_checked}
 use Rattle.gpl_source_defs.proofs.CheckLaws.{is_let_through}
 use Rattle.gpl_asm.specs.Replay.{answer}
 use Rattle.gpl_asm.proofs.LineLaws.{place_is}
 use Rattle.gpl_asm.proofs.CountLaws.{counted}
-use Rattle.gpl_asm.proofs.Short.{fields_short, said_short}
 use Rattle.gpl_asm.proofs.TakeLaws.{leads_on, reaches, is_behind}
 use Rattle.gpl_asm.proofs.lines.GplLines.take.Goals as goal
 
-pub returns-then-is_comment_line-clause-short : goal.returns-then-is_comment_line-clause-short
-returns-then-is_comment_line-clause-short c =
-    fields_short c.args.text.now no_fields (c.is_comment_line.ensures.fields c.if-is_comment_line.true)
+pub returns-then-is_comment-clause-short : goal.returns-then-is_comment-clause-short
+returns-then-is_comment-clause-short c =
+    (fields_stand_apart c.args.line.now.text.now no_fields (c.is_comment.ensures.0 c.if-is_comment.true)).short
 
-pub returns-clause-short : goal.returns-clause-short
-returns-clause-short c =
-    said_short c.scope-scope.result.symbols.now c.scope-scope.result.at c.args.text.now (defined_checked c.in-Ok.checked).statement
-    (is_let_through c.scope-scope.result.symbols.now c.scope-scope.result.at c.args.text.now (defined_checked c.in-Ok.checked) c.in-Ok.ensures.checked).parsed
-
-pub returns-then-is_comment_line-clause-takes : goal.returns-then-is_comment_line-clause-takes
-returns-then-is_comment_line-clause-takes c = λ lines is.
-    counted lines c.args.self.now c.count.new.self is c.args.text.now (c.is_comment_line.ensures.fields c.if-is_comment_line.true)
+pub returns-then-is_comment-clause-takes : goal.returns-then-is_comment-clause-takes
+returns-then-is_comment-clause-takes c = λ lines is.
+    counted lines c.args.self.now c.count.new.self is c.args.line.now.text.now (c.is_comment.ensures.0 c.if-is_comment.true)
     c.count.ensures c.nothing_taken.result c.nothing_taken.ensures
 
 pub assemble_line-requires-clause-parsed : goal.assemble_line-requires-clause-parsed
 assemble_line-requires-clause-parsed c =
-    (is_let_through c.scope-scope.result.symbols.now c.scope-scope.result.at c.args.text.now (defined_checked c.in-Ok.checked) c.in-Ok.ensures.checked).parsed
+    (is_let_through c.scope-scope.result.symbols.now c.scope-scope.result.at c.args.line.now.text.now (model_of_checked c.in-Ok.checked) c.in-Ok.ensures.checked).parsed
 
 pub advance-requires-clause-place : goal.advance-requires-clause-place
 advance-requires-clause-place c =
-    leads_on c.scope-scope.result.symbols.now c.scope-scope.result.at c.args.self.now.location c.keep.new.self.location c.args.text.now
-    (defined_checked c.in-Ok.checked) c.origin-origin.result c.in-Ok.checked.size c.in-Ok.ensures.checked c.scope-scope.ensures.at
+    leads_on c.scope-scope.result.symbols.now c.scope-scope.result.at c.args.self.now.location c.keep.new.self.location c.args.line.now.text.now
+    (model_of_checked c.in-Ok.checked) c.origin-origin.result c.in-Ok.checked.size c.in-Ok.ensures.checked c.scope-scope.ensures.at
     c.in_ok-keep.ensures.still.location c.origin-origin.ensures.origin c.origin-origin.ensures.address c.in-Ok.ensures.size c.args.self.now.placed
 
 pub returns-clause-takes : goal.returns-clause-takes
 returns-clause-takes c = λ lines is.
-    let found = defined_checked c.in-Ok.checked in
+    let found = model_of_checked c.in-Ok.checked in
     let builder = c.args.self.now in
     let at = c.scope-scope.ensures.at in
     let known = c.scope-scope.ensures.symbols in
-    let through = is_let_through c.scope-scope.result.symbols.now c.scope-scope.result.at c.args.text.now found c.in-Ok.ensures.checked in
-    let here : checked (names lines) (location lines) c.args.text.now ≡ Ok found =
-    ap (λ (known : Names). checked known (location lines) c.args.text.now) (sym (known ∙ is.names))
-    ∙ (ap (λ (at : Location). checked c.scope-scope.result.symbols.now at c.args.text.now) (sym (at ∙ is.location)) ∙ c.in-Ok.ensures.checked) in
+    let through = is_let_through c.scope-scope.result.symbols.now c.scope-scope.result.at c.args.line.now.text.now found c.in-Ok.ensures.checked in
+    let here : checked (names lines) (location lines) c.args.line.now.text.now ≡ Ok found =
+    ap (λ (known : Names). checked known (location lines) c.args.line.now.text.now) (sym (known ∙ is.names))
+    ∙ (ap (λ (at : Location). checked c.scope-scope.result.symbols.now at c.args.line.now.text.now) (sym (at ∙ is.location)) ∙ c.in-Ok.ensures.checked) in
     let fresh : is_taken builder.symbols found.label ≡ false = ap (λ (known : Names). is_taken known found.label) (sym known) ∙ through.fresh in
     let fits : is_full builder.location found.statement ≡ false = ap (λ (at : Location). is_full at found.statement) (sym at) ∙ through.fits in
     let went = c.advance.ensures in

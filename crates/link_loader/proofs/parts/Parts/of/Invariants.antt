@@ -1,5 +1,5 @@
 use Rattle.std.proofs.Common.{◌≡◌, ◌≤◌, ◌+◌, ◌*◌, ◌++◌, map, drop}
-use Rattle.object_tags.specs.Seen.{defined_module}
+use Rattle.object_tags.specs.Seen.{model_of_module}
 use Rattle.link_defs.specs.Placing.{sections_from, first_base, defs_of, words_of, refs_of, entries_of}
 use Rattle.link_loader.proofs.parts.Parts.of.Given as goal
 
@@ -7,8 +7,8 @@ use Rattle.link_loader.proofs.parts.Parts.of.Given as goal
 abbrev pub invariant-loop-module : goal.invariant-loop-module
 invariant-loop-module l = record {
   base : l.base ≤ 0xA000 + 65536 * l.module-index;
-  defs : defs_of (sections_from first_base (map defined_module l.modules.items)) ≡ l.parts.defs.items ++ defs_of (sections_from l.base (map defined_module (drop l.module-index l.modules.items)));
-  words : words_of (sections_from first_base (map defined_module l.modules.items)) ≡ l.parts.words.items ++ words_of (sections_from l.base (map defined_module (drop l.module-index l.modules.items)));
-  refs : refs_of (sections_from first_base (map defined_module l.modules.items)) ≡ l.parts.refs.items ++ refs_of (sections_from l.base (map defined_module (drop l.module-index l.modules.items)));
-  entries : entries_of (sections_from first_base (map defined_module l.modules.items)) ≡ l.parts.entries.items ++ entries_of (sections_from l.base (map defined_module (drop l.module-index l.modules.items)));
+  defs : defs_of (sections_from first_base (map model_of_module l.modules.items)) ≡ l.parts.defs.items ++ defs_of (sections_from l.base (map model_of_module (drop l.module-index l.modules.items)));
+  words : words_of (sections_from first_base (map model_of_module l.modules.items)) ≡ l.parts.words.items ++ words_of (sections_from l.base (map model_of_module (drop l.module-index l.modules.items)));
+  refs : refs_of (sections_from first_base (map model_of_module l.modules.items)) ≡ l.parts.refs.items ++ refs_of (sections_from l.base (map model_of_module (drop l.module-index l.modules.items)));
+  entries : entries_of (sections_from first_base (map model_of_module l.modules.items)) ≡ l.parts.entries.items ++ entries_of (sections_from l.base (map model_of_module (drop l.module-index l.modules.items)));
 }

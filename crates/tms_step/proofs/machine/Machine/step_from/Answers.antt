@@ -1,7 +1,7 @@
 use Rattle.std.proofs.Common.{◌≡◌, rules, ap, sym, subst, ◌∙◌}
 use Rattle.tms_defs.specs.Operand.{Cpu}
-use Rattle.console_defs.specs.Memory.{Memory, console}
 use Rattle.tms_defs.specs.Step.{step}
+use Rattle.console_defs.specs.Memory.{Memory, console}
 use Rattle.console_defs.specs.Causes.{refused_at, refusal, MeetsPort}
 use Rattle.tms_defs.specs.declared.step_end.StepEnd.{StepEnd}
 use Rattle.console_defs.proofs.RefusalLaws.{step_refused, step_meets_port}

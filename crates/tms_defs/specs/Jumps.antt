@@ -1,9 +1,7 @@
--- Jumps.
-use Rattle.std.specs.Prelude.{ℕ, ℤ, pos, ◌*ℤ◌, Bool, true, not, ◌&&◌, ◌||◌, if◌then◌else◌, Option, Some, None}
+-- Jumps: where they go, and their conditions.
+use Rattle.std.specs.Prelude.{ℕ, ℤ, pos, ◌*ℤ◌, Bool, true, not, ◌&&◌, ◌||◌, Option, Some, None}
 use Rattle.std.specs.Int.{w16, cast_unsigned}
 use Rattle.tms_defs.specs.Words.{plus}
-use Rattle.tms_defs.specs.Accesses.{Answer, Gives, NoInstruction}
-use Rattle.tms_defs.specs.Operand.{Cpu}
 use Rattle.tms_defs.specs.declared.status.Status.{Status}
 use Rattle.tms_defs.specs.declared.instruction.JumpOp.{JumpOp}
 use Rattle.tms_defs.specs.declared.instruction.JumpOp.TheVariants.{JMP, JLT, JLE, JEQ, JHE, JGT, JNE, JNC, JOC, JNO}
@@ -32,13 +30,3 @@ condition JOP status = Some status.op
 condition SBO status = None
 condition SBZ status = None
 condition TB status = None
-
-module _ (M : Type 0) where
-  -- A jump whose condition holds goes to its target; without a condition it is no jump.
-  -- TMS9900 data manual, "Jump instructions".
-  abbrev pub jump_where : Option Bool → ℤ → Cpu M → Answer (Cpu M)
-  jump_where (Some taken) disp x = Gives (record x { pc = if taken then jump_target x.pc disp else x.pc })
-  jump_where None disp x = NoInstruction
-
-  abbrev pub jump : JumpOp → ℤ → Cpu M → Answer (Cpu M)
-  jump op disp x = jump_where (condition op x.status) disp x
