@@ -20,7 +20,7 @@ def parted(names, bare):
 
 def directives(crate):
     """The directives of a language by the names that lines have for them."""
-    return re.findall(r'is_word text \(codes "(\w+)"\)\s+then Some (\w+)', definition(crate, 'Directives'))
+    return re.findall(r'\(codes "(\w+)", (\w+)\)', definition(crate, 'Directives'))
 
 
 def assembler():

@@ -14,7 +14,7 @@ use Rattle.asm_defs.specs.declared.causes.AsmCause.{AsmCause}
 use Rattle.asm_defs.specs.declared.location.Part.{Part}
 use Rattle.asm_defs.specs.declared.location.Part.TheVariants as part
 use Rattle.asm_defs.specs.declared.location.Location.{Location}
-use Rattle.asm_defs.specs.Statements.{Statement, Nothing, Instruction, Aorg, Rorg, Dorg, Bss, Bes, Even, Equ, Data, Byte, Text, Def, Ref, Idt, Titl, End}
+use Rattle.asm_defs.specs.Statements.{Statement, Aorg, Rorg, Dorg, Bss, Bes, Equ, Idt}
 use Rattle.asm_defs.specs.Statements.{parse_line, statement_in, as_text}
 use Rattle.asm_defs.specs.Locations.{behind, is_in_part, limit}
 use Rattle.asm_defs.specs.FirstChecks.{EarlierLines, ParsedLine, Checked, LocationChange, any_known, label_in, is_taken, refs_in, parsed, moved, checked, move, as_expr}
@@ -36,41 +36,36 @@ abbrev answers : {A : Type 0} → Result A ExprError → Result A ExprError → 
 answers a b = a ≡ b
 
 -- a line that places bytes goes on from the location, and a line that sets it places none
-abbrev Fits : Statement → LocationChange → Type 0
-Fits statement move = ((move.origin ≡ None) × (declared_size statement ≤ move.size)) ⊎ ((declared_size statement ≡ 0) × (move.gap ≡ 0))
+abbrev Fits : ℕ → LocationChange → Type 0
+Fits size move = ((move.origin ≡ None) × (size ≤ move.size)) ⊎ ((size ≡ 0) × (move.gap ≡ 0))
 
-fits_by : {A E : Type 0} (statement : Statement) (answer : Result A E) (make : A → Result LocationChange E) (found : LocationChange) → (answer >>= make) ≡ Ok found
-    → ((value : A) → make value ≡ Ok found → Fits statement found) → Fits statement found
-fits_by statement (Ok value) make found e each = each value e
-fits_by statement (Err error) make found e each = cc e
+fits_by : {A E : Type 0} (size : ℕ) (answer : Result A E) (make : A → Result LocationChange E) (found : LocationChange) → (answer >>= make) ≡ Ok found
+    → ((value : A) → make value ≡ Ok found → Fits size found) → Fits size found
+fits_by size (Ok value) make found e each = each value e
+fits_by size (Err error) make found e each = cc e
 
-ok_fits : (statement : Statement) (made found : LocationChange) → answers (Ok made) (Ok found) → Fits statement made → Fits statement found
-ok_fits statement made found e fits =
+ok_fits : (size : ℕ) (made found : LocationChange) → answers (Ok made) (Ok found) → Fits size made → Fits size found
+ok_fits size made found e fits =
     let same : made ≡ found = cc e in
-    subst (Fits statement) same fits
+    subst (Fits size) same fits
 
 module _ (known : Names) (here : Location) (reached : ℕ) where
-  move_fits : (statement : Statement) (found : LocationChange) → move known here reached statement ≡ Ok found → Fits statement found
-  move_fits Nothing found e = ok_fits Nothing _ found e (inl (refl, omega arith))
-  move_fits (Instruction size operation field) found e = ok_fits (Instruction size operation field) _ found e (inl (refl, omega arith))
-  move_fits (Aorg text) found e = fits_by (Aorg text) (absolute_in known here text) _ found e (λ value f. ok_fits (Aorg text) _ found f (inr (refl, refl)))
-  move_fits (Rorg None) found e = ok_fits (Rorg None) _ found e (inr (refl, refl))
+  move_fits : (statement : Statement) (found : LocationChange) → move known here reached statement ≡ Ok found
+      → Fits (declared_size statement) found
+  move_fits (Aorg text) found e =
+      fits_by 0 (absolute_in known here text) _ found e (λ value f. ok_fits 0 _ found f (inr (refl, refl)))
+  move_fits (Rorg None) found e = ok_fits 0 _ found e (inr (refl, refl))
   move_fits (Rorg (Some text)) found e =
-      fits_by (Rorg (Some text)) (value known here text >>= non_external_number) _ found e (λ value f. ok_fits (Rorg (Some text)) _ found f (inr (refl, refl)))
-  move_fits (Dorg text) found e = fits_by (Dorg text) (absolute_in known here text) _ found e (λ value f. ok_fits (Dorg text) _ found f (inr (refl, refl)))
-  move_fits (Bss text) found e = fits_by (Bss text) (absolute_in known here text) _ found e (λ value f. ok_fits (Bss text) _ found f (inl (refl, omega arith)))
-  move_fits (Bes text) found e = fits_by (Bes text) (absolute_in known here text) _ found e (λ value f. ok_fits (Bes text) _ found f (inl (refl, omega arith)))
-  move_fits Even found e = ok_fits Even _ found e (inl (refl, omega arith))
+      fits_by 0 (value known here text >>= non_external_number) _ found e (λ value f. ok_fits 0 _ found f (inr (refl, refl)))
+  move_fits (Dorg text) found e =
+      fits_by 0 (absolute_in known here text) _ found e (λ value f. ok_fits 0 _ found f (inr (refl, refl)))
+  move_fits (Bss text) found e =
+      fits_by 0 (absolute_in known here text) _ found e (λ value f. ok_fits 0 _ found f (inl (refl, omega arith)))
+  move_fits (Bes text) found e =
+      fits_by 0 (absolute_in known here text) _ found e (λ value f. ok_fits 0 _ found f (inl (refl, omega arith)))
   move_fits (Equ text) found e =
-      fits_by (Equ text) (value known here text >>= non_external) _ found e (λ value f. ok_fits (Equ text) _ found f (inl (refl, omega arith)))
-  move_fits (Data texts) found e = ok_fits (Data texts) _ found e (inl (refl, omega arith))
-  move_fits (Byte texts) found e = ok_fits (Byte texts) _ found e (inl (refl, omega arith))
-  move_fits (Text quoted) found e = ok_fits (Text quoted) _ found e (inl (refl, omega arith))
-  move_fits (Def names) found e = ok_fits (Def names) _ found e (inl (refl, omega arith))
-  move_fits (Ref names) found e = ok_fits (Ref names) _ found e (inl (refl, omega arith))
-  move_fits (Idt text) found e = ok_fits (Idt text) _ found e (inl (refl, omega arith))
-  move_fits (Titl text) found e = ok_fits (Titl text) _ found e (inl (refl, omega arith))
-  move_fits (End text) found e = ok_fits (End text) _ found e (inl (refl, omega arith))
+      fits_by 0 (value known here text >>= non_external) _ found e (λ value f. ok_fits 0 _ found f (inl (refl, omega arith)))
+  move_fits _ found e = ok_fits _ _ found e (inl (refl, omega arith))
 
 limit_le : (found : Part) → limit found ≤ 65536
 limit_le part.Relocatable = omega arith
@@ -115,7 +110,7 @@ module _ (before : EarlierLines) where
   -- and where it leads lies in its part
   record Leads (line : ParsedLine) (found : Checked) : Type 0 where
     statement : line.statement ≡ found.statement
-    fits : Fits found.statement found.move
+    fits : Fits (declared_size found.statement) found.move
     titled : IsTitled found.statement
     few : lists_too_many before found.statement ≡ false
     within : is_in_part (location_behind before.location found.move) ≡ true
@@ -141,7 +136,7 @@ module _ (before : EarlierLines) where
       let stays = not_false (is_in_part (location_behind before.location a.0)) (lists_too_many before line.statement) c.0 in
       record {
         statement = said_same;
-        fits = subst (λ statement. Fits statement found.move) said_same (subst (Fits line.statement) move_same fits);
+        fits = subst (λ statement. Fits (declared_size statement) found.move) said_same (subst (Fits (declared_size line.statement)) move_same fits);
         titled = subst IsTitled said_same (named_is line d.0);
         few = subst (λ statement. lists_too_many before statement ≡ false) said_same
             (second_false (is_in_part (location_behind before.location a.0)) (lists_too_many before line.statement) c.0);
@@ -153,7 +148,7 @@ module _ (before : EarlierLines) where
       let a = bound (parsed before text) _ found e in
       said_is text a.0 a.1 ∙ ap Ok (moved_is a.0 found a.2).statement
 
-  room_by : (location : Location) (statement : Statement) (move : LocationChange) → is_in_part location ≡ true → Fits statement move
+  room_by : (location : Location) (statement : Statement) (move : LocationChange) → is_in_part location ≡ true → Fits (declared_size statement) move
       → is_in_part (location_behind location move) ≡ true → location.number + move.gap + declared_size statement ≤ 65536
   room_by location statement move here (inl (none, le)) there =
       let behind_it : nat_le (location.number + (move.gap + move.size)) (limit location.part) ≡ true =

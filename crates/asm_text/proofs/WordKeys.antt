@@ -9,7 +9,7 @@ use Rattle.std.proofs.Math.Dec.{eqb-suc-suc}
 use Rattle.std.proofs.lemmas.List.{drop_more}
 use Rattle.std.proofs.lemmas.Bool.Decides.{nat_tests}
 use Rattle.source_defs.specs.Characters.{upper_case}
-use Rattle.source_defs.specs.Names.{is_word, same_letters}
+use Rattle.source_defs.specs.Names.{is_word, same_letters, named_in}
 use Rattle.asm_text.specs.WordKeys.{key_of, word_key, is_short, is_of_key, with_key}
 
 -- each of them is a byte
@@ -108,14 +108,9 @@ words_found {A} name text things p short = told things short ∙ rows (word_key 
     rows (Some key) [] = refl
     rows (Some key) (thing ∷ others) = either (key == key_of (name thing)) thing others key _ (rows (Some key) others)
 
--- the first of some words that a text is stands for something
-abbrev pub first_word : {A : Type 0} → List ℕ → List (List ℕ × A) → Option A
-first_word text [] = None
-first_word text (row ∷ rows) = cond (is_word text row.0) (Some row.1) (first_word text rows)
-
--- and so does its number in the table of their numbers
+-- what a text names in a table of words, by its number in the table of their numbers
 pub first_by_key : {A : Type 0} (text : List ℕ) (rows : List (List ℕ × A)) → AreBytes text → list_all (λ (row : List ℕ × A). is_short row.0) rows ≡ true
-    → first_word text rows ≡ with_key (word_key text) (map (λ (row : List ℕ × A). (key_of row.0, row.1)) rows)
+    → named_in rows text ≡ with_key (word_key text) (map (λ (row : List ℕ × A). (key_of row.0, row.1)) rows)
 first_by_key {A} text rows p short = told rows short
   where
     keyed : List (List ℕ × A) → List (ℕ × A)
@@ -136,12 +131,12 @@ first_by_key {A} text rows p short = told rows short
         by false = refl
 
     told : (some : List (List ℕ × A)) → list_all (λ (row : List ℕ × A). is_short row.0) some ≡ true
-        → first_word text some ≡ with_key (word_key text) (keyed some)
+        → named_in some text ≡ with_key (word_key text) (keyed some)
     told [] q = none (word_key text)
     told (row ∷ others) q =
         let here = first_so (is_short row.0) (list_all (λ (it : List ℕ × A). is_short it.0) others) q in
         let there = second_so (is_short row.0) (list_all (λ (it : List ℕ × A). is_short it.0) others) q in
-        ap (λ found. cond found (Some row.1) (first_word text others)) (word_told text row.0 p here)
+        ap (λ found. cond found (Some row.1) (named_in others text)) (word_told text row.0 p here)
         ∙ (ap (cond (is_of_key (word_key text) row.0) (Some row.1)) (told others there) ∙ more (word_key text) row others)
 
 -- a row of a table that has the key, and one that has another

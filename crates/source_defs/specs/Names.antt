@@ -1,6 +1,6 @@
 -- Names, and words that are compared with no heed of case.
-use Rattle.std.specs.Prelude.{◌≡◌, ℕ, ◌==◌, Bool, ◌&&◌, ◌||◌, nat_lt, nat_le, List}
-use Rattle.std.specs.Prelude.{length, slice_index, map, IsTrue, nat_eq}
+use Rattle.std.specs.Prelude.{◌≡◌, ℕ, ◌==◌, Bool, ◌&&◌, ◌||◌, nat_lt, nat_le, if◌then◌else◌, List, [], ◌∷◌}
+use Rattle.std.specs.Prelude.{length, slice_index, map, IsTrue, nat_eq, Option, Some, None}
 use Rattle.std.specs.List.{list_all, zip}
 use Rattle.source_defs.specs.Characters.{is_digit, is_letter, upper_case}
 use Rattle.std.specs.Cmp.Lexicographic.{pointwise}
@@ -40,6 +40,11 @@ same_letters text word = list_all (λ pair. upper_case pair.0 == pair.1) (zip te
 -- Profile: letters outside quotes are taken as upper case. Whether a text is the word, which is in upper case.
 abbrev pub is_word : List ℕ → List ℕ → Bool
 is_word text word = (length text == length word) && same_letters text word
+
+-- What a text names in a table of words: what stands beside the first word that the text is.
+abbrev pub named_in : {A : Type 0} → List (List ℕ × A) → List ℕ → Option A
+named_in [] text = None
+named_in (row ∷ rows) text = if is_word text row.0 then Some row.1 else named_in rows text
 
 -- two texts are the same, byte by byte
 abbrev pub same_text : List ℕ → List ℕ → Bool
