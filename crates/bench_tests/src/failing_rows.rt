@@ -39,14 +39,6 @@ $ link ONE
 ! shelf 1
 ? ReadFault
 
-% the second row cannot be written
-$ glist
-<  BYTE 1,2,3,4,5,6,7,8,9
-<- END
-! put 1
-? WriteFault
->       1 >6000 01 02 03 04 05 06 07 08  BYTE 1,2,3,4,5,6,7,8,9
-
 % the third write fails
 $ run 9
 < S EXIT
@@ -55,49 +47,6 @@ $ run 9
 ? WriteFault
 > exit at >6000
 > gpl >6000 S00 D9F R7E
-
-% the third line cannot be written
-$ gsteps 5
-< S ST @>8300,1
-<  ST @>8301,2
-<  ST @>8302,3
-<  EXIT
-<- END S
-! put 2
-? WriteFault
->      1 >6000 S00 D9F R7E ST @>8300,>01 >8300=01
->      2 >6003 S00 D9F R7E ST @>8301,>02 >8301=02
-
-% an input that fails
-$ list
-<  DATA 1
-! take 0
-? ReadFault
-
-% a shelf that fails
-$ list
-<  DATA 1
-<  COPY "LIB"
-@ LIB
-+  DATA 2
-! shelf 0
-? ReadFault
-
-% the second row cannot be written
-$ list
-<  DATA 1
-<  DATA 2
-! put 1
-? WriteFault
->       1 >0000' 0001                     DATA 1
-
-% the second line cannot be written
-$ steps 10
-< 00008        A0000B0201B7FFFB0581B10FF20000F
-< :
-! put 1
-? WriteFault
->      1 >A000 WP83E0 ST0000 LI R1,>7FFF R1=7FFF
 
 % the second write fails
 $ trace 5

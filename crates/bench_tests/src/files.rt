@@ -6,8 +6,8 @@ use report_defs::Status;
 use std::alloc::{AllocError, Global};
 use std::test::Fail;
 
-/// Whether a file of one byte more than it may have is too large, for `asm`, `list` and `link`.
-fn too_large_is_told(
+/// Whether a file of one byte more than it may have is too large, for `asm` and `link`.
+fn is_too_large(
     alloc: Global,
     words: &[&[u8]],
     input: &[u8],
@@ -26,9 +26,8 @@ fn too_large_is_told(
 #[test]
 fn a_file_that_is_too_large_is_refused(rt: HostRuntime) -> Result<(), Fail> {
     assert!(rt;
-        too_large_is_told(rt.alloc(), &[b"asm"], b" COPY 'BIG'\n", 262145)?
-            && too_large_is_told(rt.alloc(), &[b"list"], b" COPY 'BIG'\n", 262145)?
-            && too_large_is_told(rt.alloc(), &[b"link", b"BIG"], b"", 1048577)?
+        is_too_large(rt.alloc(), &[b"asm"], b" COPY 'BIG'\n", 262145)?
+            && is_too_large(rt.alloc(), &[b"link", b"BIG"], b"", 1048577)?
     );
     Ok(())
 }

@@ -3,7 +3,6 @@
 use bench_io::{MemSink, MemSource};
 use bench_shelf::MemShelf;
 use command_words::Words;
-use debug_commands::debug;
 use report_defs::Status;
 use std::alloc::{AllocError, Global};
 use workbench::bench_with;
@@ -44,7 +43,7 @@ pub(crate) fn run(
     run_with(alloc, words, input, &mut shelf, take_fails, put_fails)
 }
 
-/// The same over a shelf. The words `glist`, `list`, `gsteps` and `steps` are words of `ti_debug`.
+/// The same over a shelf.
 pub(crate) fn run_with(
     alloc: Global,
     words: &[&[u8]],
@@ -57,28 +56,13 @@ pub(crate) fn run_with(
     let mut input = MemSource::new(input, Vec::from_slice(alloc, take_fails)?);
     let mut out = MemSink::new(alloc, 16384, Vec::from_slice(alloc, put_fails)?)?;
     let mut err = MemSink::new(alloc, 16384, Vec::from_slice(alloc, put_fails)?)?;
-    let status = if is_debug_command(words) {
-        debug(alloc, &list, &mut input, shelf, &mut out, &mut err)
-    } else {
-        bench_with(alloc, &list, &mut input, shelf, &mut out, &mut err)
-    };
+    let status = bench_with(alloc, &list, &mut input, shelf, &mut out, &mut err);
     Ok(Ended {
         status,
         out,
         err,
         input,
     })
-}
-
-/// Whether the first word is the name of a command of `ti_debug`.
-fn is_debug_command(words: &[&[u8]]) -> bool {
-    match words {
-        [name, ..] => *name == b"glist".as_slice()
-            || *name == b"list".as_slice()
-            || *name == b"gsteps".as_slice()
-            || *name == b"steps".as_slice(),
-        [] => false,
-    }
 }
 
 /// Whether a run over an input ends with this status, and writes this and nothing else.
