@@ -130,10 +130,10 @@ def blocks(listing):
 
 
 BLOCK_USES = '''use Rattle.std.proofs.Common.{refl}
-use Rattle.source_defs.specs.Tokens.{token_at, tokens_from}
+use Rattle.expression_defs.specs.Tokens.{token_at, tokens_from}
 use Rattle.source_defs.specs.Fields.{in_quotes, fields}
 use Rattle.source_defs.specs.Operands.{operands_from}
-use Rattle.source_defs.specs.Symbols.{registers}
+use Rattle.expression_defs.specs.Symbols.{registers}
 use Rattle.instruction_defs.specs.Operations.{mnemonic}
 use Rattle.instruction_defs.specs.Forms.{form_of}
 use Rattle.instruction_defs.specs.FirstChecks.{first_checks}

@@ -1,8 +1,8 @@
 -- What a refusal of an expression or an instruction is in a line.
 use Rattle.std.proofs.Common.{◌≡◌, Err}
 use Rattle.std.specs.Prelude.{Result}
-use Rattle.source_defs.specs.declared.causes.ExprError.{ExprError}
-use Rattle.source_defs.specs.declared.causes.ExprError.TheVariants as expr
+use Rattle.expression_defs.specs.declared.causes.ExprError.{ExprError}
+use Rattle.expression_defs.specs.declared.causes.ExprError.TheVariants as expr
 use Rattle.instruction_defs.specs.declared.causes.FormError.{FormError}
 use Rattle.instruction_defs.specs.declared.causes.FormError.TheVariants as form
 use Rattle.asm_defs.specs.declared.causes.AsmCause.{AsmCause}

@@ -2,7 +2,7 @@
 use Rattle.std.proofs.Common.{◌≡◌, ℕ, List, sym, ap, subst}
 use Rattle.std.specs.Prelude.{Option, Result}
 use Rattle.source_defs.specs.Refusals.{◌>>=◌}
-use Rattle.source_defs.specs.Expression.{Value}
+use Rattle.expression_defs.specs.Expression.{Value}
 use Rattle.instruction_defs.specs.SecondChecks.{second_checks}
 use Rattle.asm_forms.specs.Skeletons.{model_of_skeleton}
 use Rattle.asm_defs.specs.declared.location.Location.{Location}

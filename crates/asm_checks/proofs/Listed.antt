@@ -1,9 +1,9 @@
 -- Lists of values, one value after the other.
 use Rattle.std.proofs.Common.{◌≡◌, ℕ, List, [], ◌∷◌, ◌++◌, Ok, Err, refl, sym, ap, append_assoc}
 use Rattle.std.specs.Prelude.{Option, Result}
-use Rattle.source_defs.specs.declared.causes.ExprError.{ExprError}
+use Rattle.expression_defs.specs.declared.causes.ExprError.{ExprError}
 use Rattle.source_defs.specs.Refusals.{after, ◌>>=◌}
-use Rattle.source_defs.specs.Expression.{Value}
+use Rattle.expression_defs.specs.Expression.{Value}
 use Rattle.asm_defs.specs.declared.location.Location.{Location}
 use Rattle.asm_defs.specs.Locations.{behind}
 use Rattle.asm_defs.specs.SecondChecks.{word_in, data_values, absolute_in, byte_values}

@@ -1,7 +1,7 @@
 -- What a line of the code comes to, as the definitions have it.
 use Rattle.std.specs.Prelude.{ℕ, List, Option, Some, None, Result, Ok, Err}
 use Rattle.source_defs.specs.Refusals.{◌>>=◌}
-use Rattle.source_defs.specs.Expression.{Value, known_value}
+use Rattle.expression_defs.specs.Expression.{Value, known_value}
 use Rattle.instruction_defs.specs.declared.causes.FormError.{FormError}
 use Rattle.instruction_defs.specs.declared.causes.FormError.TheVariants.{BadOperand}
 use Rattle.asm_defs.specs.Statements.{as_form}

@@ -7,7 +7,8 @@ ghost use Rattle.asm_checks.specs.declared.failure.Failure.TheVariants.{Memory};
 
 use asm_defs::AsmCause;
 use instruction_defs::FormError;
-use source_defs::{ExprError, OperandError};
+use expression_defs::ExprError;
+use source_defs::OperandError;
 use std::alloc::AllocError;
 
 /// Why a line is not taken.

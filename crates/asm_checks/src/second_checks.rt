@@ -1,7 +1,7 @@
 //! The second checks of a line, and what it places.
 
 ghost use Rattle.std.specs.Prelude.{◌≡◌, ◌≤◌, map, IfOk, true, length, IsTrue};
-ghost use Rattle.source_defs.specs.Symbols.{look_up};
+ghost use Rattle.expression_defs.specs.Symbols.{look_up};
 ghost use Rattle.asm_text.specs.GivenValues.{model_of_value};
 ghost use Rattle.source_defs.specs.Operands.{operand_texts};
 ghost use Rattle.instruction_defs.specs.SecondChecks.{second_checks};

@@ -1,7 +1,7 @@
 //! The module's name that a quoted text gives.
 
 ghost use Rattle.std.specs.Prelude.{◌≡◌, ◌<◌, Some, None, if◌then◌else◌, length, IfSome};
-ghost use Rattle.source_defs.specs.Expression as spec;
+ghost use Rattle.expression_defs.specs.Expression as spec;
 ghost use Rattle.std.specs.Option.{IfNone};
 ghost use Rattle.asm_defs.specs.FirstChecks.{is_title, title_in};
 

@@ -2,7 +2,7 @@
 use Rattle.std.proofs.Common.{◌≡◌, ℕ, ◌+◌, ◌≤◌, true, List, [], Ok, length, sym, ap, ◌∙◌, arith}
 use Rattle.std.specs.Prelude.{Option, nat_le}
 use Rattle.std.proofs.lemmas.Bool.Decides.{nat_tests}
-use Rattle.source_defs.specs.Expression.{Value}
+use Rattle.expression_defs.specs.Expression.{Value}
 use Rattle.asm_defs.specs.declared.location.Location.{Location}
 use Rattle.asm_defs.specs.Statements as parsed
 use Rattle.asm_defs.specs.SecondChecks.{Outcome, outcome}

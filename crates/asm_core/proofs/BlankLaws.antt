@@ -4,7 +4,7 @@ use Rattle.std.specs.Prelude.{Option, IsSome, max, nat_le, nat_lt, ◌&&◌, ◌
 use Rattle.std.proofs.lemmas.Bool.Decides.{nat_tests}
 use Rattle.source_defs.specs.Orders.{onto}
 use Rattle.source_defs.specs.Fields.{fields, no_fields}
-use Rattle.source_defs.specs.Expression.{Value}
+use Rattle.expression_defs.specs.Expression.{Value}
 use Rattle.object_defs.specs.Modules.{Reference}
 use Rattle.asm_defs.specs.declared.causes.AsmCause.TheVariants.{Overflow, Overlap}
 use Rattle.asm_defs.specs.declared.location.Location.{Location}

@@ -4,8 +4,8 @@ use Rattle.std.specs.Prelude.{Option, IsSome}
 use Rattle.source_defs.specs.Refusals.{◌>>=◌}
 use Rattle.source_defs.specs.Orders.{onto}
 use Rattle.source_defs.specs.Fields.{fields, no_fields}
-use Rattle.source_defs.specs.Symbols.{Names}
-use Rattle.source_defs.specs.Growing.{Grows}
+use Rattle.expression_defs.specs.Symbols.{Names}
+use Rattle.expression_defs.specs.Growing.{Grows}
 use Rattle.asm_defs.specs.Locations.{Line, location, place, is_in_part}
 use Rattle.asm_defs.specs.Statements.{Nothing}
 use Rattle.asm_defs.specs.Memory.{Settled}

@@ -3,8 +3,8 @@ use Rattle.std.proofs.Common.{◌≡◌, ℕ, suc, ◌+◌, ◌<◌, List, [], �
 use Rattle.std.proofs.Math.Seq.{drop-cons}
 use Rattle.source_defs.specs.Refusals.{◌>>=◌}
 use Rattle.source_defs.specs.Orders.{onto}
-use Rattle.source_defs.specs.Symbols.{Names}
-use Rattle.source_defs.specs.Layout.{settled}
+use Rattle.expression_defs.specs.Symbols.{Names}
+use Rattle.expression_defs.specs.Layout.{settled}
 use Rattle.object_defs.specs.Modules.{Reference}
 use Rattle.asm_defs.specs.Locations.{Line, place}
 use Rattle.asm_defs.specs.Memory.{Settled, is_placed, references_of}

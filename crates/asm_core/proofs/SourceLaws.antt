@@ -5,7 +5,7 @@ use Rattle.source_defs.specs.declared.text.Line.{Line as TextLine}
 use Rattle.source_defs.specs.declared.text.Span.{Span}
 use Rattle.source_defs.specs.Lines.{part, lines, lines_from, numbered_from}
 use Rattle.source_defs.specs.Refusals.{Refusal}
-use Rattle.source_defs.specs.Layout.{laid_behind}
+use Rattle.expression_defs.specs.Layout.{laid_behind}
 use Rattle.asm_defs.specs.declared.causes.AsmCause.{AsmCause}
 use Rattle.asm_defs.specs.Locations.{Line}
 use Rattle.asm_defs.specs.FirstChecks.{check}

@@ -2,8 +2,8 @@
 use Rattle.std.proofs.Common.{◌≡◌, ◌∷◌, [], Ok, Err, Some, None, List, sym, ap, subst, ◌∙◌}
 use Rattle.source_defs.specs.Refusals.{◌>>=◌}
 use Rattle.source_defs.specs.Orders.{onto}
-use Rattle.source_defs.specs.Symbols.{Names}
-use Rattle.source_defs.specs.Layout.{settled}
+use Rattle.expression_defs.specs.Symbols.{Names}
+use Rattle.expression_defs.specs.Layout.{settled}
 use Rattle.object_defs.specs.Modules.{Reference}
 use Rattle.asm_defs.specs.declared.causes.AsmCause.{AsmCause}
 use Rattle.asm_defs.specs.Locations.{Line, place}

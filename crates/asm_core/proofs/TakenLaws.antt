@@ -1,13 +1,13 @@
 -- Lines that are taken one after the other.
 use Rattle.std.proofs.Common.{◌≡◌, ℕ, ◌+◌, Bool, true, false, ◌||◌, List, [], ◌∷◌, ◌++◌, Ok, Err, length, refl, sym, ap, ◌∙◌, arith, length-append}
 use Rattle.std.specs.Prelude.{Result, if◌then◌else◌}
-use Rattle.source_defs.specs.Lines.{lines}
+use Rattle.source_defs.specs.Lines.{lines, numbered}
 use Rattle.source_defs.specs.Refusals.{Refusal, ◌>>=◌, at_line}
-use Rattle.source_defs.specs.Layout.{laid, laid_behind, numbered}
+use Rattle.expression_defs.specs.Layout.{laid, laid_behind}
 use Rattle.asm_defs.specs.declared.causes.AsmCause.{AsmCause}
 use Rattle.asm_defs.specs.Locations.{Line}
 use Rattle.asm_defs.specs.FirstChecks.{check}
-use Rattle.source_defs.specs.Layout.{has_ended}
+use Rattle.expression_defs.specs.Layout.{has_ended}
 use Rattle.asm_core.specs.Building.{Takes, HasAccepted}
 use Rattle.asm_core.specs.Finishing.{AcceptsText}
 use Rattle.asm_core.specs.declared.error.AsmError.{AsmError}

@@ -7,8 +7,8 @@ use Rattle.asm_defs.specs.FirstChecks.{any_known, label_in, defs_in, refs_in, ch
 use Rattle.asm_checks.specs.Answers.{Causes}
 use Rattle.asm_checks.specs.declared.failure.Failure.{Failure}
 use Rattle.asm_checks.specs.declared.failure.Failure.TheVariants as failure
-use Rattle.source_defs.specs.Symbols.{Names}
-use Rattle.source_defs.specs.Growing.{Grows}
+use Rattle.expression_defs.specs.Symbols.{Names}
+use Rattle.expression_defs.specs.Growing.{Grows}
 use Rattle.asm_defs.specs.declared.location.Location.{Location}
 use Rattle.asm_defs.specs.Locations.{Line, behind}
 use Rattle.asm_defs.specs.Memory.{Settled}

@@ -3,8 +3,8 @@ use Rattle.std.proofs.Common.{◌≡◌, ℕ, ◌+◌, true, false, not, List, [
 use Rattle.std.specs.Prelude.{Option, Result, is_some, option_to_list, ◌⊎◌}
 use Rattle.source_defs.specs.Refusals.{◌>>=◌}
 use Rattle.source_defs.specs.Orders.{onto}
-use Rattle.source_defs.specs.Symbols.{Names, look_up}
-use Rattle.source_defs.specs.Growing.{Grows, is_closed}
+use Rattle.expression_defs.specs.Symbols.{Names, look_up}
+use Rattle.expression_defs.specs.Growing.{Grows, is_closed}
 use Rattle.object_defs.specs.Modules.{Reference}
 use Rattle.asm_defs.specs.declared.causes.AsmCause.{AsmCause}
 use Rattle.asm_defs.specs.declared.causes.AsmCause.TheVariants.{Overflow, Overlap}

@@ -3,9 +3,10 @@ use Rattle.std.specs.Prelude.{◌≡◌, ℕ, ◌+◌, ◌-◌, ◌<◌, ◌^◌
 use Rattle.std.specs.Prelude.{IsFalse}
 use Rattle.std.specs.Prelude.{Result, Ok, Err}
 use Rattle.source_defs.specs.Orders.{onto}
-use Rattle.source_defs.specs.Symbols.{Names, look_up}
-use Rattle.source_defs.specs.Growing.{is_closed}
-use Rattle.source_defs.specs.Layout.{laid, numbered, has_ended}
+use Rattle.expression_defs.specs.Symbols.{Names, look_up}
+use Rattle.expression_defs.specs.Growing.{is_closed}
+use Rattle.source_defs.specs.Lines.{numbered}
+use Rattle.expression_defs.specs.Layout.{laid, has_ended}
 use Rattle.object_defs.specs.Modules.{Reference}
 use Rattle.asm_defs.specs.declared.causes.AsmCause.{AsmCause}
 use Rattle.asm_defs.specs.Statements.{parse_line}

@@ -2,9 +2,10 @@
 use Rattle.std.specs.Prelude.{◌≡◌, ⊤, ℕ, List, [], ◌∷◌, ◌++◌, Result, Ok, Err}
 use Rattle.source_defs.specs.Refusals.{Refusal}
 use Rattle.source_defs.specs.Orders.{onto}
-use Rattle.source_defs.specs.Symbols.{Names}
-use Rattle.source_defs.specs.Layout.{settled, laid, numbered}
-use Rattle.source_defs.specs.declared.causes.ExprError.TheVariants as expr
+use Rattle.expression_defs.specs.Symbols.{Names}
+use Rattle.source_defs.specs.Lines.{numbered}
+use Rattle.expression_defs.specs.Layout.{settled, laid}
+use Rattle.expression_defs.specs.declared.causes.ExprError.TheVariants as expr
 use Rattle.instruction_defs.specs.declared.causes.FormError.TheVariants as form
 use Rattle.object_defs.specs.Modules as object
 use Rattle.object_defs.specs.Modules.{Reference}

@@ -1,8 +1,8 @@
 -- What a builder keeps of a line.
 use Rattle.std.specs.Prelude.{◌≡◌, ⊤, ℕ, List, ◌++◌, length, take, Option, option_to_list, IsTrue}
-use Rattle.source_defs.specs.Growing.{Grows}
-use Rattle.source_defs.specs.Symbols.{Names}
-use Rattle.source_defs.specs.Layout.{with_names}
+use Rattle.expression_defs.specs.Growing.{Grows}
+use Rattle.expression_defs.specs.Symbols.{Names}
+use Rattle.expression_defs.specs.Layout.{with_names}
 use Rattle.asm_text.specs.GivenValues.{model_of_value}
 use Rattle.asm_defs.specs.declared.causes.AsmCause.TheVariants.{DuplicateLabel}
 use Rattle.asm_defs.specs.FirstChecks.{EarlierLines, any_known, label_in, label_entry, external_entries, defs_in, refs_in}

@@ -1,4 +1,4 @@
-pub use Rattle.source_defs.specs.Layout
+pub use Rattle.expression_defs.specs.Layout
 pub use Rattle.asm_defs.specs.Directives
 pub use Rattle.asm_defs.specs.Statements
 pub use Rattle.asm_defs.specs.Locations

@@ -2,7 +2,7 @@
 use Rattle.std.specs.Prelude.{◌≡◌, List, ◌∷◌, map, Result, Ok, Err}
 use Rattle.source_defs.specs.Orders.{onto}
 use Rattle.source_defs.specs.Refusals.{◌>>=◌}
-use Rattle.source_defs.specs.Symbols.{Names, look_up}
+use Rattle.expression_defs.specs.Symbols.{Names, look_up}
 use Rattle.object_defs.specs.Modules.{Reference}
 use Rattle.object_tags.specs.Seen.{model_of_ref}
 use Rattle.asm_defs.specs.declared.causes.AsmCause.{AsmCause}

@@ -2,7 +2,7 @@
 
 ghost use Rattle.std.specs.Prelude.{◌≡◌, ◌↔◌, ◌<◌, ◌≤◌, ◌-◌, ◌^◌, ℕ, false, List, [], length, IsFalse};
 ghost use Rattle.std.specs.List.{AllByRecursion};
-ghost use Rattle.source_defs.specs.Layout.{has_ended};
+ghost use Rattle.expression_defs.specs.Layout.{has_ended};
 ghost use Rattle.asm_defs.specs.Locations.{location};
 ghost use Rattle.asm_defs.specs.FirstChecks.{names};
 ghost use Rattle.asm_defs.specs.Modules.{module_of_lines, module_of_source, title};

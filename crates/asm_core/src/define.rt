@@ -4,9 +4,9 @@ ghost use Rattle.std.specs.Prelude.{◌≡◌, Some, None, OnOk, OnErr, IfErr, I
 ghost use Rattle.std.specs.FinMap.{find, get, insert};
 ghost use Rattle.std.specs.Ordering.{nat_cmp};
 ghost use Rattle.std.specs.Cmp.Lexicographic.{slice_cmp};
-ghost use Rattle.source_defs.specs.Symbols.{registers};
-ghost use Rattle.source_defs.specs.Growing.{Grows};
-ghost use Rattle.source_defs.specs.Layout.{with_names};
+ghost use Rattle.expression_defs.specs.Symbols.{registers};
+ghost use Rattle.expression_defs.specs.Growing.{Grows};
+ghost use Rattle.expression_defs.specs.Layout.{with_names};
 ghost use Rattle.asm_text.specs.GivenValues.{model_of_value};
 ghost use Rattle.asm_defs.specs.FirstChecks.{any_known, label_in, label_entry, external_entries};
 ghost use Rattle.asm_core.specs.Keeping.{KnowsLabel};

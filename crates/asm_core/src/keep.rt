@@ -1,7 +1,7 @@
 //! What a builder keeps of a line.
 
 ghost use Rattle.std.specs.Prelude.{◌≡◌, ◌++◌, OnOk, OnErr, IfErr, option_to_list, IsFalse};
-ghost use Rattle.source_defs.specs.Growing.{Grows};
+ghost use Rattle.expression_defs.specs.Growing.{Grows};
 ghost use Rattle.asm_defs.specs.FirstChecks.{any_known, label_in, defs_in, refs_in};
 ghost use Rattle.asm_checks.specs.Defined.{model_of_statement};
 ghost use Rattle.asm_checks.specs.Checks.{model_of_earlier_lines, KnowsPlaces, ListsNames};

@@ -1,11 +1,11 @@
 -- A line whose names are known comes to what it comes to when more are known.
 use Rattle.std.proofs.Common.{◌≡◌, ℕ, List, [], ◌∷◌, Some, Ok, Err, ap}
 use Rattle.std.specs.Prelude.{Option, Result}
-use Rattle.source_defs.specs.declared.causes.ExprError.{ExprError}
+use Rattle.expression_defs.specs.declared.causes.ExprError.{ExprError}
 use Rattle.source_defs.specs.Refusals.{◌>>=◌}
-use Rattle.source_defs.specs.Expression.{Value, absolute, known_value}
-use Rattle.source_defs.specs.Growing as expressions
-use Rattle.source_defs.proofs.GrowingLaws.{Stays, stays_same, stays_then, known_stays, expression_stays}
+use Rattle.expression_defs.specs.Expression.{Value, absolute, known_value}
+use Rattle.expression_defs.specs.Growing as expressions
+use Rattle.expression_defs.proofs.GrowingLaws.{Stays, stays_same, stays_then, known_stays, expression_stays}
 use Rattle.instruction_defs.specs.declared.causes.FormError.{FormError}
 use Rattle.instruction_defs.specs.FirstChecks.{Skeleton, first_checks}
 use Rattle.instruction_defs.specs.SecondChecks.{second_checks}

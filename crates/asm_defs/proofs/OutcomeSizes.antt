@@ -2,8 +2,8 @@
 use Rattle.std.proofs.Common.{◌≡◌, ℕ, ◌*◌, List, [], ◌∷◌, Some, Ok, Err, length, refl, ◌∙◌, arith}
 use Rattle.std.specs.Prelude.{Option, Result, ⊤}
 use Rattle.source_defs.specs.Refusals.{◌>>=◌}
-use Rattle.source_defs.specs.declared.causes.ExprError.{ExprError}
-use Rattle.source_defs.specs.Expression.{Value, characters, known_value}
+use Rattle.expression_defs.specs.declared.causes.ExprError.{ExprError}
+use Rattle.expression_defs.specs.Expression.{Value, characters, known_value}
 use Rattle.instruction_defs.specs.declared.causes.FormError.{FormError}
 use Rattle.instruction_defs.specs.FirstChecks.{Skeleton, first_checks, line_size, size_of}
 use Rattle.instruction_defs.specs.SecondChecks.{second_checks}

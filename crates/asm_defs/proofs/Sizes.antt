@@ -2,7 +2,7 @@
 use Rattle.std.proofs.Common.{◌≡◌, ℕ, ◌+◌, ◌*◌, Bool, true, false, List, [], ◌∷◌, Some, None, Ok, Err, length, refl, sym, ap, ◌∙◌, arith, length-append}
 use Rattle.std.specs.Prelude.{Option, Result, if◌then◌else◌}
 use Rattle.source_defs.specs.Refusals.{◌>>=◌}
-use Rattle.source_defs.specs.Expression.{Value}
+use Rattle.expression_defs.specs.Expression.{Value}
 use Rattle.std.specs.Int.{w16, cast_signed}
 use Rattle.instruction_defs.specs.declared.causes.FormError.TheVariants.{BadOperand}
 use Rattle.instruction_defs.specs.declared.operand_kind.OperandKind.{OperandKind}

@@ -9,12 +9,12 @@ use Rattle.std.specs.List.{list_any}
 use Rattle.std.specs.FinMap.{get}
 use Rattle.source_defs.specs.Refusals.{◌>>=◌, unless}
 use Rattle.source_defs.specs.QuotedTexts.{is_quoted}
-use Rattle.source_defs.specs.declared.causes.ExprError.{ExprError}
-use Rattle.source_defs.specs.declared.causes.ExprError.TheVariants.{BadRelocation}
-use Rattle.source_defs.specs.Expression.{Value, Absolute, Relocatable, External, absolute, expression, characters}
+use Rattle.expression_defs.specs.declared.causes.ExprError.{ExprError}
+use Rattle.expression_defs.specs.declared.causes.ExprError.TheVariants.{BadRelocation}
+use Rattle.expression_defs.specs.Expression.{Value, Absolute, Relocatable, External, absolute, expression, characters}
 use Rattle.source_defs.specs.Fields.{fields}
-use Rattle.source_defs.specs.Symbols.{Names, look_up, predefined}
-use Rattle.source_defs.specs.Layout.{names_of, set_or}
+use Rattle.expression_defs.specs.Symbols.{Names, look_up, predefined}
+use Rattle.expression_defs.specs.Layout.{names_of, set_or}
 use Rattle.object_defs.specs.Modules.{most_names, is_module_name}
 use Rattle.object_defs.specs.Digits.{padded}
 use Rattle.asm_defs.specs.declared.causes.AsmCause.{AsmCause}

@@ -1,8 +1,8 @@
 -- What is known of a line while names are still to come.
 use Rattle.std.specs.Prelude.{ℕ, ◌*◌, Bool, true, false, length, replicate}
 use Rattle.std.specs.List.{list_all}
-use Rattle.source_defs.specs.Expression.{Value, Absolute, Relocatable, External, characters}
-use Rattle.source_defs.specs.Growing as expressions
+use Rattle.expression_defs.specs.Expression.{Value, Absolute, Relocatable, External, characters}
+use Rattle.expression_defs.specs.Growing as expressions
 use Rattle.instruction_defs.specs.Growing as instructions
 use Rattle.asm_defs.specs.declared.causes.AsmCause.{AsmCause}
 use Rattle.asm_defs.specs.declared.causes.AsmCause.TheVariants.{Text, Expr, Form, DuplicateLabel, BadDirective}

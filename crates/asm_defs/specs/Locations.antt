@@ -1,8 +1,8 @@
 -- The locations of a module.
 use Rattle.std.specs.Prelude.{ℕ, ◌+◌, ◌%◌, Bool, nat_le, max, List, [], ◌∷◌}
-use Rattle.source_defs.specs.Expression.{Value, Absolute, Relocatable, to_word}
-use Rattle.source_defs.specs.Layout as layout
-use Rattle.source_defs.specs.Layout.{Laid}
+use Rattle.expression_defs.specs.Expression.{Value, Absolute, Relocatable, to_word}
+use Rattle.expression_defs.specs.Layout as layout
+use Rattle.expression_defs.specs.Layout.{Laid}
 use Rattle.asm_defs.specs.declared.location.Part.{Part}
 use Rattle.asm_defs.specs.declared.location.Part.TheVariants as part
 use Rattle.asm_defs.specs.declared.location.Location.{Location}

@@ -2,7 +2,7 @@
 use Rattle.std.specs.Prelude.{ℕ, ◌+◌, ◌-◌, ◌*◌, Bool, true, false, ◌&&◌, ◌||◌, nat_le, nat_lt, if◌then◌else◌, List}
 use Rattle.std.specs.Prelude.{[], ◌∷◌, ◌++◌, length, slice_get, map, Option, Some, None, zero, suc}
 use Rattle.std.specs.List.{flat_map}
-use Rattle.source_defs.specs.Expression.{Value, Absolute, Relocatable, External}
+use Rattle.expression_defs.specs.Expression.{Value, Absolute, Relocatable, External}
 use Rattle.object_defs.specs.declared.spot.Spot.{Spot}
 use Rattle.object_defs.specs.declared.spot.Spot.TheVariants as spot
 use Rattle.object_defs.specs.declared.spot.Piece.{Piece}

@@ -1,9 +1,10 @@
 -- The module of a source.
 use Rattle.std.specs.Prelude.{ℕ, nat_lt, if◌then◌else◌, List, [], ◌∷◌, map, Option, Some, None, Result, Ok, Err}
 use Rattle.source_defs.specs.Refusals.{Refusal, ◌>>=◌}
-use Rattle.source_defs.specs.Expression.{Value, Absolute, Relocatable}
-use Rattle.source_defs.specs.Symbols.{Names, look_up}
-use Rattle.source_defs.specs.Layout.{laid, settled, numbered, line_texts}
+use Rattle.expression_defs.specs.Expression.{Value, Absolute, Relocatable}
+use Rattle.expression_defs.specs.Symbols.{Names, look_up}
+use Rattle.source_defs.specs.Lines.{numbered, line_texts}
+use Rattle.expression_defs.specs.Layout.{laid, settled}
 use Rattle.object_defs.specs.declared.spot.Spot.{Spot}
 use Rattle.object_defs.specs.declared.spot.Spot.TheVariants as spot
 use Rattle.object_defs.specs.Digits.{padded}

@@ -3,10 +3,10 @@
 use Rattle.std.specs.Prelude.{ℕ, ◌==◌, Bool, false, if◌then◌else◌, List, [], ◌∷◌, Option, Some, Result, Ok, Err}
 use Rattle.source_defs.specs.Refusals.{◌>>=◌}
 use Rattle.source_defs.specs.ByteValues.{number_as_byte, numbers_as_bytes}
-use Rattle.source_defs.specs.declared.causes.ExprError.{ExprError}
-use Rattle.source_defs.specs.declared.causes.ExprError.TheVariants.{BadRelocation}
-use Rattle.source_defs.specs.Expression.{Value, Absolute, Relocatable, External, absolute, expression, known_value}
-use Rattle.source_defs.specs.Expression.{characters}
+use Rattle.expression_defs.specs.declared.causes.ExprError.{ExprError}
+use Rattle.expression_defs.specs.declared.causes.ExprError.TheVariants.{BadRelocation}
+use Rattle.expression_defs.specs.Expression.{Value, Absolute, Relocatable, External, absolute, expression, known_value}
+use Rattle.expression_defs.specs.Expression.{characters}
 use Rattle.object_defs.specs.declared.spot.Spot.{Spot}
 use Rattle.object_defs.specs.declared.spot.Spot.TheVariants as spot
 use Rattle.instruction_defs.specs.declared.causes.FormError.TheVariants.{BadOperand}

@@ -1,7 +1,8 @@
 //! Why a line of an assembler source is refused.
 
 use instruction_defs::FormError;
-use source_defs::{ExprError, TextError};
+use expression_defs::ExprError;
+use source_defs::TextError;
 
 /// Why a line of an assembler source is refused. No inner error is its `Memory`.
 #[derive(Clone, Copy, Debug, PartialEq, Eq)]

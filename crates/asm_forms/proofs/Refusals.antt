@@ -1,8 +1,8 @@
 -- What a refusal of an expression is in a line.
 use Rattle.std.proofs.Common.{Err, ap}
 use Rattle.std.specs.Prelude.{Result}
-use Rattle.source_defs.specs.declared.causes.ExprError.{ExprError}
-use Rattle.source_defs.specs.declared.causes.ExprError.TheVariants as expr
+use Rattle.expression_defs.specs.declared.causes.ExprError.{ExprError}
+use Rattle.expression_defs.specs.declared.causes.ExprError.TheVariants as expr
 use Rattle.instruction_defs.specs.SecondChecks.{as_form_error}
 use Rattle.asm_text.specs.Yielded.{Yields}
 use Rattle.asm_forms.specs.Answers.{Refuses, refused}

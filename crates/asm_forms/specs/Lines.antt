@@ -1,7 +1,7 @@
 -- The fields of a line, as an instruction line has them.
 use Rattle.std.specs.Prelude.{ℕ, List, [], Option, Some, None, Result}
 use Rattle.source_defs.specs.Refusals.{◌>>=◌}
-use Rattle.source_defs.specs.Expression.{Value}
+use Rattle.expression_defs.specs.Expression.{Value}
 use Rattle.instruction_defs.specs.declared.causes.FormError.{FormError}
 use Rattle.instruction_defs.specs.FirstChecks.{first_checks}
 use Rattle.instruction_defs.specs.SecondChecks.{second_checks}

@@ -2,7 +2,7 @@
 use Rattle.std.specs.Prelude.{List, ◌∷◌, map, Result, Ok, Err}
 use Rattle.source_defs.specs.Refusals.{◌>>=◌}
 use Rattle.instruction_defs.specs.declared.causes.FormError.{FormError}
-use Rattle.source_defs.specs.Expression as expression
+use Rattle.expression_defs.specs.Expression as expression
 use Rattle.tms_defs.specs.Instructions.{word_of}
 use Rattle.tms_defs.specs.declared.instruction.Operation.{Operation}
 use Rattle.instruction_defs.specs.SecondChecks.{Operand, EncodedOperand, all_ranged, instruction_of, all_following}

@@ -1,6 +1,6 @@
 -- The operands that the code values, as the definitions have them.
 use Rattle.std.specs.Prelude.{◌<◌, ⊤, List, Option, Result, Ok, Err}
-use Rattle.source_defs.specs.Expression as expression
+use Rattle.expression_defs.specs.Expression as expression
 use Rattle.std.specs.declared.option.Option.TheVariants as option
 use Rattle.asm_text.specs.declared.values.Value.{Value}
 use Rattle.asm_text.specs.GivenValues.{model_of_value}

@@ -3,7 +3,7 @@
 ghost use Rattle.std.specs.Prelude.{◌≡◌, ◌≤◌, ◌+◌, ◌++◌, ◌∷◌, [], length};
 ghost use Rattle.arrayvec.specs.ArrayVec.{array_vec_len};
 ghost use Rattle.tms_defs.specs.Instructions.{word_of as word_of_instr};
-ghost use Rattle.source_defs.specs.Expression.{Absolute};
+ghost use Rattle.expression_defs.specs.Expression.{Absolute};
 ghost use Rattle.asm_text.specs.GivenValues.{model_of_value};
 ghost use Rattle.instruction_defs.specs.SecondChecks as spec;
 ghost use Rattle.asm_forms.specs.Placed.{model_of_word, model_of_words, words_in, words_of, placed_of, placed_answer};

@@ -1,8 +1,8 @@
 //! The values of the operands of a line, from the left.
 
 ghost use Rattle.std.specs.Prelude.{◌≡◌, ◌≢◌, length, Err, IfErr};
-ghost use Rattle.source_defs.specs.Expression.{expression};
-ghost use Rattle.source_defs.specs.Symbols.{look_up};
+ghost use Rattle.expression_defs.specs.Expression.{expression};
+ghost use Rattle.expression_defs.specs.Symbols.{look_up};
 ghost use Rattle.asm_text.specs.GivenValues.{model_of_value, IsNotExternal};
 ghost use Rattle.instruction_defs.specs.SecondChecks as spec;
 ghost use Rattle.asm_forms.specs.Answers.{Gives};

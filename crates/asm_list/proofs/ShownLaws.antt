@@ -1,8 +1,8 @@
 -- What is shown of a line that places nothing.
 use Rattle.std.proofs.Common.{◌≡◌, [], false, Ok, Err, refl, sym, ap}
 use Rattle.std.specs.Prelude.{Option, Result}
-use Rattle.source_defs.specs.Symbols.{Names}
-use Rattle.source_defs.specs.declared.causes.ExprError.TheVariants as expr
+use Rattle.expression_defs.specs.Symbols.{Names}
+use Rattle.expression_defs.specs.declared.causes.ExprError.TheVariants as expr
 use Rattle.instruction_defs.specs.declared.causes.FormError.TheVariants as form
 use Rattle.asm_defs.specs.declared.causes.AsmCause.{AsmCause}
 use Rattle.asm_defs.specs.declared.causes.AsmCause.TheVariants as cause

@@ -4,8 +4,8 @@ use Rattle.std.specs.Prelude.{⊤, Result, map, if◌then◌else◌, nat_le, nat
 use Rattle.std.proofs.lemmas.Bool.Decides.{nat_tests}
 use Rattle.std.proofs.lemmas.Bool.{and_parts, or_parts, or_right}
 use Rattle.source_defs.specs.Refusals.{Refusal, at_line}
-use Rattle.source_defs.specs.Symbols.{Names, look_up}
-use Rattle.source_defs.specs.Layout.{settled}
+use Rattle.expression_defs.specs.Symbols.{Names, look_up}
+use Rattle.expression_defs.specs.Layout.{settled}
 use Rattle.object_defs.specs.Modules.{Module, Reference, most_words}
 use Rattle.asm_defs.specs.declared.causes.AsmCause.{AsmCause}
 use Rattle.asm_defs.specs.declared.causes.AsmCause.TheVariants.{Overflow, Overlap}

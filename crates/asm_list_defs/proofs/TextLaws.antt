@@ -2,12 +2,13 @@
 use Rattle.std.proofs.Common.{◌≡◌, ℕ, ◌+◌, Bool, true, false, List, [], ◌∷◌, ◌++◌, Some, None, Ok, Err, length, refl, sym, ap, subst, ◌∙◌, arith, append_assoc, append-nil}
 use Rattle.std.specs.Prelude.{Option, Result, map, if◌then◌else◌}
 use Rattle.source_defs.specs.Refusals.{Refusal, ◌>>=◌, at_line, unless}
-use Rattle.source_defs.specs.declared.causes.ExprError.{ExprError}
+use Rattle.expression_defs.specs.declared.causes.ExprError.{ExprError}
 use Rattle.source_defs.specs.declared.causes.TextError.{TextError}
-use Rattle.source_defs.specs.Expression.{Value}
+use Rattle.expression_defs.specs.Expression.{Value}
 use Rattle.source_defs.specs.Fields.{fields}
-use Rattle.source_defs.specs.Symbols.{Names}
-use Rattle.source_defs.specs.Layout.{laid, laid_behind, numbered}
+use Rattle.expression_defs.specs.Symbols.{Names}
+use Rattle.source_defs.specs.Lines.{numbered}
+use Rattle.expression_defs.specs.Layout.{laid, laid_behind}
 use Rattle.asm_defs.specs.declared.causes.AsmCause.{AsmCause}
 use Rattle.asm_defs.specs.declared.location.Location.{Location}
 use Rattle.asm_defs.specs.Statements.{Statement, Aorg, Rorg, Dorg, Bss, Bes, Equ, statement_in, as_text}

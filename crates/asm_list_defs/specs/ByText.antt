@@ -2,7 +2,7 @@
 use Rattle.std.specs.Prelude.{ℕ, List, [], ◌++◌, Option, Some, None, Result, Ok, Err}
 use Rattle.source_defs.specs.declared.causes.TextError.{TextError}
 use Rattle.source_defs.specs.Fields.{Fields, fields}
-use Rattle.source_defs.specs.Symbols.{Names, look_up}
+use Rattle.expression_defs.specs.Symbols.{Names, look_up}
 use Rattle.asm_defs.specs.declared.causes.AsmCause.{AsmCause}
 use Rattle.asm_defs.specs.declared.location.Location.{Location}
 use Rattle.asm_defs.specs.Statements.{Statement, Instruction, Even, Data, statement_in, parse_line}

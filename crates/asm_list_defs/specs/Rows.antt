@@ -10,7 +10,7 @@ use Rattle.std.specs.List.{flat_map, concat}
 use Rattle.std.specs.Fmt.{decimal}
 use Rattle.source_defs.specs.Digits.{byte_digits, word_digits, hex_word}
 use Rattle.source_defs.specs.Names.{same_text}
-use Rattle.source_defs.specs.Expression.{Value, Absolute, Relocatable, External, to_word}
+use Rattle.expression_defs.specs.Expression.{Value, Absolute, Relocatable, External, to_word}
 use Rattle.object_defs.specs.Digits.{padded}
 use Rattle.asm_defs.specs.declared.location.Location.{Location}
 use Rattle.asm_defs.specs.declared.location.Part.{Part}

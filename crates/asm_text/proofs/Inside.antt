@@ -1,9 +1,9 @@
 -- The tokens of a line lie inside it.
 use Rattle.std.proofs.Common.{◌≡◌, ℕ, ◌<◌, ◌≤◌, List, [], ◌∷◌, length, Ok, arith}
 use Rattle.std.specs.Prelude.{map}
-use Rattle.source_defs.specs.Tokens.{tokens}
-use Rattle.source_defs.specs.TokenLaw.{Follow}
-use Rattle.source_defs.proofs.TokenLaws.{tokens_follow}
+use Rattle.expression_defs.specs.Tokens.{tokens}
+use Rattle.expression_defs.specs.TokenLaw.{Follow}
+use Rattle.expression_defs.proofs.TokenLaws.{tokens_follow}
 use Rattle.asm_text.specs.declared.token.Token.{Token}
 use Rattle.asm_text.specs.GivenTokens.{model_of_token, TokensLieInside}
 

@@ -12,9 +12,9 @@ use Rattle.std.specs.FinMap.{get, get-from_entries, get-insert, get-remove, inse
 use Rattle.std.specs.BTreeMap.{BTreeMap, is_at}
 use Rattle.std.specs.BTreeMap as tree
 use Rattle.std.specs.Map.{lookup}
-use Rattle.source_defs.specs.Expression as defined
-use Rattle.source_defs.specs.Symbols.{registers}
-use Rattle.source_defs.proofs.SymbolLaws.{found}
+use Rattle.expression_defs.specs.Expression as defined
+use Rattle.expression_defs.specs.Symbols.{registers}
+use Rattle.expression_defs.proofs.SymbolLaws.{found}
 use Rattle.asm_text.specs.declared.values.Value.{Value}
 use Rattle.asm_text.specs.GivenValues.{model_of_value}
 use Rattle.std.proofs.lemmas.Bool.Decides.{nat_tests}

@@ -2,14 +2,14 @@
 use Rattle.std.proofs.Common.{◌≡◌, ℕ, zero, suc, ◌-◌, ◌<◌, true, false, List, [], ◌∷◌, length, Ok, Err, refl, sym, ap, ◌∙◌, arith}
 use Rattle.std.specs.Prelude.{Bool, nat_lt, Result, Option, if◌then◌else◌}
 use Rattle.std.proofs.lemmas.Bool.Decides.{nat_tests}
-use Rattle.source_defs.specs.declared.causes.ExprError.{ExprError}
-use Rattle.source_defs.specs.declared.causes.ExprError.TheVariants.{BadToken, UnknownName, BadRelocation, DivideByZero, TooLarge, Memory}
+use Rattle.expression_defs.specs.declared.causes.ExprError.{ExprError}
+use Rattle.expression_defs.specs.declared.causes.ExprError.TheVariants.{BadToken, UnknownName, BadRelocation, DivideByZero, TooLarge, Memory}
 use Rattle.source_defs.specs.Refusals.{◌>>=◌}
-use Rattle.source_defs.specs.Expression as defined
+use Rattle.expression_defs.specs.Expression as defined
 use Rattle.asm_text.specs.declared.values.Value.{Value}
 use Rattle.asm_text.specs.GivenValues.{model_of_value, model_of_value_answer}
 use Rattle.asm_text.specs.Yielded.{Yields}
-use Rattle.source_defs.specs.Tokens.{Token, Kind, Number, Name, Here, Text, Sign, token_at, tokens_from, tokens}
+use Rattle.expression_defs.specs.Tokens.{Token, Kind, Number, Name, Here, Text, Sign, token_at, tokens_from, tokens}
 use Rattle.source_defs.specs.Lines.{part}
 
 -- nothing is left at the end

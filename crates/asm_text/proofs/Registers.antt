@@ -9,13 +9,13 @@ use Rattle.std.proofs.lemmas.List.Folds.{list_all_at}
 use Rattle.source_defs.specs.Characters.{is_digit, is_letter, upper_case}
 use Rattle.source_defs.specs.Names.{is_letter_or_digit, all_letters_or_digits, is_name}
 use Rattle.source_defs.specs.Least.{IsLeastPlace}
-use Rattle.source_defs.specs.Tokens.{Token, Name, token_to, token_at, name_end, is_hexadecimal_sign}
-use Rattle.source_defs.specs.declared.causes.ExprError.{ExprError}
-use Rattle.source_defs.specs.declared.causes.ExprError.TheVariants.{BadToken}
-use Rattle.source_defs.specs.Expression as defined
-use Rattle.source_defs.specs.Symbols.{register_name, registers}
+use Rattle.expression_defs.specs.Tokens.{Token, Name, token_to, token_at, name_end, is_hexadecimal_sign}
+use Rattle.expression_defs.specs.declared.causes.ExprError.{ExprError}
+use Rattle.expression_defs.specs.declared.causes.ExprError.TheVariants.{BadToken}
+use Rattle.expression_defs.specs.Expression as defined
+use Rattle.expression_defs.specs.Symbols.{register_name, registers}
 use Rattle.source_defs.proofs.LeastLaws.{least_places_are_least}
-use Rattle.source_defs.proofs.SymbolLaws.{found}
+use Rattle.expression_defs.proofs.SymbolLaws.{found}
 use Rattle.asm_text.specs.declared.values.Value.{Value}
 use Rattle.asm_text.specs.Kept.{names_of}
 use Rattle.asm_text.proofs.OneToken.{value_is}

@@ -1,7 +1,7 @@
 -- What `value` gives, in the terms of the definitions.
 use Rattle.std.specs.Prelude.{⊤, Result, Ok, Err}
-use Rattle.source_defs.specs.declared.causes.ExprError.{ExprError}
-use Rattle.source_defs.specs.Expression as defined
+use Rattle.expression_defs.specs.declared.causes.ExprError.{ExprError}
+use Rattle.expression_defs.specs.Expression as defined
 use Rattle.asm_text.specs.declared.values.Value.{Value}
 use Rattle.asm_text.specs.declared.values.Value.TheVariants.{Absolute, Relocatable, External}
 

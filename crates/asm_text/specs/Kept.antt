@@ -1,7 +1,7 @@
 -- The names that `Symbols` keeps.
 use Rattle.std.specs.Prelude.{ℕ, Bool, false, ◌==◌, List, [], ◌∷◌, ◌++◌, map}
 use Rattle.std.specs.FinMap.{from_entries}
-use Rattle.source_defs.specs.Symbols.{Names, registers}
+use Rattle.expression_defs.specs.Symbols.{Names, registers}
 use Rattle.asm_text.specs.declared.values.Value.{Value}
 use Rattle.asm_text.specs.GivenValues.{model_of_value}
 

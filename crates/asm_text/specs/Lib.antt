@@ -6,14 +6,14 @@ pub use Rattle.source_defs.specs.Names
 pub use Rattle.source_defs.specs.Numbers
 pub use Rattle.source_defs.specs.Fields
 pub use Rattle.source_defs.specs.FieldLaw
-pub use Rattle.source_defs.specs.Tokens
-pub use Rattle.source_defs.specs.TokenLaw
+pub use Rattle.expression_defs.specs.Tokens
+pub use Rattle.expression_defs.specs.TokenLaw
 pub use Rattle.source_defs.specs.Refusals
 pub use Rattle.source_defs.specs.Operands
 pub use Rattle.source_defs.specs.OperandLists
 pub use Rattle.source_defs.specs.QuotedTexts
 pub mod GivenFields
-pub use Rattle.source_defs.specs.Expression
+pub use Rattle.expression_defs.specs.Expression
 pub mod GivenTokens
 pub mod GivenValues
 pub mod Yielded

@@ -1,7 +1,7 @@
 -- What calls that value an expression answer.
 use Rattle.std.specs.Prelude.{◌≡◌, ⊤, Result, Ok, Err}
-use Rattle.source_defs.specs.declared.causes.ExprError.{ExprError}
-use Rattle.source_defs.specs.declared.causes.ExprError.TheVariants.{Memory}
+use Rattle.expression_defs.specs.declared.causes.ExprError.{ExprError}
+use Rattle.expression_defs.specs.declared.causes.ExprError.TheVariants.{Memory}
 
 -- the value of an expression, as the definitions have it; or memory ran out
 abbrev pub Yields : {A B : Type 0} → (A → B) → Result A ExprError → Result B ExprError → Type 0

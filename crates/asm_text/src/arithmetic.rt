@@ -1,11 +1,11 @@
 //! How values are joined.
 
 ghost use Rattle.std.specs.Prelude.{◌≡◌, ◌≢◌, ◌≤◌};
-ghost use Rattle.source_defs.specs.Expression as spec;
+ghost use Rattle.expression_defs.specs.Expression as spec;
 ghost use Rattle.asm_text.specs.GivenValues.{model_of_value, model_of_value_answer};
 
 use crate::values::Value;
-use source_defs::ExprError;
+use expression_defs::ExprError;
 
 /// Two values, joined by an operator. Anything but `+`, `-` and `*` divides.
 pub(crate) fn joined(operator: u8, a: Value, b: Value) -> Result<Value, ExprError>

@@ -3,9 +3,9 @@
 ghost use Rattle.std.specs.Prelude.{◌≡◌};
 ghost use Rattle.std.specs.Option.{option_map};
 ghost use Rattle.source_defs.specs.Lines.{IsInside};
-ghost use Rattle.source_defs.specs.Expression as spec;
-ghost use Rattle.source_defs.specs.Symbols.{look_up};
-ghost use Rattle.source_defs.proofs.CharacterLaws.{first_character};
+ghost use Rattle.expression_defs.specs.Expression as spec;
+ghost use Rattle.expression_defs.specs.Symbols.{look_up};
+ghost use Rattle.expression_defs.proofs.CharacterLaws.{first_character};
 ghost use Rattle.asm_text.specs.GivenTokens.{model_of_token};
 ghost use Rattle.asm_text.specs.GivenValues.{model_of_value, model_of_value_answer};
 
@@ -14,7 +14,7 @@ use crate::quoted_texts::between_quotes;
 use crate::symbols::Symbols;
 use crate::token::{Token, TokenKind};
 use crate::values::Value;
-use source_defs::ExprError;
+use expression_defs::ExprError;
 
 /// The first character of a text, where two quotes are one, and what stands after it.
 fn first_character(text: &[u8]) -> Option<(u8, &[u8])>

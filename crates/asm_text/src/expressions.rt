@@ -1,7 +1,7 @@
 //! The value of an expression.
 
-ghost use Rattle.source_defs.specs.Expression.{expression};
-ghost use Rattle.source_defs.specs.Symbols.{look_up};
+ghost use Rattle.expression_defs.specs.Expression.{expression};
+ghost use Rattle.expression_defs.specs.Symbols.{look_up};
 ghost use Rattle.asm_text.specs.GivenValues.{model_of_value, IsNotExternal};
 ghost use Rattle.asm_text.specs.Yielded.{Yields};
 
@@ -10,7 +10,7 @@ use crate::fold::value;
 use crate::scan::{token_at, tokens};
 use crate::symbols::Symbols;
 use crate::values::Value;
-use source_defs::ExprError;
+use expression_defs::ExprError;
 use std::alloc::Global;
 
 /// The value of a text: its tokens first, then its terms. `$` stands for `here`.

@@ -2,9 +2,9 @@
 
 ghost use Rattle.std.specs.Prelude.{◌≡◌, ◌≢◌, ◌≤◌, ◌<◌, ◌∷◌, length, map, Ok, Err, IfSome};
 ghost use Rattle.std.specs.Option.{IfNone};
-ghost use Rattle.source_defs.specs.Tokens as scanned;
-ghost use Rattle.source_defs.specs.Expression as spec;
-ghost use Rattle.source_defs.specs.Symbols.{look_up};
+ghost use Rattle.expression_defs.specs.Tokens as scanned;
+ghost use Rattle.expression_defs.specs.Expression as spec;
+ghost use Rattle.expression_defs.specs.Symbols.{look_up};
 ghost use Rattle.asm_text.specs.GivenTokens.{model_of_kind, model_of_token, TokensLieInside};
 ghost use Rattle.asm_text.specs.GivenValues.{model_of_value, model_of_value_answer, IsNotExternal};
 
@@ -13,7 +13,7 @@ use crate::evaluate::term_value;
 use crate::symbols::Symbols;
 use crate::token::{Token, TokenKind};
 use crate::values::Value;
-use source_defs::ExprError;
+use expression_defs::ExprError;
 
 /// The value of the tokens of a line: an optional minus sign and a term, then operators with terms, from left to right
 /// without precedence (Editor/Assembler manual, "Expressions"). `$` stands for `here`. It takes no memory.

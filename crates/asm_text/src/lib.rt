@@ -49,4 +49,5 @@ pub use crate::text::{lines, part};
 pub use crate::token::{Token, TokenKind};
 pub use crate::values::Value;
 pub use crate::words::{is_name, is_word, named_in, word_key};
-pub use source_defs::{ExprError, Line, OperandError, Span, TextError};
+pub use expression_defs::ExprError;
+pub use source_defs::{Line, OperandError, Span, TextError};

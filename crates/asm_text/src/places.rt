@@ -5,7 +5,7 @@ ghost use Rattle.std.specs.Simd.Lanes.{chunk, mask_l};
 ghost use Rattle.source_defs.specs.Characters.{is_line_feed};
 ghost use Rattle.source_defs.specs.Fields as spec;
 ghost use Rattle.source_defs.specs.Fields.{in_quotes};
-ghost use Rattle.source_defs.specs.Tokens as tokens;
+ghost use Rattle.expression_defs.specs.Tokens as tokens;
 ghost use Rattle.source_defs.specs.Least.{least_place};
 ghost use Rattle.source_defs.specs.Lines.{feed_place};
 

@@ -3,7 +3,7 @@
 ghost use Rattle.std.specs.Prelude.{◌≡◌, ◌≤◌, false, length, IfOk};
 ghost use Rattle.source_defs.specs.Refusals.{map_ok};
 ghost use Rattle.source_defs.specs.QuotedTexts as spec;
-ghost use Rattle.source_defs.specs.Expression as expressions;
+ghost use Rattle.expression_defs.specs.Expression as expressions;
 
 use crate::characters::is_quote;
 use source_defs::OperandError;

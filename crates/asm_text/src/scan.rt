@@ -2,8 +2,8 @@
 
 ghost use Rattle.std.specs.Prelude.{◌≡◌, ◌≢◌, ◌≤◌, ◌<◌, ◌+◌, ◌-◌, ◌++◌, ◌∷◌, [], length, map, Ok, Err, IfOk, OnOk};
 ghost use Rattle.std.specs.Prelude.{IfErr};
-ghost use Rattle.source_defs.specs.Tokens as spec;
-ghost use Rattle.source_defs.specs.TokenLaw.{Follow};
+ghost use Rattle.expression_defs.specs.Tokens as spec;
+ghost use Rattle.expression_defs.specs.TokenLaw.{Follow};
 ghost use Rattle.asm_text.specs.GivenTokens.{model_of_kind, model_of_token, model_of_token_answer};
 
 use crate::characters::{is_letter, is_quote};
@@ -11,7 +11,8 @@ use crate::numbers::{decimal_up_to, hexadecimal_number};
 use crate::places::{digits_end, hexadecimal_end, name_end, text_end};
 use crate::split::upper_case_name;
 use crate::token::{Token, TokenKind};
-use source_defs::{ExprError, Span};
+use expression_defs::ExprError;
+use source_defs::Span;
 use std::alloc::Global;
 
 /// The tokens of a text, one after the other: numbers, names of at most six characters, `$`, quoted texts and the

@@ -7,9 +7,9 @@ ghost use Rattle.std.specs.Ordering.{nat_cmp};
 ghost use Rattle.std.specs.Cmp.Lexicographic.{pointwise, slice_cmp};
 ghost use Rattle.std.specs.FinMap.{insert, get, find, remove};
 ghost use Rattle.std.specs.Option.{option_map};
-ghost use Rattle.source_defs.specs.Symbols as spec;
-ghost use Rattle.source_defs.specs.Expression.{Absolute, expression};
-ghost use Rattle.source_defs.specs.Expression as values;
+ghost use Rattle.expression_defs.specs.Symbols as spec;
+ghost use Rattle.expression_defs.specs.Expression.{Absolute, expression};
+ghost use Rattle.expression_defs.specs.Expression as values;
 ghost use Rattle.source_defs.specs.Characters.{upper_case};
 ghost use Rattle.source_defs.specs.Names.{is_name};
 ghost use Rattle.asm_text.specs.GivenValues.{model_of_value};
@@ -43,7 +43,7 @@ pub struct Symbols {
 impl Model for Symbols {
     ghost use Rattle.std.specs.FinMap.{code};
     ghost use Rattle.std.specs.Coded.{coded_list, coded_ℕ};
-    ghost use Rattle.source_defs.specs.Symbols.{Names, value_code};
+    ghost use Rattle.expression_defs.specs.Symbols.{Names, value_code};
     ghost use Rattle.asm_text.specs.Kept.{names_of};
 
     ghost Value = { Names };

@@ -4,7 +4,8 @@ use Rattle.std.specs.Prelude.{Option, Ok, nat_lt, nat_le}
 use Rattle.std.specs.Option.{ok_or}
 use Rattle.std.proofs.lemmas.Bool.Decides.{nat_tests}
 use Rattle.source_defs.specs.Refusals.{◌>>=◌, unless}
-use Rattle.source_defs.specs.Layout.{laid, numbered, line_texts}
+use Rattle.source_defs.specs.Lines.{numbered, line_texts}
+use Rattle.expression_defs.specs.Layout.{laid}
 use Rattle.asm_defs.specs.Locations.{Line}
 use Rattle.asm_defs.specs.FirstChecks.{check}
 use Rattle.shelf_defs.specs.Files.{Contents}

@@ -4,7 +4,8 @@ use Rattle.std.specs.Prelude.{Result, IfErr}
 use Rattle.std.proofs.Math.Seq.{take-length, take-append_seam}
 use Rattle.std.proofs.lemmas.List.{length-map, map-append}
 use Rattle.source_defs.specs.Refusals.{Refusal, ◌>>=◌}
-use Rattle.source_defs.specs.Layout.{laid, numbered, settled}
+use Rattle.source_defs.specs.Lines.{numbered}
+use Rattle.expression_defs.specs.Layout.{laid, settled}
 use Rattle.object_defs.specs.Modules as object
 use Rattle.asm_defs.specs.declared.causes.AsmCause.{AsmCause}
 use Rattle.asm_defs.specs.Locations.{Line}

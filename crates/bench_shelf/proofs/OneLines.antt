@@ -6,9 +6,8 @@ use Rattle.std.specs.Option.{ok_or}
 use Rattle.std.specs.List.{AllByRecursion}
 use Rattle.source_defs.specs.declared.text.Line.{Line as TextLine}
 use Rattle.source_defs.specs.Characters.{is_line_feed}
-use Rattle.source_defs.specs.Lines.{part, lines}
+use Rattle.source_defs.specs.Lines.{part, lines, line_texts}
 use Rattle.source_defs.specs.LineLaw.{IsLine}
-use Rattle.source_defs.specs.Layout.{line_texts}
 use Rattle.source_defs.proofs.LineLaws.{lines_are_lines}
 use Rattle.source_defs.specs.EndedLines.{IsOneLine}
 use Rattle.shelf_defs.specs.CopyLines.{LineKind, Itself, File, Bad, asked}

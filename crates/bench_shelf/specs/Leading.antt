@@ -7,7 +7,8 @@ use Rattle.shelf_defs.specs.Copied.{PlacedLine, Ending, Open, Ended, Refused, Co
 use Rattle.shelf_defs.specs.Assembly.{texts, places, laid_copied}
 use Rattle.shelf_defs.specs.Questions.{Answer, Bytes, Unanswered, Question, Agrees, InTurn, EndsWith}
 use Rattle.source_defs.specs.Refusals.{Refusal}
-use Rattle.source_defs.specs.Layout.{laid, numbered}
+use Rattle.source_defs.specs.Lines.{numbered}
+use Rattle.expression_defs.specs.Layout.{laid}
 use Rattle.asm_defs.specs.declared.causes.AsmCause.{AsmCause}
 use Rattle.asm_defs.specs.FirstChecks.{check}
 use Rattle.asm_core.specs.Building.{HasAccepted, IsOpen}

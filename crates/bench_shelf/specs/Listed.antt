@@ -1,7 +1,7 @@
 -- The lines of a source with the files that it copies, as a listing needs them, by the answers of a shelf.
 use Rattle.std.specs.Prelude.{◌≡◌, ⊤, ℕ, List, length, map, Option, Some, Result, Ok, Err}
 use Rattle.std.proofs.Common.{Vec, Global}
-use Rattle.source_defs.specs.Layout.{settled}
+use Rattle.expression_defs.specs.Layout.{settled}
 use Rattle.asm_defs.specs.declared.causes.AsmCause.{AsmCause}
 use Rattle.asm_defs.specs.Locations.{Line}
 use Rattle.asm_defs.specs.FirstChecks.{names}

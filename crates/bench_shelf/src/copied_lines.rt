@@ -1,7 +1,7 @@
 //! Lines with the lines of the files that they copy.
 
 ghost use Rattle.std.specs.Prelude.{◌≡◌, ◌≤◌, OnOk, IfErr, length, is_some};
-ghost use Rattle.source_defs.specs.Layout.{line_texts};
+ghost use Rattle.source_defs.specs.Lines.{line_texts};
 ghost use Rattle.shelf_defs.specs.Copied as spec;
 ghost use Rattle.shelf_defs.specs.Copied.{most_bytes, most_copies};
 ghost use Rattle.asm_core.specs.Building.{IsOpen};

@@ -9,7 +9,7 @@ use Rattle.asm_defs.specs.FirstChecks.{names}
 use Rattle.asm_defs.specs.Memory.{Settled}
 use Rattle.asm_defs.specs.Modules as modules
 use Rattle.asm_defs.specs.Modules.{settle, module_behind}
-use Rattle.source_defs.specs.Layout.{settled}
+use Rattle.expression_defs.specs.Layout.{settled}
 use Rattle.shelf_defs.specs.Files.{Files, of_files}
 use Rattle.shelf_defs.specs.Copied.{PlacedLine, CopyRefusal, At, TooLarge, copied}
 use Rattle.shelf_defs.specs.Assembly.{in_place, laid_copied, module_of_files}

@@ -4,7 +4,7 @@ use Rattle.std.proofs.lemmas.List.{append-nil}
 use Rattle.std.proofs.lemmas.Bool.Decides.{nat_tests}
 use Rattle.source_defs.specs.Refusals.{◌>>=◌}
 use Rattle.source_defs.specs.Fields.{fields, no_fields}
-use Rattle.source_defs.specs.Symbols.{Names}
+use Rattle.expression_defs.specs.Symbols.{Names}
 use Rattle.gpl_source_defs.specs.declared.location.Location.{Location}
 use Rattle.gpl_source_defs.specs.Statements.{Nothing}
 use Rattle.gpl_source_defs.specs.Locations.{Line, location, IsInGrom}

@@ -2,7 +2,7 @@
 use Rattle.std.proofs.Common.{◌≡◌, List, [], ◌∷◌, ◌++◌, Ok, Err, refl}
 use Rattle.std.specs.Prelude.{Result}
 use Rattle.source_defs.specs.Refusals.{Refusal, ◌>>=◌}
-use Rattle.source_defs.specs.Symbols.{Names}
+use Rattle.expression_defs.specs.Symbols.{Names}
 use Rattle.gpl_source_defs.specs.declared.causes.GplCause.{GplCause}
 use Rattle.gpl_asm.specs.declared.pending.Pending.{Pending}
 use Rattle.gpl_asm.specs.Replay.{Built, step, replay}

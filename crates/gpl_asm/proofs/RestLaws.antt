@@ -1,8 +1,8 @@
 -- What is left of a line.
 use Rattle.std.proofs.Common.{◌≡◌, ℕ, true, List, Ok, ap, ◌∙◌}
 use Rattle.source_defs.specs.Refusals.{◌>>=◌}
-use Rattle.source_defs.specs.Symbols.{Names, look_up}
-use Rattle.source_defs.specs.Growing.{Grows, is_closed}
+use Rattle.expression_defs.specs.Symbols.{Names, look_up}
+use Rattle.expression_defs.specs.Growing.{Grows, is_closed}
 use Rattle.gpl_source_defs.specs.declared.location.Location.{Location}
 use Rattle.gpl_source_defs.specs.Statements.{Statement}
 use Rattle.gpl_source_defs.specs.FirstChecks.{parsed}

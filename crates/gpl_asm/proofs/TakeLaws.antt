@@ -5,11 +5,11 @@ use Rattle.std.proofs.lemmas.Bool.Decides.{nat_tests}
 use Rattle.std.specs.List.{AllByRecursion}
 use Rattle.std.specs.FinMap.{get}
 use Rattle.source_defs.specs.Refusals.{Refusal, ◌>>=◌, at_line}
-use Rattle.source_defs.specs.Expression.{Absolute}
-use Rattle.source_defs.specs.Symbols.{Names, look_up}
-use Rattle.source_defs.specs.Growing.{Grows}
-use Rattle.source_defs.specs.Layout.{with_names, set_or}
-use Rattle.source_defs.proofs.DefinedNames.{grown, grown_on, grown_not}
+use Rattle.expression_defs.specs.Expression.{Absolute}
+use Rattle.expression_defs.specs.Symbols.{Names, look_up}
+use Rattle.expression_defs.specs.Growing.{Grows}
+use Rattle.expression_defs.specs.Layout.{with_names, set_or}
+use Rattle.expression_defs.proofs.DefinedNames.{grown, grown_on, grown_not}
 use Rattle.gpl_source_defs.specs.declared.causes.GplCause.{GplCause}
 use Rattle.gpl_source_defs.specs.declared.location.Location.{Location}
 use Rattle.gpl_source_defs.specs.Statements.{Statement, declared_size}

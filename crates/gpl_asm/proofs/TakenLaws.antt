@@ -2,8 +2,9 @@
 use Rattle.std.proofs.Common.{◌≡◌, ℕ, ◌+◌, false, List, [], ◌∷◌, ◌++◌, Ok, Err, length, sym, ap, ◌∙◌, arith, length-append}
 use Rattle.std.specs.Prelude.{Result}
 use Rattle.source_defs.specs.Refusals.{◌>>=◌, at_line}
-use Rattle.source_defs.specs.Layout.{laid, numbered, has_ended}
-use Rattle.source_defs.proofs.LaidLaws.{last_line, laid_more}
+use Rattle.source_defs.specs.Lines.{numbered}
+use Rattle.expression_defs.specs.Layout.{laid, has_ended}
+use Rattle.expression_defs.proofs.LaidLaws.{last_line, laid_more}
 use Rattle.gpl_source_defs.specs.FirstChecks.{check}
 use Rattle.gpl_asm.specs.Building.{Takes, HasAccepted}
 use Rattle.gpl_asm.specs.Finishing.{AcceptsText}

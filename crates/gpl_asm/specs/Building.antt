@@ -2,9 +2,10 @@
 use Rattle.std.specs.Prelude.{◌≡◌, ℕ, ◌+◌, List, ◌∷◌, length, Result, Ok, Err, ◌<◌, ◌≤◌, ◌-◌, ◌^◌, IsFalse}
 use Rattle.std.specs.List.{AllByRecursion}
 use Rattle.source_defs.specs.Refusals.{Refusal, ◌>>=◌}
-use Rattle.source_defs.specs.Symbols.{Names}
-use Rattle.source_defs.specs.Growing.{Grows}
-use Rattle.source_defs.specs.Layout.{laid, numbered, settled, has_ended}
+use Rattle.expression_defs.specs.Symbols.{Names}
+use Rattle.expression_defs.specs.Growing.{Grows}
+use Rattle.source_defs.specs.Lines.{numbered}
+use Rattle.expression_defs.specs.Layout.{laid, settled, has_ended}
 use Rattle.gpl_source_defs.specs.declared.causes.GplCause.{GplCause}
 use Rattle.gpl_source_defs.specs.Locations.{Line, location, place}
 use Rattle.gpl_source_defs.specs.FirstChecks.{names, check, label_entry}

@@ -3,7 +3,7 @@ use Rattle.std.specs.Prelude.{◌≡◌, ⊤, ℕ, ◌+◌, ◌≤◌, if◌then
 use Rattle.std.specs.Prelude.{Err}
 use Rattle.std.specs.FinMap.{empty}
 use Rattle.source_defs.specs.Refusals.{Refusal, ◌>>=◌, at_line}
-use Rattle.source_defs.specs.Symbols.{Names, look_up}
+use Rattle.expression_defs.specs.Symbols.{Names, look_up}
 use Rattle.gpl_defs.specs.Image.{Image, placed}
 use Rattle.gpl_source_defs.specs.declared.causes.GplCause.{GplCause}
 use Rattle.gpl_source_defs.specs.declared.causes.GplCause.TheVariants.{Overlap}

@@ -1,7 +1,7 @@
 //! The calls of a builder.
 
 ghost use Rattle.std.specs.Prelude.{◌≡◌, ◌↔◌, ◌<◌, ◌≤◌, ◌-◌, ◌^◌, ℕ, false, List, [], length, IfOk, OnOk, IsFalse};
-ghost use Rattle.source_defs.specs.Layout.{has_ended};
+ghost use Rattle.expression_defs.specs.Layout.{has_ended};
 ghost use Rattle.std.specs.List.{AllByRecursion};
 ghost use Rattle.source_defs.specs.EndedLines.{IsOneLine, text_of};
 ghost use Rattle.gpl_source_defs.specs.Programs.{program_of_lines, program_of_source};

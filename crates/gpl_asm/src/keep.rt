@@ -1,9 +1,9 @@
 //! The first pass over a line, and how a builder keeps it.
 
 ghost use Rattle.std.specs.Prelude.{◌≡◌, ◌<◌, ◌+◌, ◌-◌, ◌^◌, ◌++◌, Ok, ℕ, OnOk, OnErr, IfOk};
-ghost use Rattle.source_defs.specs.Layout.{with_names};
-ghost use Rattle.source_defs.specs.Symbols.{Names, look_up};
-ghost use Rattle.source_defs.specs.Growing.{Grows};
+ghost use Rattle.expression_defs.specs.Layout.{with_names};
+ghost use Rattle.expression_defs.specs.Symbols.{Names, look_up};
+ghost use Rattle.expression_defs.specs.Growing.{Grows};
 ghost use Rattle.gpl_source_defs.specs.FirstChecks.{label_entry, parsed};
 ghost use Rattle.gpl_source_defs.specs.declared.location.Location.{Location};
 ghost use Rattle.gpl_source_defs.specs.SecondChecks.{Bytes, outcome};

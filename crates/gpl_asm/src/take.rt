@@ -1,7 +1,7 @@
 //! A line that a builder takes.
 
 ghost use Rattle.std.specs.Prelude.{◌≡◌, ◌<◌, ◌≤◌, ◌+◌, ◌-◌, ◌^◌, ◌||◌, List, None, OnOk, length};
-ghost use Rattle.source_defs.specs.Layout.{set_or};
+ghost use Rattle.expression_defs.specs.Layout.{set_or};
 ghost use Rattle.gpl_source_defs.specs.Locations.{Line, behind, IsInGrom};
 ghost use Rattle.gpl_source_defs.specs.FirstChecks.{is_end};
 ghost use Rattle.gpl_lines.specs.Defined.{model_of_statement};

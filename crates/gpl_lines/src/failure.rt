@@ -6,7 +6,8 @@ ghost use Rattle.gpl_lines.specs.Answers.{expr_failure};
 ghost use Rattle.gpl_lines.specs.declared.failure.Failure.TheVariants.{Refused, Memory};
 
 use gpl_source_defs::GplCause;
-use source_defs::{ExprError, OperandError};
+use expression_defs::ExprError;
+use source_defs::OperandError;
 use std::alloc::AllocError;
 
 /// Why a line is not taken.

@@ -1,7 +1,7 @@
 //! The first checks of a line.
 
 ghost use Rattle.std.specs.Prelude.{◌≡◌, ◌≤◌, IfOk, IfSome, length};
-ghost use Rattle.source_defs.specs.Symbols.{look_up};
+ghost use Rattle.expression_defs.specs.Symbols.{look_up};
 ghost use Rattle.gpl_source_defs.specs.Locations as places;
 ghost use Rattle.gpl_source_defs.specs.FirstChecks as spec;
 ghost use Rattle.gpl_source_defs.specs.Statements.{declared_size};

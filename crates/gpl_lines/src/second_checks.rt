@@ -5,7 +5,7 @@ ghost use Rattle.std.specs.List.{flat_map};
 ghost use Rattle.gpl_defs.specs.Bytes.{word_bytes};
 ghost use Rattle.gpl_defs.specs.Valid.{is_valid};
 ghost use Rattle.gpl_defs.specs.declared.instruction.GplInstr.TheVariants as instr;
-ghost use Rattle.source_defs.specs.Symbols.{look_up};
+ghost use Rattle.expression_defs.specs.Symbols.{look_up};
 ghost use Rattle.gpl_source_defs.specs.SecondChecks as spec;
 ghost use Rattle.gpl_source_defs.specs.Values as values;
 ghost use Rattle.gpl_lines.specs.Answers.{Gives};

@@ -3,7 +3,7 @@
 ghost use Rattle.std.specs.Prelude.{◌≡◌, IsTrue, IfOk, IfErr};
 ghost use Rattle.source_defs.specs.Operands.{operand_texts};
 ghost use Rattle.source_defs.specs.Refusals.{map_ok};
-ghost use Rattle.source_defs.specs.Symbols.{look_up};
+ghost use Rattle.expression_defs.specs.Symbols.{look_up};
 ghost use Rattle.gpl_source_defs.specs.Locations.{address_of};
 ghost use Rattle.gpl_source_defs.specs.Skeletons as spec;
 ghost use Rattle.gpl_lines.specs.Answers.{Gives, NoMemory};

@@ -3,7 +3,7 @@
 ghost use Rattle.std.specs.Prelude.{◌≡◌, ◌≤◌, length, IfOk, IsTrue};
 ghost use Rattle.asm_text.specs.GivenFields.{model_of_fields, FieldsLieInside};
 ghost use Rattle.source_defs.specs.Operands.{operand_texts};
-ghost use Rattle.source_defs.specs.Symbols.{look_up};
+ghost use Rattle.expression_defs.specs.Symbols.{look_up};
 ghost use Rattle.gpl_source_defs.specs.Locations.{address_of};
 ghost use Rattle.gpl_source_defs.specs.Mnemonics.{mnemonic};
 ghost use Rattle.gpl_source_defs.specs.Statements as spec;

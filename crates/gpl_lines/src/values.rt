@@ -3,7 +3,7 @@
 ghost use Rattle.std.specs.Prelude.{◌≡◌, IfErr, IfOk};
 ghost use Rattle.std.specs.Option.{option_map};
 ghost use Rattle.source_defs.specs.Operands.{operand_texts};
-ghost use Rattle.source_defs.specs.Symbols.{look_up};
+ghost use Rattle.expression_defs.specs.Symbols.{look_up};
 ghost use Rattle.gpl_source_defs.specs.Locations.{address_of};
 ghost use Rattle.gpl_source_defs.specs.Values as spec;
 ghost use Rattle.gpl_lines.specs.Answers.{Gives};
@@ -15,7 +15,7 @@ use crate::numbers::{held_address, index_of};
 use asm_text::{Symbols, Value, expression_value, operands};
 use gpl_defs::GplOperand;
 use gpl_source_defs::{GplCause, Location};
-use source_defs::ExprError;
+use expression_defs::ExprError;
 use std::alloc::Global;
 
 /// The names that a line sees, and its place.

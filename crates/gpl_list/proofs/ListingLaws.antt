@@ -1,9 +1,9 @@
 -- Listings of lines that were read.
 use Rattle.std.proofs.Common.{◌≡◌, ℕ, List, [], ◌∷◌, ◌++◌, Ok, Err, map, refl, sym, ap, subst, ◌∙◌, append_assoc, append-nil}
 use Rattle.source_defs.specs.Refusals.{Refusal}
-use Rattle.source_defs.specs.Symbols.{Names}
-use Rattle.source_defs.specs.Layout.{laid, settled}
-use Rattle.source_defs.proofs.DefinedNames.{grown_not}
+use Rattle.expression_defs.specs.Symbols.{Names}
+use Rattle.expression_defs.specs.Layout.{laid, settled}
+use Rattle.expression_defs.proofs.DefinedNames.{grown_not}
 use Rattle.gpl_source_defs.specs.declared.causes.GplCause.{GplCause}
 use Rattle.gpl_source_defs.specs.Locations.{Line}
 use Rattle.gpl_source_defs.specs.FirstChecks.{check, names}

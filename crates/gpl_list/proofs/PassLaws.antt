@@ -3,10 +3,10 @@ use Rattle.std.proofs.Common.{◌≡◌, ℕ, suc, ◌+◌, ◌-◌, List, [], �
 use Rattle.std.specs.Prelude.{Result, ◌==◌, if◌then◌else◌}
 use Rattle.std.proofs.lemmas.Bool.Decides.{nat_tests}
 use Rattle.source_defs.specs.declared.text.Line.{Line as TextLine}
-use Rattle.source_defs.specs.Lines.{part, lines}
+use Rattle.source_defs.specs.Lines.{part, lines, numbered, line_texts}
 use Rattle.source_defs.specs.Refusals.{Refusal, ◌>>=◌, at_line}
-use Rattle.source_defs.specs.Layout.{laid, laid_behind, numbered, line_texts, has_ended}
-use Rattle.source_defs.proofs.LaidLaws.{texts_of, laid_more, goes_on, ends_there, refused_there, first_of_two, none_of_two}
+use Rattle.expression_defs.specs.Layout.{laid, laid_behind, has_ended}
+use Rattle.expression_defs.proofs.LaidLaws.{texts_of, laid_more, goes_on, ends_there, refused_there, first_of_two, none_of_two}
 use Rattle.gpl_source_defs.specs.declared.causes.GplCause.{GplCause}
 use Rattle.gpl_source_defs.specs.Locations.{Line}
 use Rattle.gpl_source_defs.specs.FirstChecks.{check}

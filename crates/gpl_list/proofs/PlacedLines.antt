@@ -2,7 +2,7 @@
 use Rattle.std.proofs.Common.{◌≡◌, ℕ, ◌+◌, ◌≤◌, Bool, true, false, List, ◌∷◌, Option, None, Ok, Err, length, refl, sym, ap, ◌∙◌, subst, arith}
 use Rattle.std.specs.Prelude.{Result, if◌then◌else◌}
 use Rattle.source_defs.specs.Refusals.{◌>>=◌}
-use Rattle.source_defs.specs.Symbols.{Names, look_up}
+use Rattle.expression_defs.specs.Symbols.{Names, look_up}
 use Rattle.gpl_defs.specs.Image.{Image, placed}
 use Rattle.gpl_source_defs.specs.declared.causes.GplCause.{GplCause}
 use Rattle.gpl_source_defs.specs.declared.causes.GplCause.TheVariants.{Overlap}

@@ -1,10 +1,10 @@
 -- Lines that are read one after the other.
 use Rattle.std.proofs.Common.{◌≡◌, ℕ, ◌+◌, List, [], ◌∷◌, ◌++◌, length, map, refl, sym, ap, subst, ◌∙◌}
 use Rattle.std.specs.Prelude.{Ok}
-use Rattle.source_defs.specs.Expression.{Value}
-use Rattle.source_defs.specs.Symbols.{Names}
-use Rattle.source_defs.specs.Growing.{Grows}
-use Rattle.source_defs.proofs.DefinedNames.{grown_on}
+use Rattle.expression_defs.specs.Expression.{Value}
+use Rattle.expression_defs.specs.Symbols.{Names}
+use Rattle.expression_defs.specs.Growing.{Grows}
+use Rattle.expression_defs.proofs.DefinedNames.{grown_on}
 use Rattle.gpl_source_defs.specs.Locations.{Line, location}
 use Rattle.gpl_source_defs.specs.FirstChecks.{Checked, checked, check, line_of, names, label_value}
 use Rattle.gpl_source_defs.proofs.CheckLaws.{is_let_through}

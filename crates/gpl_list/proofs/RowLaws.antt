@@ -1,13 +1,13 @@
 -- Rows of lines, one after the other.
 use Rattle.std.proofs.Common.{◌≡◌, ℕ, ◌+◌, ◌≤◌, List, [], ◌∷◌, ◌++◌, Some, None, Ok, length, map, true, refl, sym, ap, subst, ◌∙◌, arith}
 use Rattle.std.specs.Prelude.{Option}
-use Rattle.source_defs.specs.Expression.{Absolute}
-use Rattle.source_defs.specs.Symbols.{Names}
-use Rattle.source_defs.specs.Growing.{Grows, is_closed}
-use Rattle.source_defs.specs.Layout.{set_or}
+use Rattle.expression_defs.specs.Expression.{Absolute}
+use Rattle.expression_defs.specs.Symbols.{Names}
+use Rattle.expression_defs.specs.Growing.{Grows, is_closed}
+use Rattle.expression_defs.specs.Layout.{set_or}
 use Rattle.source_defs.specs.Refusals.{◌>>=◌}
 use Rattle.source_defs.proofs.RefusalLaws.{bound}
-use Rattle.source_defs.proofs.DefinedNames.{grown_on}
+use Rattle.expression_defs.proofs.DefinedNames.{grown_on}
 use Rattle.gpl_source_defs.specs.declared.location.Location.{Location}
 use Rattle.gpl_source_defs.specs.Statements.{Statement, declared_size}
 use Rattle.gpl_source_defs.specs.Locations.{Line, location, place, origin_of}

@@ -2,10 +2,10 @@
 use Rattle.std.specs.Prelude.{◌≡◌, ⊤, ℕ, ◌+◌, ◌-◌, ◌≤◌, List, [], ◌∷◌, ◌++◌, length, map, take, Option, Some, None}
 use Rattle.std.specs.Prelude.{Result, Ok, Err}
 use Rattle.source_defs.specs.Refusals.{Refusal}
-use Rattle.source_defs.specs.Expression.{Absolute}
-use Rattle.source_defs.specs.Symbols.{Names}
-use Rattle.source_defs.specs.Growing.{Grows}
-use Rattle.source_defs.specs.Layout.{laid, set_or}
+use Rattle.expression_defs.specs.Expression.{Absolute}
+use Rattle.expression_defs.specs.Symbols.{Names}
+use Rattle.expression_defs.specs.Growing.{Grows}
+use Rattle.expression_defs.specs.Layout.{laid, set_or}
 use Rattle.gpl_source_defs.specs.declared.location.Location.{Location}
 use Rattle.gpl_source_defs.specs.Statements.{declared_size}
 use Rattle.gpl_source_defs.specs.Locations.{Line, place}

@@ -1,7 +1,7 @@
 //! The listing of a source.
 
 ghost use Rattle.std.specs.Prelude.{◌≡◌, ◌<◌, ◌^◌, ℕ, List, IfOk, length};
-ghost use Rattle.source_defs.specs.Layout.{settled};
+ghost use Rattle.expression_defs.specs.Layout.{settled};
 ghost use Rattle.gpl_source_defs.specs.Locations.{Line};
 ghost use Rattle.gpl_source_defs.specs.FirstChecks.{names};
 ghost use Rattle.gpl_source_defs.specs.Programs.{settle};

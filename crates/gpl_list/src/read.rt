@@ -1,7 +1,8 @@
 //! The first pass over a source: its lines with their addresses, and its names.
 
 ghost use Rattle.std.specs.Prelude.{◌≡◌, ◌<◌, ◌≤◌, ◌+◌, ◌-◌, ◌^◌, ◌++◌, ℕ, List, IfOk, OnOk, length, map};
-ghost use Rattle.source_defs.specs.Layout.{line_texts, set_or};
+ghost use Rattle.source_defs.specs.Lines.{line_texts};
+ghost use Rattle.expression_defs.specs.Layout.{set_or};
 ghost use Rattle.gpl_source_defs.specs.Locations.{Line};
 ghost use Rattle.gpl_asm.specs.Building.{CanCount, IsOpen};
 ghost use Rattle.gpl_list_defs.specs.Rows.{text_of};

@@ -3,10 +3,11 @@ use Rattle.std.proofs.Common.{◌≡◌, ℕ, List, [], ◌∷◌, ◌++◌, Ok,
 use Rattle.std.specs.Prelude.{Result, map, Option, Bool, true, false, if◌then◌else◌}
 use Rattle.std.specs.FinMap.{empty, insert}
 use Rattle.source_defs.specs.Refusals.{Refusal, ◌>>=◌, at_line}
-use Rattle.source_defs.specs.Expression.{Value}
-use Rattle.source_defs.specs.Symbols.{Names, predefined, look_up}
-use Rattle.source_defs.specs.Layout.{laid, settled, line_texts}
-use Rattle.source_defs.specs.Layout as layout
+use Rattle.expression_defs.specs.Expression.{Value}
+use Rattle.expression_defs.specs.Symbols.{Names, predefined, look_up}
+use Rattle.source_defs.specs.Lines.{line_texts}
+use Rattle.expression_defs.specs.Layout.{laid, settled}
+use Rattle.expression_defs.specs.Layout as layout
 use Rattle.source_defs.proofs.RefusalLaws.{bound}
 use Rattle.gpl_defs.specs.Image.{Image, placed}
 use Rattle.gpl_source_defs.specs.declared.causes.GplCause.{GplCause}

@@ -1,7 +1,7 @@
 -- What holds of all listings.
 use Rattle.std.specs.Prelude.{◌≡◌, ℕ, List, [], ◌∷◌, Result, Ok, Err}
 use Rattle.std.specs.FinMap.{empty, insert}
-use Rattle.source_defs.specs.Symbols.{Names, predefined}
+use Rattle.expression_defs.specs.Symbols.{Names, predefined}
 use Rattle.source_defs.specs.Refusals.{Refusal}
 use Rattle.gpl_defs.specs.Image.{Image, placed}
 use Rattle.gpl_source_defs.specs.declared.causes.GplCause.{GplCause}

@@ -1,7 +1,8 @@
 -- The listing of a GPL source.
 use Rattle.std.specs.Prelude.{ℕ, ◌-◌, List, [], take, Result, Ok, Err}
 use Rattle.source_defs.specs.Refusals.{Refusal}
-use Rattle.source_defs.specs.Layout.{laid, settled, line_texts}
+use Rattle.source_defs.specs.Lines.{line_texts}
+use Rattle.expression_defs.specs.Layout.{laid, settled}
 use Rattle.gpl_source_defs.specs.declared.causes.GplCause.{GplCause}
 use Rattle.gpl_source_defs.specs.Locations.{Line}
 use Rattle.gpl_source_defs.specs.FirstChecks.{check, names}

@@ -4,7 +4,7 @@ use Rattle.std.specs.Prelude.{codes}
 use Rattle.std.specs.List.{flat_map}
 use Rattle.std.specs.Fmt.{decimal}
 use Rattle.source_defs.specs.Digits.{hex_word}
-use Rattle.source_defs.specs.Expression.{Value, Absolute, Relocatable, External}
+use Rattle.expression_defs.specs.Expression.{Value, Absolute, Relocatable, External}
 use Rattle.report_defs.specs.Rows.{spaced_bytes, row_line}
 use Rattle.gpl_list_defs.specs.Rows.{Row, NameRow}
 

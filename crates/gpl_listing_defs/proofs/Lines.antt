@@ -5,9 +5,10 @@ use Rattle.std.specs.Prelude.{◌==◌, codes, IsTrue, nat_lt, nat_le, if◌then
 use Rattle.std.specs.List.{list_all}
 use Rattle.std.proofs.lemmas.Bool.Decides.{nat_tests}
 use Rattle.source_defs.specs.Digits.{hex_word, hex_byte, word_digits, byte_digits}
-use Rattle.source_defs.specs.Layout.{laid_behind, settled, numbered}
+use Rattle.source_defs.specs.Lines.{numbered}
+use Rattle.expression_defs.specs.Layout.{laid_behind, settled}
 use Rattle.source_defs.specs.ListedLines.{listed, with_operands}
-use Rattle.source_defs.specs.Symbols.{Names, look_up, predefined}
+use Rattle.expression_defs.specs.Symbols.{Names, look_up, predefined}
 use Rattle.grom_defs.specs.declared.size.TheConstants.{GROM_SIZE}
 use Rattle.gpl_defs.specs.declared.instruction.GplInstr.{GplInstr}
 use Rattle.gpl_defs.specs.Image.{Image, placed}

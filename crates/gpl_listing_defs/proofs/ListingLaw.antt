@@ -8,7 +8,7 @@ use Rattle.std.proofs.lemmas.List.{drop_more}
 use Rattle.std.proofs.lemmas.Bool.{cases_eq}
 use Rattle.std.proofs.lemmas.Bool.Decides.{nat_tests}
 use Rattle.source_defs.specs.ListedLines.{listed}
-use Rattle.source_defs.specs.Symbols.{predefined}
+use Rattle.expression_defs.specs.Symbols.{predefined}
 use Rattle.grom_defs.specs.declared.size.TheConstants.{GROM_SIZE}
 use Rattle.gpl_defs.specs.Image.{Image, placed}
 use Rattle.gpl_defs.specs.Bytes.{bytes_of}

@@ -5,7 +5,7 @@ use Rattle.std.specs.Prelude.{◌==◌, map, nat_le}
 use Rattle.std.specs.List.{list_all}
 use Rattle.std.proofs.lemmas.Bool.Decides.{nat_tests}
 use Rattle.source_defs.specs.Digits.{hex_word, hex_byte, word_digits, byte_digits}
-use Rattle.source_defs.specs.Expression.{Value}
+use Rattle.expression_defs.specs.Expression.{Value}
 use Rattle.source_defs.specs.Operands.{operand_texts}
 use Rattle.gpl_defs.specs.declared.scratchpad.TheConstants.{SCRATCHPAD}
 use Rattle.gpl_defs.specs.declared.instruction.Space.{Space}

@@ -1,18 +1,18 @@
 -- A line whose values are known says, and comes to, what it does when more names are known.
 use Rattle.std.proofs.Common.{◌≡◌, ℕ, Bool, true, false, List, [], ◌∷◌, Some, None, Ok, Err, refl, ap}
 use Rattle.std.specs.Prelude.{Option, Result}
-use Rattle.source_defs.specs.declared.causes.ExprError.{ExprError}
+use Rattle.expression_defs.specs.declared.causes.ExprError.{ExprError}
 use Rattle.source_defs.specs.declared.text.Span.{Span}
 use Rattle.source_defs.specs.Refusals.{◌>>=◌}
 use Rattle.source_defs.specs.Lines.{part}
 use Rattle.source_defs.specs.Fields.{fields}
 use Rattle.source_defs.specs.Operands.{operand_texts}
 use Rattle.source_defs.specs.OperandLists.{one_operand}
-use Rattle.source_defs.specs.Expression.{Value, Absolute, absolute, expression}
-use Rattle.source_defs.specs.Symbols.{Names, look_up}
-use Rattle.source_defs.specs.Growing as expressions
-use Rattle.source_defs.specs.Growing.{Grows}
-use Rattle.source_defs.proofs.GrowingLaws.{Stays, stays_same, stays_then, expression_stays}
+use Rattle.expression_defs.specs.Expression.{Value, Absolute, absolute, expression}
+use Rattle.expression_defs.specs.Symbols.{Names, look_up}
+use Rattle.expression_defs.specs.Growing as expressions
+use Rattle.expression_defs.specs.Growing.{Grows}
+use Rattle.expression_defs.proofs.GrowingLaws.{Stays, stays_same, stays_then, expression_stays}
 use Rattle.gpl_defs.specs.declared.instruction.TwoName.{TwoName}
 use Rattle.gpl_defs.specs.declared.instruction.MoveLength.{MoveLength}
 use Rattle.gpl_source_defs.specs.declared.causes.GplCause.{GplCause}

@@ -3,7 +3,7 @@ use Rattle.std.proofs.Common.{◌≡◌, ℕ, suc, ◌*◌, ◌≤◌, Bool, tru
 use Rattle.std.proofs.Common.{length-append}
 use Rattle.std.specs.Prelude.{Option, Result}
 use Rattle.std.specs.List.{flat_map}
-use Rattle.source_defs.specs.Expression.{Value, characters}
+use Rattle.expression_defs.specs.Expression.{Value, characters}
 use Rattle.source_defs.proofs.RefusalLaws.{bound}
 use Rattle.gpl_defs.specs.declared.instruction.GplInstr.{GplInstr}
 use Rattle.gpl_defs.specs.declared.instruction.GplSource.{GplSource}

@@ -9,10 +9,10 @@ use Rattle.std.specs.Prelude.{Ok, Err, is_some}
 use Rattle.std.specs.FinMap.{get}
 use Rattle.source_defs.specs.Refusals.{◌>>=◌, unless}
 use Rattle.source_defs.specs.declared.causes.TextError.{TextError}
-use Rattle.source_defs.specs.Expression.{Value, Absolute}
+use Rattle.expression_defs.specs.Expression.{Value, Absolute}
 use Rattle.source_defs.specs.Fields.{fields}
-use Rattle.source_defs.specs.Symbols.{Names, look_up, predefined}
-use Rattle.source_defs.specs.Layout.{names_of}
+use Rattle.expression_defs.specs.Symbols.{Names, look_up, predefined}
+use Rattle.expression_defs.specs.Layout.{names_of}
 use Rattle.gpl_source_defs.specs.declared.causes.GplCause.{GplCause}
 use Rattle.gpl_source_defs.specs.declared.causes.GplCause.TheVariants as cause
 use Rattle.gpl_source_defs.specs.declared.causes.GplCause.TheVariants.{DuplicateLabel, GromFull, BadDirective}

@@ -1,6 +1,6 @@
 -- What is known of a line while names are still to come.
 use Rattle.std.specs.Prelude.{Bool, false}
-use Rattle.source_defs.specs.Growing as expressions
+use Rattle.expression_defs.specs.Growing as expressions
 use Rattle.gpl_source_defs.specs.declared.causes.GplCause.{GplCause}
 use Rattle.gpl_source_defs.specs.declared.causes.GplCause.TheVariants.{Expr}
 

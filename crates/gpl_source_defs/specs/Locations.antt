@@ -4,9 +4,9 @@
 -- of them.
 use Rattle.std.specs.Prelude.{◌≡◌, ◌≤◌, ℕ, ◌+◌, ◌/◌, ◌%◌, ◌==◌, Bool, nat_lt, if◌then◌else◌, List, Option, Some, None}
 use Rattle.std.specs.Prelude.{Result, Ok, Err}
-use Rattle.source_defs.specs.Expression.{to_word}
-use Rattle.source_defs.specs.Layout as layout
-use Rattle.source_defs.specs.Layout.{Laid}
+use Rattle.expression_defs.specs.Expression.{to_word}
+use Rattle.expression_defs.specs.Layout as layout
+use Rattle.expression_defs.specs.Layout.{Laid}
 use Rattle.gpl_source_defs.specs.declared.causes.GplCause.{GplCause}
 use Rattle.gpl_source_defs.specs.declared.causes.GplCause.TheVariants.{OtherGrom}
 use Rattle.gpl_source_defs.specs.declared.location.Location.{Location}

@@ -3,8 +3,9 @@ use Rattle.std.specs.Prelude.{ℕ, ◌+◌, Bool, false, ◌||◌, if◌then◌e
 use Rattle.std.specs.Prelude.{Err}
 use Rattle.std.specs.FinMap.{empty, contains_key}
 use Rattle.source_defs.specs.Refusals.{Refusal, ◌>>=◌}
-use Rattle.source_defs.specs.Symbols.{Names, look_up}
-use Rattle.source_defs.specs.Layout.{laid, settled, numbered, line_texts}
+use Rattle.expression_defs.specs.Symbols.{Names, look_up}
+use Rattle.source_defs.specs.Lines.{numbered, line_texts}
+use Rattle.expression_defs.specs.Layout.{laid, settled}
 use Rattle.gpl_defs.specs.Image.{Image, placed}
 use Rattle.gpl_source_defs.specs.declared.causes.GplCause.{GplCause}
 use Rattle.gpl_source_defs.specs.declared.causes.GplCause.TheVariants.{Overlap}

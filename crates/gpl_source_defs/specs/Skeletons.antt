@@ -4,7 +4,7 @@ use Rattle.std.specs.Prelude.{Ok, Err}
 use Rattle.source_defs.specs.Refusals.{◌>>=◌}
 use Rattle.source_defs.specs.declared.causes.OperandError.{OperandError}
 use Rattle.source_defs.specs.declared.causes.OperandError.TheVariants.{Count, Form as WrongForm}
-use Rattle.source_defs.specs.Expression.{Value}
+use Rattle.expression_defs.specs.Expression.{Value}
 use Rattle.source_defs.specs.OperandLists.{written, one_operand}
 use Rattle.source_defs.specs.Operands.{operand_texts}
 use Rattle.gpl_defs.specs.declared.instruction.GplOperand.{GplOperand}

@@ -4,7 +4,7 @@ use Rattle.std.specs.Prelude.{ℕ, ◌*◌, List, length, Option, Some, None, Re
 use Rattle.source_defs.specs.declared.text.Span.{Span}
 use Rattle.source_defs.specs.Refusals.{◌>>=◌}
 use Rattle.source_defs.specs.Lines.{part}
-use Rattle.source_defs.specs.Expression.{Value, characters}
+use Rattle.expression_defs.specs.Expression.{Value, characters}
 use Rattle.source_defs.specs.Operands.{operand_texts}
 use Rattle.source_defs.specs.OperandLists.{one_operand, optional_operand, operand_list}
 use Rattle.source_defs.specs.QuotedTexts.{quoted}

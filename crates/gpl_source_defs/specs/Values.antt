@@ -1,10 +1,10 @@
 -- The values of expressions in a GPL source.
 use Rattle.std.specs.Prelude.{ℕ, ◌+◌, ◌-◌, ◌%◌, ◌&&◌, Bool, true, false, nat_le, if◌then◌else◌, List, [], ◌∷◌, Option}
 use Rattle.std.specs.Prelude.{Some, None, Result, Ok, Err}
-use Rattle.source_defs.specs.declared.causes.ExprError.{ExprError}
+use Rattle.expression_defs.specs.declared.causes.ExprError.{ExprError}
 use Rattle.source_defs.specs.Refusals.{◌>>=◌}
 use Rattle.source_defs.specs.ByteValues.{number_as_byte, numbers_as_bytes}
-use Rattle.source_defs.specs.Expression.{Value, Absolute, absolute, expression}
+use Rattle.expression_defs.specs.Expression.{Value, Absolute, absolute, expression}
 use Rattle.gpl_defs.specs.declared.instruction.Space.{Space}
 use Rattle.gpl_defs.specs.declared.instruction.Space.TheVariants.{Cpu, Vdp}
 use Rattle.gpl_defs.specs.declared.instruction.GplOperand.{GplOperand}

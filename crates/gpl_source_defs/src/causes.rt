@@ -1,6 +1,7 @@
 //! Why a line of a GPL source is refused.
 
-use source_defs::{ExprError, TextError};
+use expression_defs::ExprError;
+use source_defs::TextError;
 
 /// Why a line of a GPL source is refused. No inner error is its `Memory`.
 #[derive(Clone, Copy, Debug, PartialEq, Eq)]

@@ -1,10 +1,10 @@
 -- An instruction whose names are known has the words that it has when more are known.
 use Rattle.std.proofs.Common.{◌≡◌, ℕ, List, ◌∷◌, Some, Ok, Err, ap}
 use Rattle.std.specs.Prelude.{Option, Result}
-use Rattle.source_defs.specs.declared.causes.ExprError.{ExprError}
-use Rattle.source_defs.specs.Expression.{Value, absolute, expression}
-use Rattle.source_defs.specs.Growing as expressions
-use Rattle.source_defs.proofs.GrowingLaws.{Stays, stays_same, stays_then, expression_stays}
+use Rattle.expression_defs.specs.declared.causes.ExprError.{ExprError}
+use Rattle.expression_defs.specs.Expression.{Value, absolute, expression}
+use Rattle.expression_defs.specs.Growing as expressions
+use Rattle.expression_defs.proofs.GrowingLaws.{Stays, stays_same, stays_then, expression_stays}
 use Rattle.instruction_defs.specs.declared.operand_kind.OperandKind.{OperandKind}
 use Rattle.instruction_defs.specs.declared.operand_kind.OperandKind.TheVariants.{General, Register, Count, Immediate, Target, Displacement}
 use Rattle.instruction_defs.specs.Operands.{kinds_of}

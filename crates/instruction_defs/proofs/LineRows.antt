@@ -4,12 +4,12 @@ use Rattle.std.specs.Prelude.{codes, nat_eq, if◌then◌else◌, Option, Some, 
 use Rattle.std.specs.Cmp.Lexicographic.{pointwise}
 use Rattle.std.specs.Fmt.{digits}
 use Rattle.source_defs.specs.Refusals.{◌>>=◌}
-use Rattle.source_defs.specs.declared.causes.ExprError.TheVariants.{UnknownName, BadRelocation, BadToken}
-use Rattle.source_defs.specs.Tokens.{token_at, tokens_from}
+use Rattle.expression_defs.specs.declared.causes.ExprError.TheVariants.{UnknownName, BadRelocation, BadToken}
+use Rattle.expression_defs.specs.Tokens.{token_at, tokens_from}
 use Rattle.source_defs.specs.Fields.{in_quotes}
 use Rattle.source_defs.specs.Operands.{operands_from}
 use Rattle.source_defs.specs.Digits.{word_digits}
-use Rattle.source_defs.specs.Expression.{Value, Absolute, Relocatable, External}
+use Rattle.expression_defs.specs.Expression.{Value, Absolute, Relocatable, External}
 use Rattle.instruction_defs.specs.declared.causes.FormError.{FormError}
 use Rattle.instruction_defs.specs.declared.causes.FormError.TheVariants.{BadOperand, OperandCount, UnknownOperation, JumpTooFar, Expr}
 use Rattle.instruction_defs.specs.Operations.{mnemonic}

@@ -1,6 +1,6 @@
 -- What is known of an instruction line while names are still to come.
 use Rattle.std.specs.Prelude.{Bool, false}
-use Rattle.source_defs.specs.Growing as expressions
+use Rattle.expression_defs.specs.Growing as expressions
 use Rattle.instruction_defs.specs.declared.causes.FormError.{FormError}
 use Rattle.instruction_defs.specs.declared.causes.FormError.TheVariants.{UnknownOperation, OperandCount, BadOperand}
 use Rattle.instruction_defs.specs.declared.causes.FormError.TheVariants.{JumpTooFar}

@@ -1,6 +1,6 @@
 //! Why an instruction line is refused.
 
-use source_defs::ExprError;
+use expression_defs::ExprError;
 
 /// Why an instruction line is refused, or a directive by the same rule.
 #[derive(Clone, Copy, Debug, PartialEq, Eq)]

@@ -6,10 +6,10 @@ use Rattle.std.specs.Cmp.Lexicographic.{slice_cmp}
 use Rattle.std.specs.FinMap.{empty, get-empty}
 use Rattle.source_defs.specs.Refusals.{◌>>=◌, unless}
 use Rattle.source_defs.specs.Fields.{Fields, fields}
-use Rattle.source_defs.specs.Symbols.{Names, look_up}
-use Rattle.source_defs.specs.Expression.{Value, absolute}
-use Rattle.source_defs.proofs.GrowingLaws.{expression_stays}
-use Rattle.source_defs.specs.declared.causes.ExprError.{ExprError}
+use Rattle.expression_defs.specs.Symbols.{Names, look_up}
+use Rattle.expression_defs.specs.Expression.{Value, absolute}
+use Rattle.expression_defs.proofs.GrowingLaws.{expression_stays}
+use Rattle.expression_defs.specs.declared.causes.ExprError.{ExprError}
 use Rattle.asm_defs.specs.declared.causes.AsmCause.{AsmCause}
 use Rattle.asm_defs.specs.declared.causes.AsmCause.TheVariants.{Overflow, BadDirective}
 use Rattle.asm_defs.specs.declared.location.Location.{Location}

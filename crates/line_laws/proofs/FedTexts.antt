@@ -8,8 +8,7 @@ use Rattle.std.proofs.lemmas.Bool.Decides.{nat_tests}
 use Rattle.std.proofs.lemmas.List.{get_or-append-add}
 use Rattle.std.proofs.Math.Seq.{drop-append_seam, take-append_seam}
 use Rattle.source_defs.specs.Characters.{is_line_feed, is_carriage_return}
-use Rattle.source_defs.specs.Lines.{line_feeds_from, lines_from, without_return, part}
-use Rattle.source_defs.specs.Layout.{numbered}
+use Rattle.source_defs.specs.Lines.{line_feeds_from, lines_from, without_return, part, numbered}
 use Rattle.line_laws.specs.Texts.{IsWithoutControls, fed_text, FedTextsHaveTheirLines}
 use Rattle.line_laws.proofs.Small.{both}
 

@@ -6,9 +6,10 @@ use Rattle.std.proofs.lemmas.Cmp.{nat_list_cmp_total}
 use Rattle.std.specs.FinMap.{insert, get-insert}
 use Rattle.source_defs.specs.Refusals.{◌>>=◌, at_line, unless}
 use Rattle.source_defs.specs.Fields.{Fields, fields}
-use Rattle.source_defs.specs.Symbols.{Names, look_up}
-use Rattle.source_defs.specs.Expression.{Value}
-use Rattle.source_defs.specs.Layout.{numbered, laid_behind, with_names, has_ended, set_or, since_origin, bytes_of}
+use Rattle.expression_defs.specs.Symbols.{Names, look_up}
+use Rattle.expression_defs.specs.Expression.{Value}
+use Rattle.source_defs.specs.Lines.{numbered}
+use Rattle.expression_defs.specs.Layout.{laid_behind, with_names, has_ended, set_or, since_origin, bytes_of}
 use Rattle.asm_defs.specs.declared.causes.AsmCause.{AsmCause}
 use Rattle.asm_defs.specs.declared.location.Location.{Location}
 use Rattle.asm_defs.specs.Statements.{Statement, as_text, statement_in, Nothing, Instruction, Aorg, Equ, Data}

@@ -3,9 +3,10 @@ use Rattle.std.proofs.Common.{◌≡◌, ℕ, zero, suc, ◌+◌, ◌*◌, ◌<�
 use Rattle.std.proofs.Common.{length, length-append, refl, sym, ap, subst, ◌∙◌, arith}
 use Rattle.std.specs.Prelude.{Option, not, is_some, nat_lt, slice_index_or, take}
 use Rattle.std.proofs.lemmas.Bool.Decides.{nat_tests}
-use Rattle.source_defs.specs.Symbols.{look_up, registers}
-use Rattle.source_defs.specs.Expression.{Value}
-use Rattle.source_defs.specs.Layout.{laid, numbered}
+use Rattle.expression_defs.specs.Symbols.{look_up, registers}
+use Rattle.expression_defs.specs.Expression.{Value}
+use Rattle.source_defs.specs.Lines.{numbered}
+use Rattle.expression_defs.specs.Layout.{laid}
 use Rattle.object_defs.specs.declared.spot.Spot.{Spot}
 use Rattle.asm_defs.specs.declared.location.Location.{Location}
 use Rattle.asm_defs.specs.Locations.{Line, start, location}

@@ -5,7 +5,7 @@ use Rattle.std.specs.Prelude.{Option, ◌⊎◌, ◌&&◌, ◌||◌, nat_le, nat
 use Rattle.std.specs.Option.{option_map}
 use Rattle.std.proofs.lemmas.Bool.Decides.{nat_tests}
 use Rattle.std.proofs.lemmas.Bool.{false_from_ne_true}
-use Rattle.source_defs.specs.Expression.{Value, Absolute, Relocatable}
+use Rattle.expression_defs.specs.Expression.{Value, Absolute, Relocatable}
 use Rattle.object_defs.specs.declared.spot.Spot.TheVariants as spot
 use Rattle.object_defs.specs.Modules.{Reference}
 use Rattle.asm_defs.specs.declared.content.Content.{Content}

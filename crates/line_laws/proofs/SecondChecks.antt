@@ -6,9 +6,9 @@ use Rattle.std.specs.Option.{unwrap_or}
 use Rattle.std.proofs.lemmas.Bool.Decides.{nat_tests}
 use Rattle.std.proofs.lemmas.List.{append-nil}
 use Rattle.source_defs.specs.Refusals.{Refusal, ◌>>=◌, at_line}
-use Rattle.source_defs.specs.Symbols.{Names, look_up}
-use Rattle.source_defs.specs.Expression.{Value}
-use Rattle.source_defs.specs.Layout.{settled}
+use Rattle.expression_defs.specs.Symbols.{Names, look_up}
+use Rattle.expression_defs.specs.Expression.{Value}
+use Rattle.expression_defs.specs.Layout.{settled}
 use Rattle.object_defs.specs.declared.spot.Spot.{Spot}
 use Rattle.asm_defs.specs.declared.causes.AsmCause.{AsmCause}
 use Rattle.asm_defs.specs.declared.causes.AsmCause.TheVariants.{Overflow, Overlap}

@@ -7,10 +7,11 @@ use Rattle.std.proofs.lemmas.Cmp.{nat_list_cmp_total}
 use Rattle.std.specs.FinMap.{get-from_entries}
 use Rattle.std.proofs.lemmas.Bool.{false_from_ne_true}
 use Rattle.source_defs.specs.Refusals.{◌>>=◌, at_line}
-use Rattle.source_defs.specs.Symbols.{look_up, predefined, registers}
-use Rattle.source_defs.specs.Expression.{Value, Absolute, Relocatable}
-use Rattle.source_defs.specs.Layout.{settled, laid, numbered, with_names}
-use Rattle.source_defs.proofs.LaidLaws.{laid_more}
+use Rattle.expression_defs.specs.Symbols.{look_up, predefined, registers}
+use Rattle.expression_defs.specs.Expression.{Value, Absolute, Relocatable}
+use Rattle.source_defs.specs.Lines.{numbered}
+use Rattle.expression_defs.specs.Layout.{settled, laid, with_names}
+use Rattle.expression_defs.proofs.LaidLaws.{laid_more}
 use Rattle.object_defs.specs.declared.spot.Spot.{Spot}
 use Rattle.object_defs.specs.Modules.{Module, Reference}
 use Rattle.asm_defs.specs.declared.causes.AsmCause.{AsmCause}

@@ -9,7 +9,7 @@ use Rattle.std.specs.FinMap.{empty, find}
 use Rattle.source_defs.specs.Refusals.{◌>>=◌}
 use Rattle.source_defs.specs.Fields.{fields}
 use Rattle.source_defs.specs.OperandLists.{is_empty}
-use Rattle.source_defs.specs.Expression.{Value, Absolute, Relocatable, External}
+use Rattle.expression_defs.specs.Expression.{Value, Absolute, Relocatable, External}
 use Rattle.object_defs.specs.declared.spot.Spot.TheVariants as spot
 use Rattle.object_defs.specs.declared.spot.Piece.{Piece}
 use Rattle.asm_defs.specs.declared.causes.AsmCause.{AsmCause}

@@ -2,9 +2,10 @@
 use Rattle.std.specs.Prelude.{◌≡◌, ℕ, ◌+◌, ◌*◌, ◌≤◌, ◌<◌, List, [], ◌∷◌, ◌++◌}
 use Rattle.std.specs.Prelude.{length, slice_index_or, take, IsTrue}
 use Rattle.std.specs.Prelude.{Option, Some, None, Ok}
-use Rattle.source_defs.specs.Expression.{Value}
-use Rattle.source_defs.specs.Symbols.{registers, look_up}
-use Rattle.source_defs.specs.Layout.{laid, numbered}
+use Rattle.expression_defs.specs.Expression.{Value}
+use Rattle.expression_defs.specs.Symbols.{registers, look_up}
+use Rattle.source_defs.specs.Lines.{numbered}
+use Rattle.expression_defs.specs.Layout.{laid}
 use Rattle.object_defs.specs.declared.spot.Spot.{Spot}
 use Rattle.object_defs.specs.Modules.{Module}
 use Rattle.asm_defs.specs.declared.location.Location.{Location}

@@ -1,7 +1,7 @@
 -- The text of lines that are each ended by a line feed alone.
 use Rattle.std.specs.Prelude.{◌≡◌, ℕ, nat_le, List, [], ◌∷◌, ◌++◌, IsTrue}
 use Rattle.std.specs.List.{flat_map, list_all, AllByRecursion}
-use Rattle.source_defs.specs.Layout.{line_texts, numbered}
+use Rattle.source_defs.specs.Lines.{line_texts, numbered}
 
 -- no control character stands in a line: so neither a line feed nor a carriage return does
 abbrev pub IsWithoutControls : List ℕ → Type 0

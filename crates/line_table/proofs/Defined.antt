@@ -4,8 +4,9 @@ use Rattle.std.proofs.Common.{ap, subst, ◌∙◌}
 use Rattle.std.specs.Prelude.{map, slice_index_or}
 use Rattle.std.specs.List.{list_all}
 use Rattle.source_defs.specs.Names.{is_kept_name}
-use Rattle.source_defs.specs.Expression.{Value, Absolute}
-use Rattle.source_defs.specs.Layout.{laid, numbered}
+use Rattle.expression_defs.specs.Expression.{Value, Absolute}
+use Rattle.source_defs.specs.Lines.{numbered}
+use Rattle.expression_defs.specs.Layout.{laid}
 use Rattle.object_defs.specs.declared.spot.Spot.TheVariants as spot
 use Rattle.asm_defs.specs.Locations.{Line}
 use Rattle.asm_defs.specs.FirstChecks.{check, line_of, external_entries, refs_in}

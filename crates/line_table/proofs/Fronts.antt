@@ -1,7 +1,7 @@
 -- Blocks, one behind the other.
 use Rattle.std.proofs.Common.{ℕ, ◌+◌, List, [], ◌++◌, refl, sym, subst}
 use Rattle.std.specs.Prelude.{take, drop}
-use Rattle.source_defs.specs.Expression.{Value}
+use Rattle.expression_defs.specs.Expression.{Value}
 use Rattle.asm_defs.specs.declared.location.Location.{Location}
 use Rattle.line_laws.specs.Laws.{looks}
 use Rattle.line_table.specs.declared.line_row.LineRow.{LineRow}

@@ -4,7 +4,7 @@ use Rattle.std.proofs.Common.{None, refl, ap, subst, ◌∙◌, arith}
 use Rattle.std.specs.Prelude.{◌&&◌, ◌==◌, nat_le}
 use Rattle.std.specs.List.{slice_get, list_all, AllByRecursion}
 use Rattle.std.proofs.lemmas.Bool.Decides.{nat_tests}
-use Rattle.source_defs.specs.Layout.{line_texts, numbered}
+use Rattle.source_defs.specs.Lines.{line_texts, numbered}
 use Rattle.object_defs.specs.declared.spot.Spot.{Spot}
 use Rattle.object_defs.specs.declared.spot.Spot.TheVariants as spot
 use Rattle.asm_defs.specs.Modules.{module_of}

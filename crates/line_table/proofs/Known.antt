@@ -1,9 +1,9 @@
 -- All lines of the source are known by themselves.
 use Rattle.std.proofs.Common.{◌≡◌, ℕ, ◌*◌, true, List, [], ◌∷◌, ◌++◌, Some, None, Ok, refl, sym, ap, subst, ◌∙◌}
 use Rattle.std.specs.Prelude.{Option, take, map, codes}
-use Rattle.source_defs.specs.Expression.{Value}
-use Rattle.source_defs.specs.Symbols.{registers}
-use Rattle.source_defs.specs.Tokens.{token_at, tokens_from}
+use Rattle.expression_defs.specs.Expression.{Value}
+use Rattle.expression_defs.specs.Symbols.{registers}
+use Rattle.expression_defs.specs.Tokens.{token_at, tokens_from}
 use Rattle.source_defs.specs.Fields.{in_quotes, fields}
 use Rattle.source_defs.specs.Operands.{operands_from}
 use Rattle.object_defs.specs.declared.spot.Spot.{Spot}

@@ -4,7 +4,7 @@ use Rattle.std.proofs.Common.{append_assoc, length, Ok, Err, refl, sym, ap, subs
 use Rattle.std.specs.Prelude.{Option, Result, map, take, drop}
 use Rattle.std.specs.List.{flat_map}
 use Rattle.source_defs.specs.Refusals.{map_ok}
-use Rattle.source_defs.specs.Expression.{Value}
+use Rattle.expression_defs.specs.Expression.{Value}
 use Rattle.asm_defs.specs.declared.causes.AsmCause.{AsmCause}
 use Rattle.asm_defs.specs.declared.location.Location.{Location}
 use Rattle.asm_defs.specs.FirstChecks.{location_behind}

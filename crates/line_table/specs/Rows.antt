@@ -1,9 +1,10 @@
 -- What the rows of the table say of the interpreter's source.
 use Rattle.std.specs.Prelude.{◌≡◌, ℕ, ◌-◌, ◌/◌, IsTrue, List, [], ◌∷◌, ◌++◌, length, slice_index_or}
 use Rattle.std.specs.Prelude.{take, drop, map, Ok}
-use Rattle.source_defs.specs.Expression.{Value, Absolute}
-use Rattle.source_defs.specs.Symbols.{registers}
-use Rattle.source_defs.specs.Layout.{laid, numbered}
+use Rattle.expression_defs.specs.Expression.{Value, Absolute}
+use Rattle.expression_defs.specs.Symbols.{registers}
+use Rattle.source_defs.specs.Lines.{numbered}
+use Rattle.expression_defs.specs.Layout.{laid}
 use Rattle.asm_defs.specs.declared.location.Location.{Location}
 use Rattle.asm_defs.specs.Locations.{Line}
 use Rattle.asm_defs.specs.FirstChecks.{check}

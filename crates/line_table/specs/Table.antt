@@ -1,6 +1,6 @@
 -- What the rows of the table are made of.
 use Rattle.std.specs.Prelude.{ℕ, List, [], ◌∷◌, take, map}
-use Rattle.source_defs.specs.Expression.{Value, Absolute}
+use Rattle.expression_defs.specs.Expression.{Value, Absolute}
 use Rattle.line_table.specs.declared.line_row.LineRow.{LineRow}
 use Rattle.line_table.specs.declared.names.TheConstants.{NAMES}
 

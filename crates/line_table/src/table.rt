@@ -4,7 +4,7 @@ ghost use Rattle.std.specs.Prelude.{◌≡◌, IsTrue, ◌<◌, ◌++◌, length
 ghost use Rattle.native_interp.specs.Source.{lines};
 ghost use Rattle.line_table.specs.Table.{defined, nothing};
 ghost use Rattle.line_table.specs.Rows.{IsRow, IsNameRow, named};
-ghost use Rattle.source_defs.specs.Expression.{Absolute};
+ghost use Rattle.expression_defs.specs.Expression.{Absolute};
 ghost use Rattle.source_defs.specs.Names.{is_kept_name};
 ghost use Rattle.line_table.specs.declared.rows.routines.TheConstants.{ROUTINE_ROWS};
 ghost use Rattle.line_table.specs.declared.rows.operations.TheConstants.{OPERATION_ROWS};

@@ -9,7 +9,7 @@ use Rattle.std.proofs.lemmas.Bool.Decides.{nat_tests}
 use Rattle.source_defs.specs.Numbers.{hexadecimal_digit, is_hexadecimal_digit, digit_value, value_after}
 use Rattle.source_defs.specs.Digits.{byte_digits, word_digits, hex_byte, hex_word}
 use Rattle.source_defs.specs.Parentheses.{has_parentheses}
-use Rattle.source_defs.specs.Tokens.{Number, token_to, token_at, tokens_from, tokens}
+use Rattle.expression_defs.specs.Tokens.{Number, token_to, token_at, tokens_from, tokens}
 use Rattle.listed_lines.proofs.Scans.{not_true, At, to_end, part_is, scanned}
 
 pub eqb_same : (m n : ℕ) → eqb m n ≡ true → m ≡ n

@@ -7,9 +7,8 @@ use Rattle.std.specs.List.{list_all, concat}
 use Rattle.std.proofs.lemmas.Bool.Decides.{nat_tests}
 use Rattle.source_defs.specs.declared.text.Span.{Span}
 use Rattle.source_defs.specs.Characters.{is_blank, is_line_feed, is_carriage_return}
-use Rattle.source_defs.specs.Lines.{part, lines_from}
+use Rattle.source_defs.specs.Lines.{part, lines_from, line_texts, numbered}
 use Rattle.source_defs.specs.Fields.{fields, in_quotes}
-use Rattle.source_defs.specs.Layout.{line_texts, numbered}
 use Rattle.source_defs.specs.ListedLines.{listed, listing_line, with_operands}
 use Rattle.source_defs.proofs.LineSteps.{lines_from_step, lines_from_end}
 use Rattle.listed_lines.proofs.Scans.{and_left, and_right, not_true, all_both, all_get, all_also, starts, starts_with, At, at_start, to_end}

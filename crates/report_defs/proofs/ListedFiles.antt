@@ -7,7 +7,8 @@ use Rattle.std.specs.List.{concat}
 use Rattle.tms_defs.specs.Instructions.{instr_at}
 use Rattle.source_defs.specs.Refusals.{Refusal}
 use Rattle.source_defs.specs.ListedLines.{listed}
-use Rattle.source_defs.specs.Layout.{numbered, laid}
+use Rattle.source_defs.specs.Lines.{numbered}
+use Rattle.expression_defs.specs.Layout.{laid}
 use Rattle.object_defs.specs.Modules.{Module}
 use Rattle.instruction_defs.specs.Printed.{printed}
 use Rattle.asm_defs.specs.declared.causes.AsmCause.{AsmCause}

@@ -10,7 +10,7 @@ use Rattle.std.proofs.lemmas.Cmp.{eq_by_cmp_equiv}
 use Rattle.std.proofs.lemmas.Bool.Decides.{nat_tests}
 use Rattle.std.proofs.lemmas.List.{get_or_past}
 use Rattle.tms_defs.specs.Bytes.{HoldsBytes}
-use Rattle.source_defs.specs.Symbols.{predefined}
+use Rattle.expression_defs.specs.Symbols.{predefined}
 use Rattle.gpl_defs.specs.Image.{Image, byte_at, low_of, high_of, placed}
 use Rattle.gpl_defs.proofs.ImageLaws.{high_of-insert, low_of-insert, high_of-empty, low_of-empty, ties-other, part_by}
 use Rattle.gpl_source_defs.specs.Programs.{program_of_source}

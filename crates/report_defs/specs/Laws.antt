@@ -4,7 +4,7 @@ use Rattle.std.specs.Prelude.{Result, Ok}
 use Rattle.std.specs.List.{concat}
 use Rattle.std.specs.FinMap.{empty}
 use Rattle.tms_defs.specs.Bytes.{HoldsBytes}
-use Rattle.source_defs.specs.Symbols.{predefined}
+use Rattle.expression_defs.specs.Symbols.{predefined}
 use Rattle.gpl_defs.specs.Image.{placed}
 use Rattle.gpl_source_defs.specs.Programs.{program_of_source}
 use Rattle.link_defs.specs.Causes.{LinkCause}

@@ -5,8 +5,8 @@ use Rattle.std.specs.Prelude.{ℕ, List, codes}
 use Rattle.source_defs.specs.Refusals.{Refusal}
 use Rattle.source_defs.specs.declared.causes.TextError.{TextError}
 use Rattle.source_defs.specs.declared.causes.TextError.TheVariants.{LineTooLong, BadLabel}
-use Rattle.source_defs.specs.declared.causes.ExprError.{ExprError}
-use Rattle.source_defs.specs.declared.causes.ExprError.TheVariants as expr
+use Rattle.expression_defs.specs.declared.causes.ExprError.{ExprError}
+use Rattle.expression_defs.specs.declared.causes.ExprError.TheVariants as expr
 use Rattle.instruction_defs.specs.declared.causes.FormError.{FormError}
 use Rattle.instruction_defs.specs.declared.causes.FormError.TheVariants as form
 use Rattle.asm_defs.specs.declared.causes.AsmCause.{AsmCause}

@@ -9,7 +9,8 @@ use crate::line::{Line, append, append_count};
 use asm_defs::AsmCause;
 use gpl_source_defs::GplCause;
 use instruction_defs::FormError;
-use source_defs::{ExprError, TextError};
+use expression_defs::ExprError;
+use source_defs::TextError;
 
 /// The line of a refused line of an assembler source, by its number, from 1. It has room for a file's name before it.
 pub fn asm_line(number: u32, cause: AsmCause) -> Line

@@ -8,7 +8,7 @@ use Rattle.std.specs.Prelude.{ℕ, zero, suc, ◌+◌, nat_lt, nat_le, if◌then
 use Rattle.std.specs.Prelude.{Option, Some, None, Result, Ok, Err}
 use Rattle.std.specs.Option.{ok_or}
 use Rattle.source_defs.specs.Refusals.{◌>>=◌, unless}
-use Rattle.source_defs.specs.Layout.{line_texts}
+use Rattle.source_defs.specs.Lines.{line_texts}
 use Rattle.asm_defs.specs.declared.causes.AsmCause.{AsmCause}
 use Rattle.shelf_defs.specs.Files.{Files, Contents, of_files}
 use Rattle.shelf_defs.specs.CopyLines.{LineKind, Itself, File, Bad, asked, ends_source}

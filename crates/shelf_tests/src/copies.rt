@@ -5,7 +5,8 @@ use asm_core::{AsmCause, assemble};
 use bench_shelf::{CopyCause, CopyError, FileName, MemShelf, copy_assemble};
 use instruction_defs::FormError;
 use object_tags::Module;
-use source_defs::{ExprError, TextError};
+use expression_defs::ExprError;
+use source_defs::TextError;
 use std::alloc::{AllocError, Global};
 use std::test::Fail;
 

@@ -7,8 +7,7 @@ use Rattle.std.proofs.lemmas.Bool.Decides.{nat_tests}
 use Rattle.std.proofs.lemmas.List.{get_or-append-add}
 use Rattle.std.proofs.Math.Seq.{drop-append_seam, take-append_seam, get_or-append_seam}
 use Rattle.source_defs.specs.Characters.{is_line_feed}
-use Rattle.source_defs.specs.Lines.{line_feeds_from, lines_from, without_return, part}
-use Rattle.source_defs.specs.Layout.{numbered}
+use Rattle.source_defs.specs.Lines.{line_feeds_from, lines_from, without_return, part, numbered}
 use Rattle.source_defs.specs.EndedLines.{IsOneLine, text_of, TextsHaveTheirLines}
 
 both_of : (a b : Bool) → (not a && b) ≡ true → (a ≡ false) × (b ≡ true)

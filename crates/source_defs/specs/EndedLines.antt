@@ -2,7 +2,7 @@
 use Rattle.std.specs.Prelude.{◌≡◌, ℕ, not, List, [], ◌∷◌, ◌++◌, IsTrue}
 use Rattle.std.specs.List.{flat_map, list_all, AllByRecursion}
 use Rattle.source_defs.specs.Characters.{is_line_feed}
-use Rattle.source_defs.specs.Layout.{line_texts, numbered}
+use Rattle.source_defs.specs.Lines.{line_texts, numbered}
 
 -- no line feed stands in a line
 abbrev pub IsOneLine : List ℕ → Type 0

@@ -8,16 +8,10 @@ pub mod Digits
 pub mod Refusals
 pub mod ByteValues
 pub mod Orders
-pub mod Tokens
-pub mod TokenLaw
-pub mod Expression
 pub mod Operands
 pub mod Parentheses
 pub mod OperandLists
 pub mod QuotedTexts
-pub mod Symbols
-pub mod Growing
-pub mod Layout
 pub mod LineLaw
 pub mod EndedLines
 pub mod FieldLaw

@@ -63,3 +63,12 @@ lines_from text number at bytes =
 -- the lines of a text
 abbrev pub lines : List ℕ → List Line
 lines text = lines_from text 1 0 text
+
+-- the texts of lines, each with its number from a number on
+abbrev pub numbered : ℕ → List (List ℕ) → List (ℕ × List ℕ)
+numbered number [] = []
+numbered number (text ∷ texts) = (number, text) ∷ numbered (number + 1) texts
+
+-- the lines of a source by their numbers
+abbrev pub line_texts : List ℕ → List (ℕ × List ℕ)
+line_texts source = map (λ line. (line.number, part source line.span)) (lines source)

@@ -5,6 +5,6 @@ mod causes;
 mod laws;
 mod text;
 
-pub use crate::causes::{ExprError, OperandError, TextError};
+pub use crate::causes::{OperandError, TextError};
 pub use crate::laws::texts_have_their_lines;
 pub use crate::text::{Line, Span};

@@ -4,7 +4,7 @@ use crate::object_text::word;
 use asm_core::{AsmCause, AsmError, AsmLines, assemble};
 use instruction_defs::FormError;
 use object_tags::{Piece, Spot};
-use source_defs::ExprError;
+use expression_defs::ExprError;
 use std::alloc::Global;
 use std::test::Fail;
 

@@ -6,9 +6,10 @@ use Rattle.std.specs.Prelude.{Result, Err, ◌||◌, map, max, nat_le, Option, i
 use Rattle.std.proofs.lemmas.Bool.Decides.{nat_tests}
 use Rattle.source_defs.specs.Refusals.{Refusal, ◌>>=◌}
 use Rattle.source_defs.specs.ListedLines.{listed}
-use Rattle.source_defs.specs.Expression.{Absolute}
-use Rattle.source_defs.specs.Symbols.{predefined}
-use Rattle.source_defs.specs.Layout.{laid_behind, settled, numbered}
+use Rattle.expression_defs.specs.Expression.{Absolute}
+use Rattle.expression_defs.specs.Symbols.{predefined}
+use Rattle.source_defs.specs.Lines.{numbered}
+use Rattle.expression_defs.specs.Layout.{laid_behind, settled}
 use Rattle.object_defs.specs.Digits.{padded}
 use Rattle.object_defs.specs.Modules.{Module}
 use Rattle.asm_defs.specs.declared.causes.AsmCause.{AsmCause}

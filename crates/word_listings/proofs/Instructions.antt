@@ -21,7 +21,7 @@ use Rattle.std.proofs.Common.{◌⊎◌, inl, inr, ℕ, ◌+◌, ◌*◌, Bool, 
 use Rattle.std.specs.Int.{w8}
 use Rattle.source_defs.specs.Refusals.{◌>>=◌}
 use Rattle.source_defs.specs.Digits.{hex_word}
-use Rattle.source_defs.specs.Expression.{Value, Absolute}
+use Rattle.expression_defs.specs.Expression.{Value, Absolute}
 use Rattle.source_defs.specs.ListedLines.{two_texts}
 use Rattle.tms_defs.specs.Instructions.{HasRoom, HasSignedByte, operation_of, word_of}
 use Rattle.tms_defs.specs.declared.instruction.Place.{Place}

@@ -6,8 +6,8 @@ use Rattle.std.specs.Prelude.{Err, ◌||◌, map, nat_le, nat_lt, slice_get, cod
 use Rattle.std.proofs.lemmas.Bool.Decides.{nat_tests}
 use Rattle.source_defs.specs.Refusals.{Refusal, ◌>>=◌}
 use Rattle.source_defs.specs.Digits.{hex_byte}
-use Rattle.source_defs.specs.Layout.{settled}
-use Rattle.source_defs.specs.Symbols.{predefined}
+use Rattle.expression_defs.specs.Layout.{settled}
+use Rattle.expression_defs.specs.Symbols.{predefined}
 use Rattle.tms_defs.specs.Words.{join}
 use Rattle.object_defs.specs.declared.spot.Spot.{Spot}
 use Rattle.object_defs.specs.declared.spot.Spot.TheVariants as spot

@@ -7,9 +7,9 @@ use Rattle.std.proofs.lemmas.Bool.Decides.{nat_tests}
 use Rattle.source_defs.specs.Refusals.{◌>>=◌}
 use Rattle.source_defs.specs.Digits.{hex_word, hex_byte, word_digits, byte_digits}
 use Rattle.source_defs.specs.ListedLines.{listed, with_operands}
-use Rattle.source_defs.specs.Expression.{Value, Absolute}
+use Rattle.expression_defs.specs.Expression.{Value, Absolute}
 use Rattle.source_defs.specs.Names.{is_word}
-use Rattle.source_defs.specs.Symbols.{Names}
+use Rattle.expression_defs.specs.Symbols.{Names}
 use Rattle.tms_defs.specs.Instructions.{instr_at, operation_of}
 use Rattle.tms_defs.specs.declared.instruction.Instr.{Instr}
 use Rattle.tms_defs.specs.declared.instruction.Instr.TheVariants as instr

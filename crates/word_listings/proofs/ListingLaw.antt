@@ -9,9 +9,9 @@ use Rattle.source_defs.specs.Refusals.{Refusal, ◌>>=◌}
 use Rattle.source_defs.specs.Digits.{hex_word, hex_byte, word_digits}
 use Rattle.source_defs.specs.ListedLines.{listed, listing_line}
 use Rattle.source_defs.specs.Operands.{operand_texts}
-use Rattle.source_defs.specs.Expression.{Relocatable}
-use Rattle.source_defs.specs.Layout.{laid_behind, settled}
-use Rattle.source_defs.specs.Symbols.{predefined}
+use Rattle.expression_defs.specs.Expression.{Relocatable}
+use Rattle.expression_defs.specs.Layout.{laid_behind, settled}
+use Rattle.expression_defs.specs.Symbols.{predefined}
 use Rattle.tms_defs.specs.Words.{join}
 use Rattle.object_defs.specs.Digits.{padded}
 use Rattle.object_defs.specs.Modules.{Module}

@@ -4,11 +4,11 @@ use Rattle.std.specs.Prelude.{Result, eqb}
 use Rattle.std.specs.Fmt.{decimal, digits}
 use Rattle.std.proofs.lemmas.Bool.{agree_below, agree_below_at}
 use mathlib.Core.Path.{fun_ext}
-use Rattle.source_defs.specs.declared.causes.ExprError.{ExprError}
+use Rattle.expression_defs.specs.declared.causes.ExprError.{ExprError}
 use Rattle.source_defs.specs.Digits.{hex_word, hex_byte, word_digits}
-use Rattle.source_defs.specs.Tokens.{token_at, tokens_from}
-use Rattle.source_defs.specs.Expression.{Value, Absolute, expression, negated}
-use Rattle.source_defs.specs.Symbols.{look_up, predefined, registers}
+use Rattle.expression_defs.specs.Tokens.{token_at, tokens_from}
+use Rattle.expression_defs.specs.Expression.{Value, Absolute, expression, negated}
+use Rattle.expression_defs.specs.Symbols.{look_up, predefined, registers}
 use Rattle.instruction_defs.specs.Printed.{register_text, operand_text, signed_text}
 use Rattle.line_laws.specs.KnownLines.{look_in}
 use Rattle.line_laws.proofs.Whole.{registers_stand}

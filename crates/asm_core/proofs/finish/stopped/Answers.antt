@@ -1,5 +1,5 @@
 use Rattle.std.proofs.Common.{[], sym, subst}
-use Rattle.source_defs.specs.Layout.{settled}
+use Rattle.expression_defs.specs.Layout.{settled}
 use Rattle.asm_defs.specs.Modules.{settle}
 use Rattle.asm_core.specs.declared.error.AsmError.{AsmError}
 use Rattle.asm_core.specs.Finishing.{RefusesAt}

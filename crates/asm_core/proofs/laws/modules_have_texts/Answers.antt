@@ -1,4 +1,4 @@
-use Rattle.source_defs.specs.Layout.{line_texts}
+use Rattle.source_defs.specs.Lines.{line_texts}
 use Rattle.asm_core.proofs.TextLaws.{module_has_text}
 use Rattle.asm_core.proofs.laws.modules_have_texts.Goals as goal
 

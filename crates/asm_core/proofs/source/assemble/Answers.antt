@@ -1,8 +1,8 @@
 use Rattle.std.proofs.Common.{◌≡◌, ◌+◌, ℕ, List, [], ◌∷◌, Ok, Err, length, sym, ap, subst, ◌∙◌, arith}
 use Rattle.source_defs.specs.declared.text.Line.{Line as TextLine}
 use Rattle.source_defs.specs.Refusals.{◌>>=◌}
-use Rattle.source_defs.specs.Lines.{LinesLieInside}
-use Rattle.source_defs.specs.Layout.{laid, laid_behind, line_texts}
+use Rattle.source_defs.specs.Lines.{LinesLieInside, line_texts}
+use Rattle.expression_defs.specs.Layout.{laid, laid_behind}
 use Rattle.asm_defs.specs.Locations.{Line}
 use Rattle.asm_defs.specs.FirstChecks.{check}
 use Rattle.asm_defs.specs.Modules.{module_behind}
@@ -10,7 +10,7 @@ use Rattle.std.specs.Prelude.{Result}
 use Rattle.std.proofs.lemmas.Result.{err_from_is_err_and}
 use Rattle.source_defs.specs.Refusals.{Refusal}
 use Rattle.asm_defs.specs.declared.causes.AsmCause.{AsmCause}
-use Rattle.source_defs.specs.Layout.{has_ended}
+use Rattle.expression_defs.specs.Layout.{has_ended}
 use Rattle.asm_core.specs.Building.{IsBehind, Takes}
 use Rattle.asm_core.specs.Finishing.{GivesModule}
 use Rattle.asm_core.proofs.ResolveLaws.{refuses_on}

@@ -1,6 +1,6 @@
 use Rattle.std.proofs.Common.{◌≡◌, ◌+◌, false, List, length}
-use Rattle.source_defs.specs.Lines.{LinesLieInside}
-use Rattle.source_defs.specs.Layout.{laid, laid_behind, line_texts}
+use Rattle.source_defs.specs.Lines.{LinesLieInside, line_texts}
+use Rattle.expression_defs.specs.Layout.{laid, laid_behind}
 use Rattle.asm_defs.specs.Locations.{Line}
 use Rattle.asm_defs.specs.FirstChecks.{check}
 use Rattle.asm_core.specs.Building.{IsBehind}

@@ -1,6 +1,6 @@
 use Rattle.std.proofs.Common.{false, sym, ap, ◌∙◌}
-use Rattle.source_defs.specs.Expression.{characters_behind, characters_value}
-use Rattle.source_defs.proofs.CharacterLaws.{value_more}
+use Rattle.expression_defs.specs.Expression.{characters_behind, characters_value}
+use Rattle.expression_defs.proofs.CharacterLaws.{value_more}
 use Rattle.asm_text.proofs.evaluate.text_value.Goals as goal
 
 pub returns-in-Some-first_character : goal.returns-in-Some-first_character

@@ -1,5 +1,5 @@
 use Rattle.std.proofs.Common.{◌<◌, [], ◌∷◌, length, Err, ◌∙◌, rules}
-use Rattle.source_defs.specs.Symbols.{look_up}
+use Rattle.expression_defs.specs.Symbols.{look_up}
 use Rattle.asm_text.specs.GivenTokens.{model_of_token}
 use Rattle.asm_text.specs.GivenValues.{model_of_value}
 use Rattle.asm_text.proofs.Inside.{tokens_lie_inside}

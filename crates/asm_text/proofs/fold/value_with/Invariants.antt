@@ -1,7 +1,7 @@
 use Rattle.std.proofs.Common.{◌≡◌, length}
 use Rattle.std.specs.Prelude.{map}
-use Rattle.source_defs.specs.Expression.{value_with}
-use Rattle.source_defs.specs.Symbols.{look_up}
+use Rattle.expression_defs.specs.Expression.{value_with}
+use Rattle.expression_defs.specs.Symbols.{look_up}
 use Rattle.asm_text.specs.GivenTokens.{model_of_token, TokensLieInside}
 use Rattle.asm_text.specs.GivenValues.{model_of_value}
 use Rattle.asm_text.proofs.fold.value_with.Given as goal

@@ -1,5 +1,5 @@
 use Rattle.std.proofs.Common.{◌≡◌}
-use Rattle.source_defs.specs.Tokens.{digits_end}
+use Rattle.expression_defs.specs.Tokens.{digits_end}
 use Rattle.asm_text.proofs.places.digits_end.Given as goal
 
 abbrev pub invariant-loop-at : goal.invariant-loop-at

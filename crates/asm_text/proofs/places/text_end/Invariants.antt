@@ -1,7 +1,7 @@
 use Rattle.std.proofs.Common.{◌≡◌}
 use Rattle.source_defs.specs.Least.{least_place}
 use Rattle.source_defs.specs.Fields.{in_quotes}
-use Rattle.source_defs.specs.Tokens.{ends_text, text_end}
+use Rattle.expression_defs.specs.Tokens.{ends_text, text_end}
 use Rattle.asm_text.proofs.places.text_end.Given as goal
 
 -- whether a quote is open, and no end stands before

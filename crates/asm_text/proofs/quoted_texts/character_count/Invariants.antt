@@ -1,5 +1,5 @@
 use Rattle.std.proofs.Common.{◌≡◌, ◌≤◌, ◌+◌, length, drop}
-use Rattle.source_defs.specs.Expression.{characters, characters_behind, between_quotes}
+use Rattle.expression_defs.specs.Expression.{characters, characters_behind, between_quotes}
 use Rattle.asm_text.proofs.quoted_texts.character_count.Given as goal
 
 -- the characters so far, and those of the bytes that are left

@@ -1,5 +1,5 @@
 use Rattle.std.proofs.Common.{rules}
-use Rattle.source_defs.specs.Tokens.{token_at}
+use Rattle.expression_defs.specs.Tokens.{token_at}
 use Rattle.asm_text.proofs.scan.token_at.Goals as goal
 
 pub returns-in_default-4 : goal.returns-in_default-4

@@ -3,8 +3,8 @@ use Rattle.std.specs.Prelude.{map}
 use Rattle.std.specs.Result.{is_ok}
 use Rattle.std.proofs.lemmas.List.{map-append}
 use Rattle.std.proofs.lemmas.Result.{err_from_is_err_and}
-use Rattle.source_defs.specs.Tokens.{tokens}
-use Rattle.source_defs.proofs.TokenLaws.{token_goes, behind_none, tokens_bad, tokens_more, tokens_end, tokens_follow}
+use Rattle.expression_defs.specs.Tokens.{tokens}
+use Rattle.expression_defs.proofs.TokenLaws.{token_goes, behind_none, tokens_bad, tokens_more, tokens_end, tokens_follow}
 use Rattle.asm_text.specs.GivenTokens.{model_of_token}
 use Rattle.asm_text.proofs.scan.tokens.Goals as goal
 

@@ -1,7 +1,7 @@
 use Rattle.std.proofs.Common.{◌≡◌, ℕ, ◌+◌, ◌-◌, ◌≤◌, length}
 use Rattle.std.specs.Prelude.{map}
-use Rattle.source_defs.specs.Tokens.{tokens_from, tokens}
-use Rattle.source_defs.proofs.TokenLaws.{behind}
+use Rattle.expression_defs.specs.Tokens.{tokens_from, tokens}
+use Rattle.expression_defs.proofs.TokenLaws.{behind}
 use Rattle.asm_text.specs.GivenTokens.{model_of_token}
 use Rattle.asm_text.proofs.scan.tokens.Given as goal
 

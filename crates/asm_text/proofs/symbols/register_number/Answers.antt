@@ -1,5 +1,5 @@
 use Rattle.std.proofs.Common.{◌≡◌, ◌<◌, sym, ap, ◌∙◌, arith}
-use Rattle.source_defs.proofs.SymbolLaws.{found, registers_all, register_here, register_later}
+use Rattle.expression_defs.proofs.SymbolLaws.{found, registers_all, register_here, register_later}
 use Rattle.asm_text.proofs.Names.{no_register}
 use Rattle.asm_text.proofs.symbols.register_number.Goals as goal
 

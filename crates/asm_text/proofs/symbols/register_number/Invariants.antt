@@ -1,6 +1,6 @@
 use Rattle.std.proofs.Common.{◌≡◌}
-use Rattle.source_defs.specs.Symbols.{registers}
-use Rattle.source_defs.proofs.SymbolLaws.{registers_from, found}
+use Rattle.expression_defs.specs.Symbols.{registers}
+use Rattle.expression_defs.proofs.SymbolLaws.{registers_from, found}
 use Rattle.asm_text.proofs.symbols.register_number.Given as goal
 
 -- the name is none of the registers so far

@@ -1,4 +1,4 @@
-use Rattle.source_defs.specs.Layout.{numbered}
+use Rattle.source_defs.specs.Lines.{numbered}
 use Rattle.asm_core.proofs.TextLaws.{module_has_text}
 use Rattle.file_commands.proofs.asm.lines_of.Goals as goal
 

@@ -2,9 +2,9 @@ use Rattle.std.proofs.Common.{◌≡◌, ◌+◌, [], ◌∷◌, Ok, ℕ, List, 
 use Rattle.std.specs.Prelude.{Result}
 use Rattle.source_defs.specs.declared.text.Line.{Line as TextLine}
 use Rattle.source_defs.specs.Refusals.{Refusal, ◌>>=◌}
-use Rattle.source_defs.specs.Lines.{LinesLieInside}
-use Rattle.source_defs.specs.Layout.{laid, laid_behind, line_texts, has_ended}
-use Rattle.source_defs.proofs.LaidLaws.{IsNumbered, lines_numbered, texts_of, ends_there, first_of_two}
+use Rattle.source_defs.specs.Lines.{LinesLieInside, line_texts}
+use Rattle.expression_defs.specs.Layout.{laid, laid_behind, has_ended}
+use Rattle.expression_defs.proofs.LaidLaws.{IsNumbered, lines_numbered, texts_of, ends_there, first_of_two}
 use Rattle.gpl_source_defs.specs.declared.causes.GplCause.{GplCause}
 use Rattle.gpl_source_defs.specs.Locations.{Line}
 use Rattle.gpl_source_defs.specs.FirstChecks.{check}

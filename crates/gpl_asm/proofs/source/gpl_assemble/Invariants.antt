@@ -1,7 +1,7 @@
 use Rattle.std.proofs.Common.{◌≡◌, ◌+◌, false, List, length}
-use Rattle.source_defs.specs.Lines.{LinesLieInside}
-use Rattle.source_defs.specs.Layout.{laid, laid_behind, line_texts}
-use Rattle.source_defs.proofs.LaidLaws.{IsNumbered, texts_of}
+use Rattle.source_defs.specs.Lines.{LinesLieInside, line_texts}
+use Rattle.expression_defs.specs.Layout.{laid, laid_behind}
+use Rattle.expression_defs.proofs.LaidLaws.{IsNumbered, texts_of}
 use Rattle.gpl_source_defs.specs.Locations.{Line}
 use Rattle.gpl_source_defs.specs.FirstChecks.{check}
 use Rattle.gpl_asm.specs.Building.{IsBehind}

@@ -1,6 +1,6 @@
 use Rattle.std.proofs.Common.{List, [], Err, map, sym, ap, subst}
-use Rattle.source_defs.specs.Symbols.{Names}
-use Rattle.source_defs.proofs.DefinedNames.{grown_not}
+use Rattle.expression_defs.specs.Symbols.{Names}
+use Rattle.expression_defs.proofs.DefinedNames.{grown_not}
 use Rattle.gpl_source_defs.specs.Locations.{Line}
 use Rattle.gpl_source_defs.specs.FirstChecks.{names}
 use Rattle.gpl_asm.specs.declared.error.GplError.{GplError}

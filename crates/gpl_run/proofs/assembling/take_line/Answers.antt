@@ -2,7 +2,8 @@ use Rattle.std.proofs.Common.{◌∙◌, [], ◌∷◌, ◌++◌, sym, subst, ru
 use Rattle.asm_core.specs.Building.{HasAccepted}
 use Rattle.asm_core.specs.Finishing.{RefusesAt}
 use Rattle.asm_defs.specs.FirstChecks.{check}
-use Rattle.source_defs.specs.Layout.{laid, numbered}
+use Rattle.source_defs.specs.Lines.{numbered}
+use Rattle.expression_defs.specs.Layout.{laid}
 use Rattle.line_table.proofs.Joined.{source_gives_words}
 use Rattle.gpl_run.proofs.FurtherLines.{goes_on, stays_ended, refused}
 use Rattle.gpl_run.proofs.assembling.take_line.Goals as goal

@@ -4,7 +4,7 @@ use Rattle.std.specs.Result.{is_ok}
 use Rattle.std.proofs.lemmas.List.{map-append}
 use Rattle.source_defs.specs.Lines.{part}
 use Rattle.source_defs.specs.Operands.{OperandsLieInside}
-use Rattle.source_defs.specs.Symbols.{look_up}
+use Rattle.expression_defs.specs.Symbols.{look_up}
 use Rattle.asm_forms.specs.Placed.{model_of_word, model_of_words}
 use Rattle.asm_defs.specs.SecondChecks.{data_values}
 use Rattle.source_defs.specs.Refusals.{after}

@@ -1,6 +1,6 @@
 use Rattle.std.proofs.Common.{◌≡◌, ◌≤◌, ◌+◌, ◌*◌, length}
 use Rattle.std.specs.Prelude.{map}
-use Rattle.source_defs.specs.Symbols.{look_up}
+use Rattle.expression_defs.specs.Symbols.{look_up}
 use Rattle.source_defs.specs.Lines.{part}
 use Rattle.source_defs.specs.Operands.{OperandsLieInside}
 use Rattle.source_defs.specs.Operands.{operand_texts}

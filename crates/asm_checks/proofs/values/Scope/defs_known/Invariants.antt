@@ -1,5 +1,5 @@
 use Rattle.std.proofs.Common.{◌≡◌, length}
-use Rattle.source_defs.specs.Symbols.{look_up}
+use Rattle.expression_defs.specs.Symbols.{look_up}
 use Rattle.asm_defs.specs.SecondChecks.{defs_known}
 use Rattle.asm_checks.proofs.values.Scope.defs_known.Given as goal
 

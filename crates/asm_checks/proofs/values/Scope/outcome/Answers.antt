@@ -1,5 +1,5 @@
 use Rattle.std.proofs.Common.{subst}
-use Rattle.source_defs.specs.Symbols.{look_up}
+use Rattle.expression_defs.specs.Symbols.{look_up}
 use Rattle.asm_checks.specs.Defined.{KeepsSkeleton}
 use Rattle.asm_checks.proofs.Instructions.{instruction_given}
 use Rattle.asm_checks.proofs.values.Scope.outcome.Goals as goal

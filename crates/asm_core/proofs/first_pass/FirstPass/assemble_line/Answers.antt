@@ -1,5 +1,5 @@
 use Rattle.std.proofs.Common.{arith}
-use Rattle.source_defs.specs.Symbols.{look_up}
+use Rattle.expression_defs.specs.Symbols.{look_up}
 use Rattle.asm_core.proofs.AssembleLaws.{comes_within}
 use Rattle.asm_core.proofs.first_pass.FirstPass.assemble_line.Goals as goal
 

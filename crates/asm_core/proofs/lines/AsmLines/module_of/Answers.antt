@@ -1,6 +1,6 @@
 use Rattle.std.proofs.Common.{◌≡◌, ◌++◌, ℕ, refl, ap, ◌∙◌}
 use Rattle.std.specs.Prelude.{map, Option}
-use Rattle.source_defs.specs.Symbols.{Names}
+use Rattle.expression_defs.specs.Symbols.{Names}
 use Rattle.object_tags.specs.Seen.{model_of_ref, model_of_def}
 use Rattle.asm_defs.specs.declared.content.Content.{Content}
 use Rattle.asm_defs.specs.declared.location.Part.{Part}

@@ -1,7 +1,7 @@
 use Rattle.std.proofs.Common.{◌≡◌, ◌+◌, [], length, drop, sym, ap, subst, arith}
 use Rattle.std.proofs.lemmas.List.{drop_all}
 use Rattle.source_defs.specs.Orders.{onto}
-use Rattle.source_defs.specs.Layout.{settled}
+use Rattle.expression_defs.specs.Layout.{settled}
 use Rattle.asm_defs.specs.Modules.{settle}
 use Rattle.asm_core.specs.declared.error.AsmError.{AsmError}
 use Rattle.asm_core.specs.Finishing.{RefusesAt}

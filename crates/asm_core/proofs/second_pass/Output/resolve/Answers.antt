@@ -1,5 +1,5 @@
 use Rattle.std.proofs.Common.{◌≡◌, Ok, ap, ◌∙◌, sym, arith}
-use Rattle.source_defs.specs.Symbols.{look_up}
+use Rattle.expression_defs.specs.Symbols.{look_up}
 use Rattle.source_defs.specs.Refusals.{◌>>=◌}
 use Rattle.asm_defs.specs.Statements.{parse_line, statement_in, as_text}
 use Rattle.asm_checks.specs.Defined.{model_of_statement}

@@ -2,7 +2,7 @@ use Rattle.std.proofs.Common.{refl, sym, ap, subst, ◌∙◌}
 use Rattle.std.specs.Prelude.{IsSome}
 use Rattle.std.specs.FinMap.{get, insert}
 use Rattle.std.specs.Option.{option_map}
-use Rattle.source_defs.specs.Symbols.{Names}
+use Rattle.expression_defs.specs.Symbols.{Names}
 use Rattle.asm_text.specs.GivenValues.{model_of_value}
 use Rattle.asm_text.proofs.Names.{define_kept, kept_same, get_free, register_some, register_none, some_seen, seen_some, on_ok, on_err}
 use Rattle.asm_text.proofs.symbols.Symbols.define.Goals as goal

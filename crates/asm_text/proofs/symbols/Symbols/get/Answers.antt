@@ -1,9 +1,9 @@
 use Rattle.std.proofs.Common.{◌≡◌, Some, None, sym, ap, ◌∙◌}
 use Rattle.std.specs.Option.{option_map}
 use Rattle.std.specs.FinMap.{get}
-use Rattle.source_defs.specs.Expression.{Absolute}
-use Rattle.source_defs.specs.Symbols.{registers}
-use Rattle.source_defs.proofs.SymbolLaws.{found}
+use Rattle.expression_defs.specs.Expression.{Absolute}
+use Rattle.expression_defs.specs.Symbols.{registers}
+use Rattle.expression_defs.proofs.SymbolLaws.{found}
 use Rattle.asm_text.specs.GivenValues.{model_of_value}
 use Rattle.asm_text.proofs.Names.{get_kept}
 use Rattle.asm_text.proofs.symbols.Symbols.get.Goals as goal

@@ -1,7 +1,7 @@
 use Rattle.std.proofs.Common.{◌≡◌, Ok, subst, refl}
 use Rattle.std.specs.FinMap.{get}
-use Rattle.source_defs.specs.Symbols.{Names}
-use Rattle.source_defs.specs.Expression.{Absolute, expression}
+use Rattle.expression_defs.specs.Symbols.{Names}
+use Rattle.expression_defs.specs.Expression.{Absolute, expression}
 use Rattle.asm_text.proofs.Registers.{register_alone}
 use Rattle.asm_text.proofs.symbols.Symbols.register_in.Goals as goal
 

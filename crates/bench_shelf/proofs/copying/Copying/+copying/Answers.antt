@@ -1,7 +1,6 @@
 use Rattle.std.proofs.Common.{◌<◌, None, refl, sym, ap, ◌∙◌, subst, arith}
-use Rattle.source_defs.specs.Lines.{LinesLieInside}
-use Rattle.source_defs.specs.Layout.{line_texts}
-use Rattle.source_defs.proofs.LaidLaws.{texts_of}
+use Rattle.source_defs.specs.Lines.{LinesLieInside, line_texts}
+use Rattle.expression_defs.proofs.LaidLaws.{texts_of}
 use Rattle.shelf_defs.specs.CopyLines.{File, Bad}
 use Rattle.shelf_defs.specs.Copied as spec
 use Rattle.shelf_defs.specs.Copied.{most_bytes}

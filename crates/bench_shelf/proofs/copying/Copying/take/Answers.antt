@@ -1,7 +1,8 @@
 use Rattle.std.proofs.Common.{[], ◌∷◌, ◌++◌, length, refl, sym, ap, subst, arith, length-append}
 use Rattle.shelf_defs.specs.Assembly.{texts, laid_copied}
 use Rattle.shelf_defs.specs.Copied.{own_line, prepend}
-use Rattle.source_defs.specs.Layout.{laid, numbered}
+use Rattle.source_defs.specs.Lines.{numbered}
+use Rattle.expression_defs.specs.Layout.{laid}
 use Rattle.asm_defs.specs.declared.causes.AsmCause.{AsmCause}
 use Rattle.asm_defs.specs.declared.location.Location.{Location}
 use Rattle.asm_defs.specs.FirstChecks.{check}

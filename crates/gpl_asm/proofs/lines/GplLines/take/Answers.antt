@@ -2,13 +2,13 @@ use Rattle.std.proofs.Common.{◌≡◌, ◌+◌, ◌||◌, false, Ok, length, s
 use Rattle.std.specs.Prelude.{Option}
 use Rattle.source_defs.specs.Refusals.{◌>>=◌}
 use Rattle.source_defs.specs.Fields.{no_fields}
-use Rattle.source_defs.specs.Symbols.{Names, look_up}
+use Rattle.expression_defs.specs.Symbols.{Names, look_up}
 use Rattle.source_defs.proofs.FieldLaws.{fields_stand_apart}
-use Rattle.source_defs.specs.Layout.{with_names}
+use Rattle.expression_defs.specs.Layout.{with_names}
 use Rattle.gpl_source_defs.specs.declared.location.Location.{Location}
-use Rattle.source_defs.specs.Growing.{Grows}
+use Rattle.expression_defs.specs.Growing.{Grows}
 use Rattle.gpl_source_defs.specs.Locations.{location, behind, origin_of}
-use Rattle.source_defs.specs.Layout.{set_or}
+use Rattle.expression_defs.specs.Layout.{set_or}
 use Rattle.gpl_source_defs.specs.FirstChecks.{checked, line_of, names, label_entry, label_value, is_taken, is_full, is_end}
 use Rattle.gpl_source_defs.specs.SecondChecks.{outcome}
 use Rattle.gpl_lines.specs.Defined.{model_of_checked}

@@ -1,7 +1,7 @@
 use Rattle.std.proofs.Common.{◌≡◌}
 use Rattle.std.specs.Prelude.{map}
 use Rattle.source_defs.specs.Refusals.{after}
-use Rattle.source_defs.specs.Symbols.{look_up}
+use Rattle.expression_defs.specs.Symbols.{look_up}
 use Rattle.source_defs.specs.Lines.{part}
 use Rattle.source_defs.specs.Operands.{OperandsLieInside, operand_texts}
 use Rattle.gpl_source_defs.specs.Locations.{address_of}

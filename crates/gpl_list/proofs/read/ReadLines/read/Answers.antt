@@ -1,8 +1,8 @@
 use Rattle.std.proofs.Common.{◌≡◌, suc, ◌+◌, arith, false, [], ◌∷◌, length, sym, ap, subst, ◌∙◌}
 use Rattle.std.proofs.lemmas.Result.{err_from_is_err_and}
-use Rattle.source_defs.specs.Lines.{LinesLieInside}
-use Rattle.source_defs.specs.Layout.{line_texts, has_ended}
-use Rattle.source_defs.proofs.LaidLaws.{IsNumbered, lines_numbered}
+use Rattle.source_defs.specs.Lines.{LinesLieInside, line_texts}
+use Rattle.expression_defs.specs.Layout.{has_ended}
+use Rattle.expression_defs.proofs.LaidLaws.{IsNumbered, lines_numbered}
 use Rattle.gpl_asm.specs.Building.{IsBehind}
 use Rattle.gpl_list.proofs.ReadLaws.{keeps_none}
 use Rattle.gpl_list.proofs.PassLaws.{Passed, passed_none, text_is, has_taken, passed_more, passed_end, read_refused}

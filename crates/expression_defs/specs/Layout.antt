@@ -2,13 +2,12 @@
 --
 -- Profile: the first checks judge a line by the lines before it, of which the nearest stands first. The second
 -- checks are made only where the first refuse no line, and see the names of all lines.
-use Rattle.std.specs.Prelude.{ℕ, ◌+◌, if◌then◌else◌, Bool, false, ◌||◌, List, [], ◌∷◌, map, Option, Some, None, Result}
+use Rattle.std.specs.Prelude.{ℕ, ◌+◌, if◌then◌else◌, Bool, false, ◌||◌, List, [], ◌∷◌, Option, Some, None, Result}
 use Rattle.std.specs.Prelude.{Ok, is_some}
 use Rattle.std.specs.FinMap.{insert}
 use Rattle.source_defs.specs.Refusals.{Refusal, ◌>>=◌, at_line}
-use Rattle.source_defs.specs.Expression.{Value}
-use Rattle.source_defs.specs.Symbols.{Names}
-use Rattle.source_defs.specs.Lines.{part, lines}
+use Rattle.expression_defs.specs.Expression.{Value}
+use Rattle.expression_defs.specs.Symbols.{Names}
 
 -- What a line comes to by its first checks: its number; the location that it sets, if it sets one; the bytes that are
 -- left free before it, so that it stands at an even place; its size; the names that it defines; what it says; and
@@ -61,15 +60,6 @@ with_names names (entry ∷ entries) = with_names (insert names entry.0 entry.1)
 abbrev pub names_of : {P S : Type 0} → Names → List (Laid P S) → Names
 names_of predefined [] = predefined
 names_of predefined (line ∷ before) = with_names (names_of predefined before) line.names
-
--- the texts of lines, each with its number from a number on
-abbrev pub numbered : ℕ → List (List ℕ) → List (ℕ × List ℕ)
-numbered number [] = []
-numbered number (text ∷ texts) = (number, text) ∷ numbered (number + 1) texts
-
--- the lines of a source by their numbers
-abbrev pub line_texts : List ℕ → List (ℕ × List ℕ)
-line_texts source = map (λ line. (line.number, part source line.span)) (lines source)
 
 -- lines by the first checks, which see the lines before, the number of a line and its text
 module _ {P S C : Type 0} (check : List (Laid P S) → ℕ → List ℕ → Result (Laid P S) C) where

@@ -3,9 +3,9 @@ use Rattle.std.proofs.Common.{◌≡◌, ℕ, ◌+◌, Bool, true, false, ◌||�
 use Rattle.std.specs.Prelude.{Result, if◌then◌else◌, map, ⊤}
 use Rattle.source_defs.specs.declared.text.Line.{Line as TextLine}
 use Rattle.source_defs.specs.declared.text.Span.{Span}
-use Rattle.source_defs.specs.Lines.{part, lines, lines_from, numbered_from}
+use Rattle.source_defs.specs.Lines.{part, lines, lines_from, numbered_from, numbered}
 use Rattle.source_defs.specs.Refusals.{Refusal, ◌>>=◌, at_line}
-use Rattle.source_defs.specs.Layout.{Laid, laid_behind, numbered, has_ended}
+use Rattle.expression_defs.specs.Layout.{Laid, laid_behind, has_ended}
 
 pub first_of_two : (a b : Bool) → (a || b) ≡ true → b ≡ false → a ≡ true
 first_of_two true b e f = refl

@@ -5,7 +5,7 @@ use Rattle.std.specs.List.{range_with_len}
 use Rattle.std.specs.Ordering.{nat_cmp}
 use Rattle.std.specs.Cmp.Lexicographic.{slice_cmp}
 use Rattle.std.specs.FinMap.{FinMap, from_entries, get}
-use Rattle.source_defs.specs.Expression.{Value, Absolute, Relocatable, External}
+use Rattle.expression_defs.specs.Expression.{Value, Absolute, Relocatable, External}
 
 -- names with their values, in the order of their bytes
 abbrev pub Names : Type 0

@@ -4,17 +4,17 @@ use Rattle.std.proofs.Common.{get_or, Some, None, Ok, Err, refl, sym, ap, subst,
 use Rattle.std.specs.Prelude.{Option, Result, nat_lt, slice_range, map}
 use Rattle.std.proofs.lemmas.Bool.{cases_lt, ltb-true}
 use Rattle.std.proofs.lemmas.Bool.Decides.{nat_tests}
-use Rattle.source_defs.specs.declared.causes.ExprError.{ExprError}
-use Rattle.source_defs.specs.declared.causes.ExprError.TheVariants.{BadToken}
+use Rattle.expression_defs.specs.declared.causes.ExprError.{ExprError}
+use Rattle.expression_defs.specs.declared.causes.ExprError.TheVariants.{BadToken}
 use Rattle.source_defs.specs.Refusals.{◌>>=◌}
 use Rattle.source_defs.specs.Characters.{is_quote, is_digit, is_letter, upper_case}
 use Rattle.source_defs.specs.Names.{is_letter_or_digit}
 use Rattle.source_defs.specs.Numbers.{hexadecimal_number}
 use Rattle.source_defs.specs.Fields.{in_quotes}
 use Rattle.source_defs.specs.Least.{least_place}
-use Rattle.source_defs.specs.Tokens.{Kind, Name, Here, Text, Sign, Token, token_to, number_token, digits_end, hexadecimal_end, name_end, ends_text, text_end}
-use Rattle.source_defs.specs.Tokens.{decimal_token, hexadecimal_token, name_token, text_token, is_location_sign, is_operator, token_at, tokens_from}
-use Rattle.source_defs.specs.TokenLaw.{Follow, TokensFollow}
+use Rattle.expression_defs.specs.Tokens.{Kind, Name, Here, Text, Sign, Token, token_to, number_token, digits_end, hexadecimal_end, name_end, ends_text, text_end}
+use Rattle.expression_defs.specs.Tokens.{decimal_token, hexadecimal_token, name_token, text_token, is_location_sign, is_operator, token_at, tokens_from}
+use Rattle.expression_defs.specs.TokenLaw.{Follow, TokensFollow}
 use Rattle.source_defs.proofs.LeastLaws.{least_places_are_least, least_place-ge, least_place-le}
 
 -- what is bound gives a value only where both parts do

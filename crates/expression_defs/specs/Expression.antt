@@ -6,12 +6,12 @@
 -- joining it.
 use Rattle.std.specs.Prelude.{ℕ, ◌+◌, ◌-◌, ◌*◌, ◌/◌, ◌%◌, ◌==◌, Bool, false, not, ◌&&◌, nat_le, if◌then◌else◌, List}
 use Rattle.std.specs.Prelude.{[], ◌∷◌, length, slice_range, Option, Some, None, Result, Ok, Err}
-use Rattle.source_defs.specs.declared.causes.ExprError.{ExprError}
-use Rattle.source_defs.specs.declared.causes.ExprError.TheVariants.{BadToken, UnknownName, BadRelocation, DivideByZero}
+use Rattle.expression_defs.specs.declared.causes.ExprError.{ExprError}
+use Rattle.expression_defs.specs.declared.causes.ExprError.TheVariants.{BadToken, UnknownName, BadRelocation, DivideByZero}
 use Rattle.source_defs.specs.Refusals.{◌>>=◌}
 use Rattle.source_defs.specs.Characters.{is_quote}
 use Rattle.source_defs.specs.Lines.{part}
-use Rattle.source_defs.specs.Tokens.{Kind, Number, Name, Here, Text, Sign, Token, tokens}
+use Rattle.expression_defs.specs.Tokens.{Kind, Number, Name, Here, Text, Sign, Token, tokens}
 
 -- Editor/Assembler manual, "Expressions": a number; a place in relocatable code; or an external name, whose value the
 -- linker knows.

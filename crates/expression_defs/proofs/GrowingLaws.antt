@@ -2,10 +2,10 @@
 use Rattle.std.proofs.Common.{◌≡◌, ℕ, Bool, true, false, List, [], ◌∷◌, Some, None, Ok, Err, refl, ap, ◌∙◌}
 use Rattle.std.specs.Prelude.{Option, Result, if◌then◌else◌}
 use Rattle.source_defs.specs.Refusals.{◌>>=◌}
-use Rattle.source_defs.specs.Tokens.{Kind, Number, Name, Here, Text, Sign, Token, tokens}
-use Rattle.source_defs.specs.Expression.{Value, known_value, kind_value, term_value, operator_of, is_minus, joined, minus, value_with, minus_value, value}
-use Rattle.source_defs.specs.Expression.{expression}
-use Rattle.source_defs.specs.Growing.{is_unresolved, is_closed}
+use Rattle.expression_defs.specs.Tokens.{Kind, Number, Name, Here, Text, Sign, Token, tokens}
+use Rattle.expression_defs.specs.Expression.{Value, known_value, kind_value, term_value, operator_of, is_minus, joined, minus, value_with, minus_value, value}
+use Rattle.expression_defs.specs.Expression.{expression}
+use Rattle.expression_defs.specs.Growing.{is_unresolved, is_closed}
 
 -- what one answers is what the other answers, unless more names may lift its refusal
 abbrev pub Stays : {A E : Type 0} → (E → Bool) → Result A E → Result A E → Type 0

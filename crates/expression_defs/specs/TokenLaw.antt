@@ -1,6 +1,6 @@
 -- Where the tokens of a text stand.
 use Rattle.std.specs.Prelude.{◌≡◌, ℕ, ◌<◌, ◌≤◌, List, [], ◌∷◌, length, Ok}
-use Rattle.source_defs.specs.Tokens.{Token, tokens}
+use Rattle.expression_defs.specs.Tokens.{Token, tokens}
 
 -- each token begins where the one before it ends, the first at a place, and the last ends where the text does
 abbrev pub Follow : List ℕ → ℕ → List Token → Type 0

@@ -3,8 +3,8 @@ use Rattle.std.proofs.Common.{◌≡◌, ℕ, ◌+◌, ◌*◌, ◌<◌, ◌≤�
 use Rattle.std.proofs.lemmas.Bool.Decides.{nat_tests}
 use Rattle.std.specs.Prelude.{Option, Some, None, ◌==◌, if◌then◌else◌}
 use Rattle.source_defs.specs.Characters.{is_quote}
-use Rattle.source_defs.specs.Expression.{Absolute, characters_behind, characters_value}
-use Rattle.source_defs.specs.declared.causes.ExprError.TheVariants.{BadToken}
+use Rattle.expression_defs.specs.Expression.{Absolute, characters_behind, characters_value}
+use Rattle.expression_defs.specs.declared.causes.ExprError.TheVariants.{BadToken}
 
 -- the first character, where two quotes are one, and what stands behind it
 abbrev pub first_character : List ℕ → Option (ℕ × List ℕ)

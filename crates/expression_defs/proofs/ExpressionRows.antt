@@ -1,13 +1,13 @@
 -- Worked rows of tokens, values and operands.
 use Rattle.std.proofs.Common.{◌≡◌, ℕ, List, [], ◌∷◌, Some, None, Ok, Err, refl}
 use Rattle.std.specs.Prelude.{Option, Result, codes, map, if◌then◌else◌}
-use Rattle.source_defs.specs.declared.causes.ExprError.{ExprError}
-use Rattle.source_defs.specs.declared.causes.ExprError.TheVariants.{BadToken, UnknownName, BadRelocation, TooLarge, DivideByZero}
+use Rattle.expression_defs.specs.declared.causes.ExprError.{ExprError}
+use Rattle.expression_defs.specs.declared.causes.ExprError.TheVariants.{BadToken, UnknownName, BadRelocation, TooLarge, DivideByZero}
 use Rattle.source_defs.specs.declared.text.Span.{Span}
 use Rattle.source_defs.specs.Names.{is_word}
 use Rattle.source_defs.specs.Fields.{in_quotes}
-use Rattle.source_defs.specs.Tokens.{token_at, tokens_from}
-use Rattle.source_defs.specs.Expression.{Value, Absolute, Relocatable, External, expression}
+use Rattle.expression_defs.specs.Tokens.{token_at, tokens_from}
+use Rattle.expression_defs.specs.Expression.{Value, Absolute, Relocatable, External, expression}
 use Rattle.source_defs.specs.Operands.{operands, operands_from}
 
 -- LOOP is relocatable >0104, A is absolute 10, EXT is external, and no other name is known; $ is relocatable >0110

@@ -29,8 +29,8 @@ use Rattle.std.specs.Prelude.{
   Err,
 }
 use Rattle.source_defs.specs.declared.text.Span.{Span}
-use Rattle.source_defs.specs.declared.causes.ExprError.{ExprError}
-use Rattle.source_defs.specs.declared.causes.ExprError.TheVariants.{BadToken, TooLarge}
+use Rattle.expression_defs.specs.declared.causes.ExprError.{ExprError}
+use Rattle.expression_defs.specs.declared.causes.ExprError.TheVariants.{BadToken, TooLarge}
 use Rattle.source_defs.specs.Refusals.{◌>>=◌}
 use Rattle.source_defs.specs.Characters.{is_quote, is_digit, is_letter, upper_case}
 use Rattle.source_defs.specs.Least.{least_place, end_of}

@@ -1,10 +1,10 @@
 -- What is known of an expression while names are still to come.
 use Rattle.std.specs.Prelude.{◌≡◌, ℕ, Bool, true, false, not, List, Some, Result, Ok, Err}
-use Rattle.source_defs.specs.declared.causes.ExprError.{ExprError}
-use Rattle.source_defs.specs.declared.causes.ExprError.TheVariants.{BadToken, UnknownName, BadRelocation, TooLarge}
-use Rattle.source_defs.specs.declared.causes.ExprError.TheVariants.{DivideByZero, Memory}
-use Rattle.source_defs.specs.Expression.{Value}
-use Rattle.source_defs.specs.Symbols.{Names, look_up}
+use Rattle.expression_defs.specs.declared.causes.ExprError.{ExprError}
+use Rattle.expression_defs.specs.declared.causes.ExprError.TheVariants.{BadToken, UnknownName, BadRelocation, TooLarge}
+use Rattle.expression_defs.specs.declared.causes.ExprError.TheVariants.{DivideByZero, Memory}
+use Rattle.expression_defs.specs.Expression.{Value}
+use Rattle.expression_defs.specs.Symbols.{Names, look_up}
 
 -- what stands for something goes on to do so
 abbrev pub Grows : Names → Names → Type 0

@@ -5,8 +5,8 @@ use Rattle.std.specs.List.{range_with_len}
 use Rattle.std.specs.Ordering.{nat_cmp}
 use Rattle.std.specs.Cmp.Lexicographic.{pointwise, slice_cmp, texts_ties}
 use Rattle.std.specs.FinMap.{find}
-use Rattle.source_defs.specs.Expression.{Value, Absolute}
-use Rattle.source_defs.specs.Symbols.{register_name, registers}
+use Rattle.expression_defs.specs.Expression.{Value, Absolute}
+use Rattle.expression_defs.specs.Symbols.{register_name, registers}
 
 abbrev pub row : ℕ → List ℕ × Value
 row number = (register_name number, Absolute number)

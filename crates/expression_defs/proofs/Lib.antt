@@ -1,0 +1,7 @@
+mod ExpressionRows
+pub mod TokenLaws
+pub mod CharacterLaws
+pub mod SymbolLaws
+pub mod GrowingLaws
+pub mod LaidLaws
+pub mod DefinedNames
