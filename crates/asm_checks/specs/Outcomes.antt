@@ -7,7 +7,7 @@ use Rattle.instruction_defs.specs.declared.causes.FormError.TheVariants.{BadOper
 use Rattle.asm_defs.specs.Statements.{as_form}
 use Rattle.std.specs.Option.{option_map}
 use Rattle.object_defs.specs.declared.spot.Spot.{Spot}
-use Rattle.asm_text.specs.declared.values.Value.{Value as CodeValue}
+use Rattle.asm_text.specs.declared.expressions.values.Value.{Value as CodeValue}
 use Rattle.asm_text.specs.GivenValues.{model_of_value}
 use Rattle.asm_defs.specs.Modules.{spot_of}
 use Rattle.asm_forms.specs.Placed.{model_of_words, words_in}

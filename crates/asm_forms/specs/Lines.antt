@@ -7,7 +7,7 @@ use Rattle.instruction_defs.specs.FirstChecks.{first_checks}
 use Rattle.instruction_defs.specs.SecondChecks.{second_checks}
 use Rattle.source_defs.specs.declared.text.Span.{Span}
 use Rattle.source_defs.specs.Lines.{part}
-use Rattle.asm_text.specs.declared.line_fields.Fields.{Fields}
+use Rattle.asm_text.specs.declared.text_lines.line_fields.Fields.{Fields}
 
 abbrev pub text_at : List ℕ → Option Span → List ℕ
 text_at line None = []

@@ -2,7 +2,7 @@
 use Rattle.std.specs.Prelude.{◌<◌, ⊤, List, Option, Result, Ok, Err}
 use Rattle.expression_defs.specs.Expression as expression
 use Rattle.std.specs.declared.option.Option.TheVariants as option
-use Rattle.asm_text.specs.declared.values.Value.{Value}
+use Rattle.asm_text.specs.declared.expressions.values.Value.{Value}
 use Rattle.asm_text.specs.GivenValues.{model_of_value}
 use Rattle.instruction_defs.specs.declared.causes.FormError.{FormError}
 use Rattle.instruction_defs.specs.SecondChecks as spec

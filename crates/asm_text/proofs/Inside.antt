@@ -4,7 +4,7 @@ use Rattle.std.specs.Prelude.{map}
 use Rattle.expression_defs.specs.Tokens.{tokens}
 use Rattle.expression_defs.specs.TokenLaw.{Follow}
 use Rattle.expression_defs.proofs.TokenLaws.{tokens_follow}
-use Rattle.asm_text.specs.declared.token.Token.{Token}
+use Rattle.asm_text.specs.declared.expressions.token.Token.{Token}
 use Rattle.asm_text.specs.GivenTokens.{model_of_token, TokensLieInside}
 
 inside_from : (line : List ℕ) (from : ℕ) (found : List Token) → Follow line from (map model_of_token found) → TokensLieInside line found

@@ -15,7 +15,7 @@ use Rattle.std.specs.Map.{lookup}
 use Rattle.expression_defs.specs.Expression as defined
 use Rattle.expression_defs.specs.Symbols.{registers}
 use Rattle.expression_defs.proofs.SymbolLaws.{found}
-use Rattle.asm_text.specs.declared.values.Value.{Value}
+use Rattle.asm_text.specs.declared.expressions.values.Value.{Value}
 use Rattle.asm_text.specs.GivenValues.{model_of_value}
 use Rattle.std.proofs.lemmas.Bool.Decides.{nat_tests}
 use Rattle.asm_text.specs.Kept.{begins_as_register, model_of_entry, names_of}

@@ -6,7 +6,7 @@ use Rattle.expression_defs.specs.declared.causes.ExprError.{ExprError}
 use Rattle.expression_defs.specs.declared.causes.ExprError.TheVariants.{BadToken, UnknownName, BadRelocation, DivideByZero, TooLarge, Memory}
 use Rattle.source_defs.specs.Refusals.{◌>>=◌}
 use Rattle.expression_defs.specs.Expression as defined
-use Rattle.asm_text.specs.declared.values.Value.{Value}
+use Rattle.asm_text.specs.declared.expressions.values.Value.{Value}
 use Rattle.asm_text.specs.GivenValues.{model_of_value, model_of_value_answer}
 use Rattle.asm_text.specs.Yielded.{Yields}
 use Rattle.expression_defs.specs.Tokens.{Token, Kind, Number, Name, Here, Text, Sign, token_at, tokens_from, tokens}

@@ -16,7 +16,7 @@ use Rattle.expression_defs.specs.Expression as defined
 use Rattle.expression_defs.specs.Symbols.{register_name, registers}
 use Rattle.source_defs.proofs.LeastLaws.{least_places_are_least}
 use Rattle.expression_defs.proofs.SymbolLaws.{found}
-use Rattle.asm_text.specs.declared.values.Value.{Value}
+use Rattle.asm_text.specs.declared.expressions.values.Value.{Value}
 use Rattle.asm_text.specs.Kept.{names_of}
 use Rattle.asm_text.proofs.OneToken.{value_is}
 use Rattle.asm_text.proofs.Names.{get_kept, or_else}

@@ -3,7 +3,7 @@ use Rattle.std.specs.Prelude.{List, ℕ, IfSome, Result, Ok, Err}
 use Rattle.source_defs.specs.declared.causes.TextError.{TextError}
 use Rattle.source_defs.specs.Lines.{IsInside}
 use Rattle.source_defs.specs.Fields as defined
-use Rattle.asm_text.specs.declared.line_fields.Fields.{Fields}
+use Rattle.asm_text.specs.declared.text_lines.line_fields.Fields.{Fields}
 
 -- the definition's fields, with the name seen as its bytes
 abbrev pub model_of_fields : Fields → defined.Fields

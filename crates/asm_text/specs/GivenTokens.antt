@@ -4,9 +4,9 @@ use Rattle.std.specs.List.{AllByRecursion}
 use Rattle.source_defs.specs.Lines.{IsInside}
 use Rattle.expression_defs.specs.declared.causes.ExprError.{ExprError}
 use Rattle.expression_defs.specs.Tokens as defined
-use Rattle.asm_text.specs.declared.token.Token.{Token}
-use Rattle.asm_text.specs.declared.token.TokenKind.{TokenKind}
-use Rattle.asm_text.specs.declared.token.TokenKind.TheVariants.{Number, Name, Here, Text, Sign}
+use Rattle.asm_text.specs.declared.expressions.token.Token.{Token}
+use Rattle.asm_text.specs.declared.expressions.token.TokenKind.{TokenKind}
+use Rattle.asm_text.specs.declared.expressions.token.TokenKind.TheVariants.{Number, Name, Here, Text, Sign}
 
 -- the kind of a token, with the name seen as its bytes
 abbrev pub model_of_kind : TokenKind → defined.Kind

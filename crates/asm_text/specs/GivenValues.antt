@@ -2,8 +2,8 @@
 use Rattle.std.specs.Prelude.{⊤, Result, Ok, Err}
 use Rattle.expression_defs.specs.declared.causes.ExprError.{ExprError}
 use Rattle.expression_defs.specs.Expression as defined
-use Rattle.asm_text.specs.declared.values.Value.{Value}
-use Rattle.asm_text.specs.declared.values.Value.TheVariants.{Absolute, Relocatable, External}
+use Rattle.asm_text.specs.declared.expressions.values.Value.{Value}
+use Rattle.asm_text.specs.declared.expressions.values.Value.TheVariants.{Absolute, Relocatable, External}
 
 -- a value, with the name seen as its bytes
 abbrev pub model_of_value : Value → defined.Value

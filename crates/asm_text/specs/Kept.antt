@@ -2,7 +2,7 @@
 use Rattle.std.specs.Prelude.{ℕ, Bool, false, ◌==◌, List, [], ◌∷◌, ◌++◌, map}
 use Rattle.std.specs.FinMap.{from_entries}
 use Rattle.expression_defs.specs.Symbols.{Names, registers}
-use Rattle.asm_text.specs.declared.values.Value.{Value}
+use Rattle.asm_text.specs.declared.expressions.values.Value.{Value}
 use Rattle.asm_text.specs.GivenValues.{model_of_value}
 
 -- an entry, with its value seen as the definitions see it
