@@ -5,7 +5,7 @@ ghost use Rattle.interp_build_defs.specs.Interpreter.{IsInterpreter};
 ghost use Rattle.interp_defs.specs.Boot.{IsBoot};
 ghost use Rattle.link_loader.specs.View.{model_of_linked};
 
-use interp_boot_defs::loaded_interpreters_boot;
+use interp_build_defs::loaded_interpreters_boot;
 use link_loader::Linked;
 use machine_load::load_machine;
 use native_interp::{GBOOT, WORKSPACE};

@@ -13,10 +13,10 @@ use Rattle.native_interp.specs.declared.addresses.TheConstants.{GBOOT, WORKSPACE
 use Rattle.native_interp.specs.declared.words.TheConstants.{INTERP}
 use Rattle.interp_build_defs.specs.Building.{HasShipped}
 use Rattle.interp_defs.specs.Boot.{HoldsEntry, HoldsWords, IsBoot, entry_cell}
-use Rattle.interp_boot_defs.specs.Booting.{LoadedInterpretersBoot}
-use Rattle.interp_boot_defs.proofs.Bytes.{length_with, other_byte, same_word}
-use Rattle.interp_boot_defs.proofs.Shipped.{all_belong, all_occur, has_words}
-use Rattle.interp_boot_defs.proofs.PlacedWords.{Placed, all_placed}
+use Rattle.interp_build_defs.specs.Booting.{LoadedInterpretersBoot}
+use Rattle.interp_build_defs.proofs.Bytes.{length_with, other_byte, same_word}
+use Rattle.interp_build_defs.proofs.Shipped.{all_belong, all_occur, has_words}
+use Rattle.interp_build_defs.proofs.PlacedWords.{Placed, all_placed}
 
 -- A list of zeros with a word at the place of register 0.
 holds_entry : (entry : ℕ) (bytes : List ℕ) → HoldsZeros 256 bytes → HoldsEntry entry (with_word_in bytes entry_cell entry)

@@ -11,7 +11,7 @@ use Rattle.link_defs.specs.LinkedMemory.{LinkedMemory}
 use Rattle.native_interp.specs.Words.{words}
 use Rattle.interp_build_defs.specs.Building.{shipped_at, HasShipped}
 use Rattle.interp_build_defs.specs.Interpreter.{IsInterpreter}
-use Rattle.interp_boot_defs.proofs.Pairs.{Every, Occurs, every_found, occurs, none_is_not}
+use Rattle.interp_build_defs.proofs.Pairs.{Every, Occurs, every_found, occurs, none_is_not}
 use Rattle.native_interp.specs.declared.addresses.TheConstants.{ORIGIN}
 
 -- a pair is one of the words that are shipped, at its address

@@ -6,9 +6,9 @@ use Rattle.tms_defs.specs.Bytes.{word_in, with_word_in}
 use Rattle.console_defs.specs.Memory.{Memory, Region, LowExpansion, word_placed, word_placed_in}
 use Rattle.console_defs.proofs.MemoryLaws.{region_low}
 use Rattle.load_defs.specs.Loaded.{with_words}
-use Rattle.interp_boot_defs.proofs.Bytes.{length_with, other_byte, same_word, other_word}
-use Rattle.interp_boot_defs.proofs.Pairs.{Every, Occurs}
-use Rattle.interp_boot_defs.proofs.Shipped.{IsWord}
+use Rattle.interp_build_defs.proofs.Bytes.{length_with, other_byte, same_word, other_word}
+use Rattle.interp_build_defs.proofs.Pairs.{Every, Occurs}
+use Rattle.interp_build_defs.proofs.Shipped.{IsWord}
 use Rattle.native_interp.specs.declared.addresses.TheConstants.{ORIGIN}
 
 -- a word in low expansion memory is placed there

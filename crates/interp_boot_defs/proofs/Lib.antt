@@ -1,5 +1,0 @@
-pub mod Bytes
-pub mod Pairs
-pub mod Shipped
-pub mod PlacedWords
-pub mod Begins
