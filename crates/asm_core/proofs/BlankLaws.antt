@@ -14,7 +14,7 @@ use Rattle.asm_defs.specs.Locations.{Line, location, reached, relocatable, behin
 use Rattle.asm_defs.specs.Statements.{Nothing, statement_in}
 use Rattle.asm_defs.specs.FirstChecks.{EarlierLines, Checked, checked, parsed, moved, stays_at}
 use Rattle.asm_defs.specs.SecondChecks as second
-use Rattle.asm_defs.specs.Memory.{Settled, covers, is_placed, has_word, words_in, word_count, part_words, content_at, same_part, overlaps}
+use Rattle.asm_defs.specs.Memory.{AssembledLine, covers, is_placed, has_word, words_in, word_count, part_words, content_at, same_part, overlaps}
 use Rattle.asm_defs.specs.Modules.{with_room}
 use Rattle.module_image.specs.Standing.{AllStand}
 use Rattle.module_image.specs.Images.{IsImage}
@@ -41,7 +41,7 @@ nothing_said before text none here =
 
 -- a line that comes to nothing covers no place
 module _ (at : Location) where
-  abbrev pub nothing_placed : Settled
+  abbrev pub nothing_placed : AssembledLine
   nothing_placed = record { at = at; outcome = second.Nothing }
 
   not_between : (same : Bool) (a p : ℕ) → (same && nat_le a p && nat_lt p (a + 0)) ≡ false
@@ -57,7 +57,7 @@ module _ (at : Location) where
   covers_none : (part : Part) (p : ℕ) → covers nothing_placed part p ≡ false
   covers_none part p = not_between (same_part at.part part) at.number p
 
-  module _ (earlier : List Settled) where
+  module _ (earlier : List AssembledLine) where
     placed_same : (part : Part) (p : ℕ) → is_placed (nothing_placed ∷ earlier) part p ≡ is_placed earlier part p
     placed_same part p = ap (λ b. b || is_placed earlier part p) (covers_none part p)
 
@@ -92,7 +92,7 @@ module _ (at : Location) where
     image_still (Some image) some is = λ references. image_same references image (is references)
 
 -- the lines that stand have no more words than a module may have
-most_of : (words : ℕ) (over : Bool) (line : Settled) → (if nat_lt 32768 words then Err Overflow else if over then Err Overlap else Ok line) ≡ Ok line
+most_of : (words : ℕ) (over : Bool) (line : AssembledLine) → (if nat_lt 32768 words then Err Overflow else if over then Err Overlap else Ok line) ≡ Ok line
     → words ≤ 32768
 most_of words over line e = by (nat_lt 32768 words) refl e
   where
@@ -100,7 +100,7 @@ most_of words over line e = by (nat_lt 32768 words) refl e
     by true is e = cc e
     by false is e = grind (arith, nat_tests, is)
 
-most_words : (earlier founds : List Settled) → word_count earlier ≤ 32768 → AllStand earlier founds → word_count (onto earlier founds) ≤ 32768
+most_words : (earlier founds : List AssembledLine) → word_count earlier ≤ 32768 → AllStand earlier founds → word_count (onto earlier founds) ≤ 32768
 most_words earlier [] most stand = most
 most_words earlier (found ∷ founds) most stand =
     most_words (found ∷ earlier) founds (most_of (word_count (found ∷ earlier)) (overlaps earlier found) found stand.0.room) stand.1
@@ -112,7 +112,7 @@ no_words = omega (
   count_none (has_word [] part.Absolute) 0 part_words (λ w. refl),
 )
 
-pub still_room : (at : Location) (founds : List Settled) → AllStand [] founds → with_room (onto [] founds) (nothing_placed at) ≡ Ok (nothing_placed at)
+pub still_room : (at : Location) (founds : List AssembledLine) → AllStand [] founds → with_room (onto [] founds) (nothing_placed at) ≡ Ok (nothing_placed at)
 still_room at founds stand = room_for_nothing at (onto [] founds) (most_words [] founds no_words stand)
 
 -- no location is behind the highest that was reached

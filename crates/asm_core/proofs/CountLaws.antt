@@ -8,7 +8,7 @@ use Rattle.expression_defs.specs.Symbols.{Names}
 use Rattle.expression_defs.specs.Growing.{Grows}
 use Rattle.asm_defs.specs.Locations.{Line, location, place, is_in_part}
 use Rattle.asm_defs.specs.Statements.{Nothing}
-use Rattle.asm_defs.specs.Memory.{Settled}
+use Rattle.asm_defs.specs.Memory.{AssembledLine}
 use Rattle.asm_defs.specs.FirstChecks.{check, known_of, line_of}
 use Rattle.module_image.specs.declared.image.Image.{Image}
 use Rattle.asm_core.specs.declared.pending.Pending.{Pending}
@@ -24,7 +24,7 @@ unchanged : (names : Names) → Grows names names
 unchanged names name value is = is
 
 module _ (lines : List Line) (names : Names) (line : Line) (says : line.statement ≡ Nothing) (image image' : Option Image) (ready : IsSome image')
-    (made : (founds : List Settled) → ImageOf founds image → ImageOf founds image') (waiting : List Pending) where
+    (made : (founds : List AssembledLine) → ImageOf founds image → ImageOf founds image') (waiting : List Pending) where
   worked_on : (refused : Option Refused) → IsWorked lines names image waiting refused → IsWorked (line ∷ lines) names image' waiting refused
   worked_on None is =
       nothing_more names names (unchanged names) lines line image waiting is image' says

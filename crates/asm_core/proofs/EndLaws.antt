@@ -4,12 +4,12 @@ use Rattle.std.specs.Prelude.{Option}
 use Rattle.source_defs.specs.Refusals.{◌>>=◌}
 use Rattle.source_defs.specs.Orders.{onto}
 use Rattle.expression_defs.specs.Symbols.{Names}
-use Rattle.expression_defs.specs.Layout.{settled}
+use Rattle.expression_defs.specs.Layout.{assembled_lines}
 use Rattle.object_defs.specs.Modules.{Module, Reference}
 use Rattle.asm_defs.specs.Locations.{Line}
 use Rattle.asm_defs.specs.FirstChecks.{names}
-use Rattle.asm_defs.specs.Memory.{Settled}
-use Rattle.asm_defs.specs.Modules.{settle, module_by, module_behind}
+use Rattle.asm_defs.specs.Memory.{AssembledLine}
+use Rattle.asm_defs.specs.Modules.{assembled_line, module_by, module_behind}
 use Rattle.module_image.specs.Standing.{AllStand}
 use Rattle.module_image.specs.declared.image.Image.{Image}
 use Rattle.asm_core.specs.declared.second_pass.Output.{Output}
@@ -20,21 +20,21 @@ use Rattle.asm_core.specs.declared.pending.Refused.{Refused}
 use Rattle.asm_core.specs.Building.{AreKnown, ImageOf, IsGoing, IsStopped, IsWorked, IsBehind}
 use Rattle.asm_core.specs.Resolving.{IsOutput}
 use Rattle.asm_core.specs.Finishing.{RefusesAt, AreResolved, StopsBehind, Knows, SameEnd}
-use Rattle.asm_core.proofs.ResolveLaws.{settled_stopped, refuses_on}
+use Rattle.asm_core.proofs.ResolveLaws.{assembled_stopped, refuses_on}
 
 -- the lines before the one that is refused, or all
 worked_refused : (lines : List Line) (known : Names) (image : Option Image) (waiting : List Pending) (refused : Option Refused)
     → IsWorked lines known image waiting refused
     → (error : AsmError)
-    → ((order : List Line) (founds : List Settled) → AreKnown known [] order founds waiting → AllStand [] founds
-    → RefusesAt error (settled (settle known) (onto [] order)))
-    → RefusesAt error (settled (settle known) lines)
+    → ((order : List Line) (founds : List AssembledLine) → AreKnown known [] order founds waiting → AllStand [] founds
+    → RefusesAt error (assembled_lines (assembled_line known) (onto [] order)))
+    → RefusesAt error (assembled_lines (assembled_line known) lines)
 worked_refused lines known image waiting None is error refuses =
-    refuses_on error (settled (settle known) (onto [] is.order)) (settled (settle known) lines)
-    (λ refusal e. ap (settled (settle known)) is.all ∙ e) (refuses is.order is.founds is.known is.stand)
+    refuses_on error (assembled_lines (assembled_line known) (onto [] is.order)) (assembled_lines (assembled_line known) lines)
+    (λ refusal e. ap (assembled_lines (assembled_line known)) is.all ∙ e) (refuses is.order is.founds is.known is.stand)
 worked_refused lines known image waiting (Some refused) is error refuses =
-    refuses_on error (settled (settle known) (onto [] is.order)) (settled (settle known) lines)
-    (λ refusal e. ap (settled (settle known)) is.all ∙ settled_stopped known (is.line ∷ is.later) (onto [] is.order) refusal e)
+    refuses_on error (assembled_lines (assembled_line known) (onto [] is.order)) (assembled_lines (assembled_line known) lines)
+    (λ refusal e. ap (assembled_lines (assembled_line known)) is.all ∙ assembled_stopped known (is.line ∷ is.later) (onto [] is.order) refusal e)
     (refuses is.order is.founds is.known is.stand)
 
 module _ (lines : List Line) (old new : AsmLines) (is : IsBehind lines old) (same : SameEnd old new) where
@@ -44,33 +44,33 @@ module _ (lines : List Line) (old new : AsmLines) (is : IsBehind lines old) (sam
   names_are : new.symbols ≡ names lines
   names_are = same.symbols ∙ is.names
 
-  whole : (error : AsmError) → RefusesAt error (settled (settle new.symbols) lines) → RefusesAt error (module_behind lines)
+  whole : (error : AsmError) → RefusesAt error (assembled_lines (assembled_line new.symbols) lines) → RefusesAt error (module_behind lines)
   whole error refuses =
-      refuses_on error (settled (settle new.symbols) lines) (module_behind lines)
+      refuses_on error (assembled_lines (assembled_line new.symbols) lines) (module_behind lines)
       (λ refusal e.
-      ap (λ (known : Names). settled (settle known) lines >>= λ found. Ok (module_by lines found)) (sym names_are)
+      ap (λ (known : Names). assembled_lines (assembled_line known) lines >>= λ found. Ok (module_by lines found)) (sym names_are)
       ∙ ap (λ answer. answer >>= λ found. Ok (module_by lines found)) e)
       refuses
 
   pub ends_refused : (error : AsmError)
-      → ((order : List Line) (founds : List Settled) → AreKnown new.symbols [] order founds new.waiting.items → AllStand [] founds
-      → RefusesAt error (settled (settle new.symbols) (onto [] order)))
+      → ((order : List Line) (founds : List AssembledLine) → AreKnown new.symbols [] order founds new.waiting.items → AllStand [] founds
+      → RefusesAt error (assembled_lines (assembled_line new.symbols) (onto [] order)))
       → RefusesAt error (module_behind lines)
   ends_refused error refuses = whole error (worked_refused lines new.symbols old.image new.waiting.items new.refused works error refuses)
 
-  module _ (unused : List Reference) (first last : Output) (done : (order : List Line) (founds : List Settled)
+  module _ (unused : List Reference) (first last : Output) (done : (order : List Line) (founds : List AssembledLine)
       → AreKnown new.symbols [] order founds new.waiting.items → AllStand [] founds → AreResolved unused order founds new.symbols first last) where
     pub ends_stopped : (refused : Refused) → new.refused ≡ Some refused → (error : AsmError)
-        → ((lines : List Line) (waiting : List Pending) (done : List Settled) → (is : IsStopped refused lines new.symbols waiting)
+        → ((lines : List Line) (waiting : List Pending) (done : List AssembledLine) → (is : IsStopped refused lines new.symbols waiting)
         → StopsBehind new.symbols lines is.order is.founds done error)
         → RefusesAt error (module_behind lines)
     ends_stopped refused some error stops =
         let stopped : IsStopped refused lines new.symbols new.waiting.items = subst (IsWorked lines new.symbols old.image new.waiting.items) some works in
         let before = done stopped.order stopped.founds stopped.known stopped.stand in
-        whole error (stops lines new.waiting.items before.done stopped before.settled before.places)
+        whole error (stops lines new.waiting.items before.done stopped before.assembled_lines before.places)
 
-    pub ends_going : new.refused ≡ None → ((founds : List Settled) → ImageOf (onto [] founds) old.image → IsOutput unused [] founds first) → (found : Module)
-        → ((settled : List Settled) → Knows lines new → IsOutput unused settled [] last → found ≡ module_by lines settled) → module_behind lines ≡ Ok found
+    pub ends_going : new.refused ≡ None → ((founds : List AssembledLine) → ImageOf (onto [] founds) old.image → IsOutput unused [] founds first) → (found : Module)
+        → ((assembled_lines : List AssembledLine) → Knows lines new → IsOutput unused assembled_lines [] last → found ≡ module_by lines assembled_lines) → module_behind lines ≡ Ok found
     ends_going none begun found makes =
         let going : IsGoing lines new.symbols old.image new.waiting.items = subst (IsWorked lines new.symbols old.image new.waiting.items) none works in
         let all = done going.order going.founds going.known going.stand in
@@ -80,7 +80,7 @@ module _ (lines : List Line) (old new : AsmLines) (is : IsBehind lines old) (sam
           title = same.title ∙ is.title;
           defs = same.defs ∙ is.defs;
         } in
-        let settled_are : settled (settle new.symbols) lines ≡ Ok all.done = ap (settled (settle new.symbols)) going.all ∙ all.settled in
-        ap (λ (known : Names). settled (settle known) lines >>= λ found. Ok (module_by lines found)) (sym names_are)
-        ∙ (ap (λ answer. answer >>= λ found. Ok (module_by lines found)) settled_are
+        let assembled_are : assembled_lines (assembled_line new.symbols) lines ≡ Ok all.done = ap (assembled_lines (assembled_line new.symbols)) going.all ∙ all.assembled_lines in
+        ap (λ (known : Names). assembled_lines (assembled_line known) lines >>= λ found. Ok (module_by lines found)) (sym names_are)
+        ∙ (ap (λ answer. answer >>= λ found. Ok (module_by lines found)) assembled_are
         ∙ ap Ok (sym (makes all.done knows (all.output (begun going.founds going.image)))))

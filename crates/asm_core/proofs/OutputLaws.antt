@@ -7,7 +7,7 @@ use Rattle.asm_defs.specs.declared.content.Content.{Content}
 use Rattle.asm_defs.specs.declared.location.Part.TheVariants as part
 use Rattle.asm_defs.specs.declared.location.Location.{Location}
 use Rattle.asm_defs.specs.SecondChecks.{Outcome, Nothing, Words, Bytes, Entry}
-use Rattle.asm_defs.specs.Memory.{Settled, bytes_in, same_part, is_placed_in, contents_by, references_of, behind_by}
+use Rattle.asm_defs.specs.Memory.{AssembledLine, bytes_in, same_part, is_placed_in, contents_by, references_of, behind_by}
 use Rattle.asm_defs.proofs.PlacedWords.{behind_words}
 use Rattle.module_image.specs.Images.{IsEmpty, IsImage, IsLaid}
 use Rattle.module_image.specs.declared.image.Image.{Image}
@@ -37,7 +37,7 @@ nothing_laid at image = record {
 module _ (unused : List Reference) (at : Location) (found : Outcome) (within : at.number + bytes_in found ≤ 65536) where
   pub dummy_filled : (output : Output) → is_placed_in at.part ≡ false → FillsBytes unused at found output output
   dummy_filled output dummy = λ done others held stand fills holds.
-      let line : Settled = record { at = at; outcome = found } in
+      let line : AssembledLine = record { at = at; outcome = found } in
       record {
         image = image_filled unused done held line fills others stand [] (λ placed. cc (placed, dummy))
             (omega (arith, within)) output.image output.image holds.image (nothing_laid at output.image);
@@ -48,7 +48,7 @@ module _ (unused : List Reference) (at : Location) (found : Outcome) (within : a
       → map model_of_ref new.references.items ≡ behind_by at (map model_of_ref old.references.items) found → IsLaid at given old.image new.image
       → FillsBytes unused at found old new
   bytes_filled old new given contents uses laid = λ done others held stand fills holds.
-      let line : Settled = record { at = at; outcome = found } in
+      let line : AssembledLine = record { at = at; outcome = found } in
       let size : length given ≡ bytes_in found = ap length contents ∙ contents_length at (map model_of_ref old.references.items) found in
       record {
         image = image_filled unused done held line fills others stand given
@@ -61,7 +61,7 @@ module _ (unused : List Reference) (at : Location) (found : Outcome) (within : a
 pub empty_image : (references : List Reference) (image : Image) → IsEmpty image → IsImage references [] image
 empty_image references image empty = record { relocatable = empty.relocatable; absolute = empty.absolute }
 
-pub first_image : (founds : List Settled) (image : Image) → IsEmpty image → ImageOf founds None → ImageOf founds (Some image)
+pub first_image : (founds : List AssembledLine) (image : Image) → IsEmpty image → ImageOf founds None → ImageOf founds (Some image)
 first_image founds image empty none = λ references. subst (λ lines. IsImage references lines image) (sym none) (empty_image references image empty)
 
 pub on_err : {A E P : Type 0} (result : Result A E) → P → OnErr result P

@@ -1,14 +1,14 @@
--- The lines that wait, settled one after the other.
+-- The lines that wait, assembled one after the other.
 use Rattle.std.proofs.Common.{◌≡◌, ℕ, suc, ◌+◌, ◌<◌, List, [], ◌∷◌, Ok, Err, length, get_or, drop, refl, sym, ap, subst, ◌∙◌, arith}
 use Rattle.std.proofs.Math.Seq.{drop-cons}
 use Rattle.source_defs.specs.Refusals.{◌>>=◌}
 use Rattle.source_defs.specs.Orders.{onto}
 use Rattle.expression_defs.specs.Symbols.{Names}
-use Rattle.expression_defs.specs.Layout.{settled}
+use Rattle.expression_defs.specs.Layout.{assembled_lines}
 use Rattle.object_defs.specs.Modules.{Reference}
 use Rattle.asm_defs.specs.Locations.{Line, place}
-use Rattle.asm_defs.specs.Memory.{Settled, is_placed, references_of}
-use Rattle.asm_defs.specs.Modules.{settle, entry}
+use Rattle.asm_defs.specs.Memory.{AssembledLine, is_placed, references_of}
+use Rattle.asm_defs.specs.Modules.{assembled_line, entry}
 use Rattle.asm_defs.specs.Growing.{held_place}
 use Rattle.asm_checks.specs.Answers.{Fails}
 use Rattle.asm_checks.specs.declared.failure.Failure.{Failure}
@@ -21,24 +21,24 @@ use Rattle.asm_core.specs.Building.{IsOf, AreKnown, refusal_at}
 use Rattle.asm_core.specs.Resolving.{IsOutput, IsResolved, answer_to}
 use Rattle.asm_core.specs.Finishing.{RefusesAt, AreResolved}
 use Rattle.asm_core.proofs.KnownLaws.{NextHeld, next_held, none_held}
-use Rattle.asm_core.proofs.ResolveLaws.{settled_more, settled_stops, settled_stopped, answer_is, settle_by, settle_filled, fills_place, fills_held, refuses_by}
+use Rattle.asm_core.proofs.ResolveLaws.{assembled_more, assembled_stops, assembled_stopped, answer_is, assemble_by, assemble_filled, fills_place, fills_held, refuses_by}
 use Rattle.asm_core.proofs.ResolveLaws.{real}
 
--- lines are settled up to some that wait, and what is known of the others stands behind them
-pub record IsSoFar (unused : List Reference) (names : Names) (order : List Line) (founds : List Settled) (waiting : List Pending)
+-- lines are assembled up to some that wait, and what is known of the others stands behind them
+pub record IsSoFar (unused : List Reference) (names : Names) (order : List Line) (founds : List AssembledLine) (waiting : List Pending)
     (old new : Output) : Type 0 where
   pub before : List Line
   pub rest : List Line
-  pub done : List Settled
-  pub left : List Settled
+  pub done : List AssembledLine
+  pub left : List AssembledLine
   pub all : onto [] order ≡ onto before rest
-  pub settled : settled (settle names) before ≡ Ok done
+  pub assembled_lines : assembled_lines (assembled_line names) before ≡ Ok done
   pub known : AreKnown names before rest left waiting
   pub stand : AllStand done left
   pub places : SamePlaces (onto [] founds) (onto done left)
   pub output : IsOutput unused [] founds old → IsOutput unused done left new
 
-pub first_so_far : (unused : List Reference) (names : Names) (order : List Line) (founds : List Settled) (waiting : List Pending) (output : Output)
+pub first_so_far : (unused : List Reference) (names : Names) (order : List Line) (founds : List AssembledLine) (waiting : List Pending) (output : Output)
     → AreKnown names [] order founds waiting → AllStand [] founds → IsSoFar unused names order founds waiting output output
 first_so_far unused names order founds waiting output known stand = record {
   before = [];
@@ -46,7 +46,7 @@ first_so_far unused names order founds waiting output known stand = record {
   done = [];
   left = founds;
   all = refl;
-  settled = refl;
+  assembled_lines = refl;
   known = known;
   stand = stand;
   places = λ part p. refl;
@@ -54,7 +54,7 @@ first_so_far unused names order founds waiting output known stand = record {
 }
 
 -- the lines before the next one that waits are done
-output_on : (unused : List Reference) (done earlier left later : List Settled) (found : Settled) (output : Output)
+output_on : (unused : List Reference) (done earlier left later : List AssembledLine) (found : AssembledLine) (output : Output)
     → onto done left ≡ onto earlier (found ∷ later)
     → references_of unused earlier ≡ references_of unused done
     → entry earlier ≡ entry done → IsOutput unused done left output
@@ -67,10 +67,10 @@ output_on unused done earlier left later found output founds references entry is
   entry = is.entry ∙ sym entry;
 }
 
-module _ (unused : List Reference) (names : Names) (order : List Line) (founds : List Settled) (pending : Pending) (others : List Pending)
+module _ (unused : List Reference) (names : Names) (order : List Line) (founds : List AssembledLine) (pending : Pending) (others : List Pending)
     (first old new : Output) (so_far : IsSoFar unused names order founds (pending ∷ others) first old) where
   next : NextHeld names unused so_far.before so_far.rest so_far.done so_far.left pending others
-  next = next_held names unused so_far.before so_far.rest so_far.done so_far.left pending others so_far.known so_far.stand so_far.settled
+  next = next_held names unused so_far.before so_far.rest so_far.done so_far.left pending others so_far.known so_far.stand so_far.assembled_lines
 
   abbrev pub are_pending : Pending → Pending → Type 0
   are_pending a b = a ≡ b
@@ -89,15 +89,15 @@ module _ (unused : List Reference) (names : Names) (order : List Line) (founds :
       let stand : AllStand next.earlier (held ∷ next.later) = subst (λ found. AllStand next.earlier (found ∷ next.later)) next.is.held next.stand in
       let places : SamePlaces (held ∷ next.earlier) (line ∷ next.earlier) = places_same unused next.earlier held line fills in
       let founds_are : onto so_far.done so_far.left ≡ onto (held ∷ next.earlier) next.later =
-      next.founds ∙ ap (λ (found : Settled). onto (found ∷ next.earlier) next.later) next.is.held in
+      next.founds ∙ ap (λ (found : AssembledLine). onto (found ∷ next.earlier) next.later) next.is.held in
       record {
         before = next.line ∷ next.lines;
         rest = next.left;
         done = line ∷ next.earlier;
         left = next.later;
         all = so_far.all ∙ next.all;
-        settled = settled_more names next.lines next.line next.earlier line next.settled
-            (settle_filled names unused next.lines next.line pending waits old new by next.earlier
+        assembled_lines = assembled_more names next.lines next.line next.earlier line next.assembled_lines
+            (assemble_filled names unused next.lines next.line pending waits old new by next.earlier
             ∙ ap (λ answer. answer >>= λ held. Ok line) stand.0.room);
         known = next.known;
         stand = stand_same (held ∷ next.earlier) (line ∷ next.earlier) next.later places stand.1;
@@ -112,23 +112,23 @@ module _ (unused : List Reference) (names : Names) (order : List Line) (founds :
       }
 
   pub so_far_refused : (failure : Failure) → Fails failure (answer_to names pending)
-      → RefusesAt (refusal_at pending.number failure) (settled (settle names) (onto [] order))
+      → RefusesAt (refusal_at pending.number failure) (assembled_lines (assembled_line names) (onto [] order))
   so_far_refused failure fails =
-      refuses_by failure pending.number (answer_to names pending) (settled (settle names) (onto [] order)) fails
+      refuses_by failure pending.number (answer_to names pending) (assembled_lines (assembled_line names) (onto [] order)) fails
       (λ cause e.
-      ap (settled (settle names)) (so_far.all ∙ next.all)
-      ∙ (settled_stopped names next.left (next.line ∷ next.lines) _
-      (settled_stops names next.lines next.line next.earlier cause next.settled
-      (settle_by names next.lines next.line next.earlier (Err cause) (sym (answer_is names next.lines next.line pending waits) ∙ e)))
+      ap (assembled_lines (assembled_line names)) (so_far.all ∙ next.all)
+      ∙ (assembled_stopped names next.left (next.line ∷ next.lines) _
+      (assembled_stops names next.lines next.line next.earlier cause next.assembled_lines
+      (assemble_by names next.lines next.line next.earlier (Err cause) (sym (answer_is names next.lines next.line pending waits) ∙ e)))
       ∙ ap (λ number. Err (record { line = number; cause = cause })) (sym waits.number)))
 
-pub all_settled : (unused : List Reference) (names : Names) (order : List Line) (founds : List Settled) (first output : Output)
+pub all_assembled : (unused : List Reference) (names : Names) (order : List Line) (founds : List AssembledLine) (first output : Output)
     → IsSoFar unused names order founds [] first output → AreResolved unused order founds names first output
-all_settled unused names order founds first output so_far =
-    let rest = none_held names unused so_far.before so_far.rest so_far.done so_far.left so_far.known so_far.stand so_far.settled in
+all_assembled unused names order founds first output so_far =
+    let rest = none_held names unused so_far.before so_far.rest so_far.done so_far.left so_far.known so_far.stand so_far.assembled_lines in
     record {
       done = onto so_far.done so_far.left;
-      settled = ap (settled (settle names)) so_far.all ∙ rest.settled;
+      assembled_lines = ap (assembled_lines (assembled_line names)) so_far.all ∙ rest.assembled_lines;
       places = so_far.places;
       output = λ is.
           let there = so_far.output is in

@@ -1,4 +1,4 @@
--- Lines that are settled one after the other.
+-- Lines that are assembled one after the other.
 use Rattle.std.proofs.Common.{◌≡◌, ℕ, List, [], ◌∷◌, Ok, Err, refl, sym, ap, subst, ◌∙◌}
 use Rattle.std.specs.Prelude.{Result}
 use Rattle.std.proofs.lemmas.List.{length-replicate}
@@ -6,7 +6,7 @@ use Rattle.expression_defs.specs.declared.causes.ExprError.TheVariants as expr
 use Rattle.source_defs.specs.Refusals.{Refusal, ◌>>=◌}
 use Rattle.source_defs.specs.Orders.{onto}
 use Rattle.expression_defs.specs.Symbols.{Names, look_up}
-use Rattle.expression_defs.specs.Layout.{settled}
+use Rattle.expression_defs.specs.Layout.{assembled_lines}
 use Rattle.object_defs.specs.Modules.{Reference}
 use Rattle.instruction_defs.specs.declared.causes.FormError.TheVariants as form
 use Rattle.asm_defs.specs.declared.causes.AsmCause.{AsmCause}
@@ -15,8 +15,8 @@ use Rattle.asm_defs.specs.declared.location.Location.{Location}
 use Rattle.asm_defs.specs.Locations.{Line, place}
 use Rattle.asm_defs.specs.Statements.{Statement}
 use Rattle.asm_defs.specs.SecondChecks.{Outcome, outcome}
-use Rattle.asm_defs.specs.Memory.{Settled}
-use Rattle.asm_defs.specs.Modules.{settle, with_room}
+use Rattle.asm_defs.specs.Memory.{AssembledLine}
+use Rattle.asm_defs.specs.Modules.{assembled_line, with_room}
 use Rattle.asm_defs.specs.Growing.{declared_size, held_place}
 use Rattle.asm_checks.specs.Answers.{Fails}
 use Rattle.asm_checks.specs.declared.failure.Failure.{Failure}
@@ -32,18 +32,18 @@ use Rattle.asm_core.specs.declared.error.AsmError.TheVariants as error
 use Rattle.asm_core.specs.declared.pending.Pending.{Pending}
 
 module _ (known : Names) where
-  pub settled_more : (before : List Line) (line : Line) (done : List Settled) (found : Settled) → settled (settle known) before ≡ Ok done
-      → settle known before done line ≡ Ok found → settled (settle known) (line ∷ before) ≡ Ok (found ∷ done)
-  settled_more before line done found e f = rw e (rw f refl)
+  pub assembled_more : (before : List Line) (line : Line) (done : List AssembledLine) (found : AssembledLine) → assembled_lines (assembled_line known) before ≡ Ok done
+      → assembled_line known before done line ≡ Ok found → assembled_lines (assembled_line known) (line ∷ before) ≡ Ok (found ∷ done)
+  assembled_more before line done found e f = rw e (rw f refl)
 
-  pub settled_stops : (before : List Line) (line : Line) (done : List Settled) (cause : AsmCause) → settled (settle known) before ≡ Ok done
-      → settle known before done line ≡ Err cause → settled (settle known) (line ∷ before) ≡ Err (record { line = line.number; cause = cause })
-  settled_stops before line done cause e f = rw e (rw f refl)
+  pub assembled_stops : (before : List Line) (line : Line) (done : List AssembledLine) (cause : AsmCause) → assembled_lines (assembled_line known) before ≡ Ok done
+      → assembled_line known before done line ≡ Err cause → assembled_lines (assembled_line known) (line ∷ before) ≡ Err (record { line = line.number; cause = cause })
+  assembled_stops before line done cause e f = rw e (rw f refl)
 
-  pub settled_stopped : (rest before : List Line) (refusal : Refusal AsmCause) → settled (settle known) before ≡ Err refusal
-      → settled (settle known) (onto before rest) ≡ Err refusal
-  settled_stopped [] before refusal e = e
-  settled_stopped (line ∷ rest) before refusal e = settled_stopped rest (line ∷ before) refusal (rw e refl)
+  pub assembled_stopped : (rest before : List Line) (refusal : Refusal AsmCause) → assembled_lines (assembled_line known) before ≡ Err refusal
+      → assembled_lines (assembled_line known) (onto before rest) ≡ Err refusal
+  assembled_stopped [] before refusal e = e
+  assembled_stopped (line ∷ rest) before refusal e = assembled_stopped rest (line ∷ before) refusal (rw e refl)
 
   -- what the second checks say of a line that waits
   pub answer_is : (before : List Line) (line : Line) (pending : Pending) → IsOf before line pending
@@ -52,56 +52,56 @@ module _ (known : Names) where
       ap (λ parsed. parsed >>= outcome (look_up known) pending.at) is.parsed
       ∙ ap (λ (at : Location). outcome (look_up known) at line.statement) is.at
 
-  pub settle_by : (before : List Line) (line : Line) (done : List Settled) (answer : Result Outcome AsmCause)
+  pub assemble_by : (before : List Line) (line : Line) (done : List AssembledLine) (answer : Result Outcome AsmCause)
       → outcome (look_up known) (place before line) line.statement ≡ answer
-      → settle known before done line ≡ (answer >>= λ found. with_room done (record { at = place before line; outcome = found }))
-  settle_by before line done answer e = ap (λ answer. answer >>= λ found. with_room done (record { at = place before line; outcome = found })) e
+      → assembled_line known before done line ≡ (answer >>= λ found. with_room done (record { at = place before line; outcome = found }))
+  assemble_by before line done answer e = ap (λ answer. answer >>= λ found. with_room done (record { at = place before line; outcome = found })) e
 
-  room_by : (before : List Line) (line : Line) (first second : List Settled) → SamePlaces first second → (answer : Result Outcome AsmCause)
+  room_by : (before : List Line) (line : Line) (first second : List AssembledLine) → SamePlaces first second → (answer : Result Outcome AsmCause)
       → (answer >>= λ found. with_room first (record { at = place before line; outcome = found }))
       ≡ (answer >>= λ found. with_room second (record { at = place before line; outcome = found }))
   room_by before line first second same (Ok found) = room_same first second same (record { at = place before line; outcome = found })
   room_by before line first second same (Err cause) = refl
 
   -- only the places of the lines before count
-  pub settle_same : (before : List Line) (line : Line) (first second : List Settled) → SamePlaces first second
-      → settle known before first line ≡ settle known before second line
-  settle_same before line first second same = room_by before line first second same (outcome (look_up known) (place before line) line.statement)
+  pub assemble_same : (before : List Line) (line : Line) (first second : List AssembledLine) → SamePlaces first second
+      → assembled_line known before first line ≡ assembled_line known before second line
+  assemble_same before line first second same = room_by before line first second same (outcome (look_up known) (place before line) line.statement)
 
   -- a line that waited, at the place that was held for it
   module _ (unused : List Reference) (before : List Line) (line : Line) (pending : Pending) (is : IsOf before line pending) (old new : Output)
-      (settled_by : IsResolved unused known pending old new) where
-    abbrev pub real : Settled
-    real = record { at = pending.at; outcome = settled_by.found }
+      (assembled_by : IsResolved unused known pending old new) where
+    abbrev pub real : AssembledLine
+    real = record { at = pending.at; outcome = assembled_by.found }
 
     abbrev are_statements : Statement → Statement → Type 0
     are_statements a b = a ≡ b
 
-    same_said : are_statements settled_by.statement line.statement
-    same_said = let both : Ok settled_by.statement ≡ Ok line.statement = sym settled_by.parsed ∙ is.parsed in cc both
+    same_said : are_statements assembled_by.statement line.statement
+    same_said = let both : Ok assembled_by.statement ≡ Ok line.statement = sym assembled_by.parsed ∙ is.parsed in cc both
 
     pub fills_place : FillsPlace (held_place (place before line) line.statement) real
     fills_place = record {
       at = is.at;
-      size = settled_by.size ∙ (ap declared_size same_said ∙ sym (length-replicate (declared_size line.statement) 0));
+      size = assembled_by.size ∙ (ap declared_size same_said ∙ sym (length-replicate (declared_size line.statement) 0));
     }
 
-    pub comes_there : outcome (look_up known) (place before line) line.statement ≡ Ok settled_by.found
+    pub comes_there : outcome (look_up known) (place before line) line.statement ≡ Ok assembled_by.found
     comes_there =
         sym (answer_is before line pending is)
-        ∙ (ap (λ parsed. parsed >>= outcome (look_up known) pending.at) settled_by.parsed ∙ settled_by.comes)
+        ∙ (ap (λ parsed. parsed >>= outcome (look_up known) pending.at) assembled_by.parsed ∙ assembled_by.comes)
 
-    pub settle_filled : (done : List Settled)
-        → settle known before done line ≡ (with_room done (held_place (place before line) line.statement) >>= λ held. Ok real)
-    settle_filled done =
-        settle_by before line done (Ok settled_by.found) comes_there
-        ∙ (ap (λ (at : Location). with_room done (record { at = at; outcome = settled_by.found })) (sym is.at)
+    pub assemble_filled : (done : List AssembledLine)
+        → assembled_line known before done line ≡ (with_room done (held_place (place before line) line.statement) >>= λ held. Ok real)
+    assemble_filled done =
+        assemble_by before line done (Ok assembled_by.found) comes_there
+        ∙ (ap (λ (at : Location). with_room done (record { at = at; outcome = assembled_by.found })) (sym is.at)
         ∙ room_filled done (held_place (place before line) line.statement) real fills_place)
 
-    pub fills_held : (done others : List Settled) (held : Settled) → held ≡ held_place (place before line) line.statement → AllStand (held ∷ done) others
+    pub fills_held : (done others : List AssembledLine) (held : AssembledLine) → held ≡ held_place (place before line) line.statement → AllStand (held ∷ done) others
         → IsOutput unused done (held ∷ others) old → IsOutput unused (real ∷ done) others new
     fills_held done others held same stand output =
-        settled_by.fills done others held stand (subst (λ (held : Settled). FillsPlace held real) (sym same) fills_place) output
+        assembled_by.fills done others held stand (subst (λ (held : AssembledLine). FillsPlace held real) (sym same) fills_place) output
 
 -- a failure at a line refuses the whole
 pub refuses_by : {A B : Type 0} (failure : Failure) (number : ℕ) (answer : Result A AsmCause) (whole : Result B (Refusal AsmCause)) → Fails failure answer

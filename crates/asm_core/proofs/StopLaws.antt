@@ -1,14 +1,14 @@
--- The line that is refused, behind those that are settled.
+-- The line that is refused, behind those that are assembled.
 use Rattle.std.proofs.Common.{◌≡◌, ◌∷◌, [], Ok, Err, Some, None, List, sym, ap, subst, ◌∙◌}
 use Rattle.source_defs.specs.Refusals.{◌>>=◌}
 use Rattle.source_defs.specs.Orders.{onto}
 use Rattle.expression_defs.specs.Symbols.{Names}
-use Rattle.expression_defs.specs.Layout.{settled}
+use Rattle.expression_defs.specs.Layout.{assembled_lines}
 use Rattle.object_defs.specs.Modules.{Reference}
 use Rattle.asm_defs.specs.declared.causes.AsmCause.{AsmCause}
 use Rattle.asm_defs.specs.Locations.{Line, place}
-use Rattle.asm_defs.specs.Memory.{Settled}
-use Rattle.asm_defs.specs.Modules.{settle, with_room}
+use Rattle.asm_defs.specs.Memory.{AssembledLine}
+use Rattle.asm_defs.specs.Modules.{assembled_line, with_room}
 use Rattle.asm_defs.specs.Growing.{held_place}
 use Rattle.asm_checks.specs.Answers.{Fails, Causes}
 use Rattle.asm_checks.specs.declared.failure.Failure.{Failure}
@@ -22,53 +22,53 @@ use Rattle.asm_core.specs.declared.pending.Refused.{Refused}
 use Rattle.asm_core.specs.Building.{Refuses, IsStopped, refusal_at}
 use Rattle.asm_core.specs.Resolving.{IsResolved, answer_to}
 use Rattle.asm_core.specs.Finishing.{RefusesAt}
-use Rattle.asm_core.proofs.ResolveLaws.{settled_stops, settled_stopped, answer_is, settle_by, settle_same, settle_filled, refuses_by, real}
+use Rattle.asm_core.proofs.ResolveLaws.{assembled_stops, assembled_stopped, answer_is, assemble_by, assemble_same, assemble_filled, refuses_by, real}
 
-module _ (known : Names) (lines : List Line) (waiting : List Pending) (refused : Refused) (is : IsStopped refused lines known waiting) (done : List Settled)
-    (so_far : settled (settle known) (onto [] is.order) ≡ Ok done) (same : SamePlaces (onto [] is.founds) done) where
+module _ (known : Names) (lines : List Line) (waiting : List Pending) (refused : Refused) (is : IsStopped refused lines known waiting) (done : List AssembledLine)
+    (so_far : assembled_lines (assembled_line known) (onto [] is.order) ≡ Ok done) (same : SamePlaces (onto [] is.founds) done) where
   abbrev before : List Line
   before = onto [] is.order
 
-  abbrev held : Settled
+  abbrev held : AssembledLine
   held = held_place (place before is.line) is.line.statement
 
-  refused_by : (cause : AsmCause) → settle known before done is.line ≡ Err cause
-      → settled (settle known) lines ≡ Err (record { line = is.line.number; cause = cause })
+  refused_by : (cause : AsmCause) → assembled_line known before done is.line ≡ Err cause
+      → assembled_lines (assembled_line known) lines ≡ Err (record { line = is.line.number; cause = cause })
   refused_by cause e =
-      ap (settled (settle known)) is.all
-      ∙ settled_stopped known is.later (is.line ∷ before) _ (settled_stops known before is.line done cause so_far e)
+      ap (assembled_lines (assembled_line known)) is.all
+      ∙ assembled_stopped known is.later (is.line ∷ before) _ (assembled_stops known before is.line done cause so_far e)
 
   -- a value of the line is refused
   pub value_refused : (pending : Pending) → refused.waiting ≡ Some pending → (failure : Failure) → Fails failure (answer_to known pending)
-      → RefusesAt (refusal_at pending.number failure) (settled (settle known) lines)
+      → RefusesAt (refusal_at pending.number failure) (assembled_lines (assembled_line known) lines)
   value_refused pending some failure fails =
       let refuses = subst (Refuses known before (onto [] is.founds) is.line refused.cause) some is.refuses in
-      refuses_by failure pending.number (answer_to known pending) (settled (settle known) lines) fails
+      refuses_by failure pending.number (answer_to known pending) (assembled_lines (assembled_line known) lines) fails
       (λ cause e.
-      refused_by cause (settle_by known before is.line done (Err cause) (sym (answer_is known before is.line pending refuses.0) ∙ e))
+      refused_by cause (assemble_by known before is.line done (Err cause) (sym (answer_is known before is.line pending refuses.0) ∙ e))
       ∙ ap (λ number. Err (record { line = number; cause = cause })) (sym refuses.0.number))
 
-  at_last : Causes refused.cause (settle known before done is.line)
-      → RefusesAt (refusal_at refused.line (failure.Refused refused.cause)) (settled (settle known) lines)
+  at_last : Causes refused.cause (assembled_line known before done is.line)
+      → RefusesAt (refusal_at refused.line (failure.Refused refused.cause)) (assembled_lines (assembled_line known) lines)
   at_last causes =
-      refuses_by (failure.Refused refused.cause) refused.line (settle known before done is.line) (settled (settle known) lines) causes
+      refuses_by (failure.Refused refused.cause) refused.line (assembled_line known before done is.line) (assembled_lines (assembled_line known) lines) causes
       (λ cause e. refused_by cause e ∙ ap (λ number. Err (record { line = number; cause = cause })) (sym is.number))
 
   -- its values are not, and it has no room
   pub still_refused : (unused : List Reference) (old new : Output) (pending : Pending) → refused.waiting ≡ Some pending
       → IsResolved unused known pending old new
-      → RefusesAt (refusal_at refused.line (failure.Refused refused.cause)) (settled (settle known) lines)
+      → RefusesAt (refusal_at refused.line (failure.Refused refused.cause)) (assembled_lines (assembled_line known) lines)
   still_refused unused old new pending some by =
       let refuses = subst (Refuses known before (onto [] is.founds) is.line refused.cause) some is.refuses in
       let room : with_room (onto [] is.founds) held ≡ with_room done held = room_same (onto [] is.founds) done same held in
       at_last
-      (causes_on refused.cause (with_room (onto [] is.founds) held) (settle known before done is.line) refuses.1
+      (causes_on refused.cause (with_room (onto [] is.founds) held) (assembled_line known before done is.line) refuses.1
       (λ e.
-      settle_filled known unused before is.line pending refuses.0 old new by done
+      assemble_filled known unused before is.line pending refuses.0 old new by done
       ∙ ap (λ answer. answer >>= λ held. Ok (real known unused before is.line pending refuses.0 old new by)) (sym room ∙ e)))
 
   -- or no value of it was open
-  pub refused_behind : refused.waiting ≡ None → RefusesAt (refusal_at refused.line (failure.Refused refused.cause)) (settled (settle known) lines)
+  pub refused_behind : refused.waiting ≡ None → RefusesAt (refusal_at refused.line (failure.Refused refused.cause)) (assembled_lines (assembled_line known) lines)
   refused_behind none =
       let refuses = subst (Refuses known before (onto [] is.founds) is.line refused.cause) none is.refuses in
-      at_last (subst (Causes refused.cause) (settle_same known before is.line (onto [] is.founds) done same) refuses.1)
+      at_last (subst (Causes refused.cause) (assemble_same known before is.line (onto [] is.founds) done same) refuses.1)

@@ -8,7 +8,7 @@ use Rattle.std.proofs.lemmas.List.{length-map}
 use Rattle.source_defs.specs.Refusals.{at_line}
 use Rattle.expression_defs.specs.Symbols.{Names, look_up}
 use Rattle.expression_defs.specs.Expression.{Value, Absolute, Relocatable, External}
-use Rattle.expression_defs.specs.Layout.{laid, laid_behind, settled}
+use Rattle.expression_defs.specs.Layout.{laid, laid_behind, assembled_lines}
 use Rattle.object_defs.specs.declared.spot.Spot.{Spot}
 use Rattle.object_defs.specs.declared.spot.Piece.{Piece}
 use Rattle.object_defs.specs.Modules.{Module, Definition, Reference, HasText, StandsEven, number_of}
@@ -25,10 +25,10 @@ use Rattle.asm_defs.specs.Locations.{Line, place}
 use Rattle.asm_defs.specs.FirstChecks.{check, names, checked, known_of, line_of, lists_too_many, has_too_many, defs, refs, defs_in, refs_in}
 use Rattle.asm_defs.specs.SecondChecks.{Outcome, Words, Bytes, Entry, outcome}
 use Rattle.asm_defs.specs.SecondChecks as second
-use Rattle.asm_defs.specs.Memory.{Settled, spot_by, joined, pieces_at, pieces_from, pieces_in, content_at, has_word, words_in, word_count, count_from}
+use Rattle.asm_defs.specs.Memory.{AssembledLine, spot_by, joined, pieces_at, pieces_from, pieces_in, content_at, has_word, words_in, word_count, count_from}
 use Rattle.asm_defs.specs.Memory.{part_words, with_use, behind_word, behind_by, references_of, is_placed_in, is_placed, overlaps}
 use Rattle.asm_defs.proofs.PlacedWords.{behind_words}
-use Rattle.asm_defs.specs.Modules.{settle, module_by, module_of, definition_in, unused}
+use Rattle.asm_defs.specs.Modules.{assembled_line, module_by, module_of, definition_in, unused}
 use Rattle.asm_defs.proofs.CheckLaws.{bound, checked_few}
 use Rattle.module_image.proofs.TableLaws.{count_same, count_none}
 use Rattle.module_image.proofs.HoldingLaws.{content_some}
@@ -78,7 +78,7 @@ pieces_length content at first (suc n) =
       pieces_length content at (first + 1) n,
     )
 
-module _ (start : List Reference) (lines : List Settled) where
+module _ (start : List Reference) (lines : List AssembledLine) where
   some_word : (at : Part) (w : ℕ) → holds_word (content_at start lines at) w ≡ has_word lines at w
   some_word at w =
       ap (λ b. b || is_some (content_at start lines at (2 * w + 1))) (content_some start lines at (2 * w))
@@ -123,7 +123,7 @@ line_length at references (Words words) =
 line_length at references (Bytes bytes) = refl
 line_length at references (Entry entry) = refl
 
-references_length : (start : List Reference) (lines : List Settled) → length (references_of start lines) ≡ length start
+references_length : (start : List Reference) (lines : List AssembledLine) → length (references_of start lines) ≡ length start
 references_length start [] = refl
 references_length start (line ∷ before) = line_length line.at (references_of start before) line.outcome ∙ references_length start before
 
@@ -190,26 +190,26 @@ laid_most (text ∷ texts) before lines e most =
     (λ f more. laid_most texts (a.0 ∷ before) lines f more)
 
 -- and no more words are placed
-room_by : (full overlap : Bool) (line found : Settled) → (if full then Err Overflow else if overlap then Err Overlap else Ok line) ≡ Ok found
+room_by : (full overlap : Bool) (line found : AssembledLine) → (if full then Err Overflow else if overlap then Err Overlap else Ok line) ≡ Ok found
     → (full ≡ false) × (line ≡ found)
 room_by true overlap line found e = cc e
 room_by false true line found e = cc e
 room_by false false line found e = (refl, cc e)
 
-settled_room : (known : Names) (lines : List Line) (found : List Settled) → settled (settle known) lines ≡ Ok found → word_count found ≤ 32768
-settled_room known [] found e =
+assembled_room : (known : Names) (lines : List Line) (found : List AssembledLine) → assembled_lines (assembled_line known) lines ≡ Ok found → word_count found ≤ 32768
+assembled_room known [] found e =
     let same : [] ≡ found = cc e in
-    subst (λ (lines : List Settled). word_count lines ≤ 32768) same
+    subst (λ (lines : List AssembledLine). word_count lines ≤ 32768) same
     (omega (arith, count_none (has_word [] part.Relocatable) 0 part_words (λ w. refl), count_none (has_word [] part.Absolute) 0 part_words (λ w. refl)))
-settled_room known (line ∷ before) found e =
-    let a = bound (settled (settle known) before) _ found e in
-    let b = bound (at_line line.number (settle known before a.0 line)) _ found a.2 in
-    let c = bound (outcome (look_up known) (place before line) line.statement) _ b.0 (at_line_is line.number (settle known before a.0 line) b.0 b.1) in
-    let placed : Settled = record { at = place before line; outcome = c.0 } in
+assembled_room known (line ∷ before) found e =
+    let a = bound (assembled_lines (assembled_line known) before) _ found e in
+    let b = bound (at_line line.number (assembled_line known before a.0 line)) _ found a.2 in
+    let c = bound (outcome (look_up known) (place before line) line.statement) _ b.0 (at_line_is line.number (assembled_line known before a.0 line) b.0 b.1) in
+    let placed : AssembledLine = record { at = place before line; outcome = c.0 } in
     let d = room_by (nat_lt 32768 (word_count (placed ∷ a.0))) (overlaps a.0 placed) placed b.0 c.2 in
     let same : b.0 ∷ a.0 ≡ found = cc b.2 in
     let room : word_count (placed ∷ a.0) ≤ 32768 = grind (arith, nat_tests, d.0) in
-    subst (λ (lines : List Settled). word_count lines ≤ 32768) same (subst (λ (line : Settled). word_count (line ∷ a.0) ≤ 32768) d.1 room)
+    subst (λ (lines : List AssembledLine). word_count lines ≤ 32768) same (subst (λ (line : AssembledLine). word_count (line ∷ a.0) ≤ 32768) d.1 room)
 
 -- the module of lines has a text
 all_fit : {A : Type 0} (first second : List A) (n m : ℕ) → length first ≡ n → length second ≡ m → n + m ≤ 32768 → length (first ++ second) ≤ 32768
@@ -218,7 +218,7 @@ all_fit first second n m e f le = omega (arith, e, f, le, length-append first se
 same_fit : (n m : ℕ) → n ≡ m → m ≤ 256 → n ≤ 256
 same_fit n m e le = omega (arith, e, le)
 
-module_text : (lines : List Line) (found : List Settled) → AtMost lines → word_count found ≤ 32768 → HasText (module_by lines found)
+module_text : (lines : List Line) (found : List AssembledLine) → AtMost lines → word_count found ≤ 32768 → HasText (module_by lines found)
 module_text lines found most room =
     let start = map unused (refs lines) in
     let relocatable = pieces_in (content_at start found part.Relocatable) part.Relocatable in
@@ -238,7 +238,7 @@ module_text lines found most room =
 pub module_has_text : (texts : List (ℕ × List ℕ)) (m : Module) → module_of texts ≡ Ok m → HasText m
 module_has_text texts m e =
     let a = bound (laid check texts) _ m e in
-    let b = bound (settled (settle (names a.0)) a.0) _ m a.2 in
+    let b = bound (assembled_lines (assembled_line (names a.0)) a.0) _ m a.2 in
     let same : module_by a.0 b.0 ≡ m = cc b.2 in
     subst HasText same
-    (module_text a.0 b.0 (laid_most texts [] a.0 a.1 (record { defs = omega arith; refs = omega arith })) (settled_room (names a.0) a.0 b.0 b.1))
+    (module_text a.0 b.0 (laid_most texts [] a.0 a.1 (record { defs = omega arith; refs = omega arith })) (assembled_room (names a.0) a.0 b.0 b.1))

@@ -11,7 +11,7 @@ use Rattle.expression_defs.specs.Symbols.{Names}
 use Rattle.expression_defs.specs.Growing.{Grows}
 use Rattle.asm_defs.specs.declared.location.Location.{Location}
 use Rattle.asm_defs.specs.Locations.{Line, behind}
-use Rattle.asm_defs.specs.Memory.{Settled}
+use Rattle.asm_defs.specs.Memory.{AssembledLine}
 use Rattle.module_image.specs.declared.image.Image.{Image}
 use Rattle.asm_checks.specs.Defined.{model_of_statement}
 use Rattle.asm_checks.specs.declared.first_checks.Checked.{Checked}
@@ -53,7 +53,7 @@ kept_stopped old text checked new (Err error) some same keeps = tt
 
 -- the image is ready, and nothing else has changed
 going_by : (lines : List Line) (names : Names) (image image' : Option Image) (waiting : List Pending)
-    → ((founds : List Settled) → ImageOf founds image → ImageOf founds image')
+    → ((founds : List AssembledLine) → ImageOf founds image → ImageOf founds image')
     → IsGoing lines names image waiting → IsGoing lines names image' waiting
 going_by lines names image image' waiting made is = record {
   order = is.order;
@@ -65,12 +65,12 @@ going_by lines names image image' waiting made is = record {
 }
 
 worked_by : (lines : List Line) (names : Names) (image image' : Option Image) (waiting : List Pending) (refused : Option Refused)
-    → ((founds : List Settled) → ImageOf founds image → ImageOf founds image') → IsWorked lines names image waiting refused
+    → ((founds : List AssembledLine) → ImageOf founds image → ImageOf founds image') → IsWorked lines names image waiting refused
     → IsWorked lines names image' waiting refused
 worked_by lines names image image' waiting None made is = going_by lines names image image' waiting made is
 worked_by lines names image image' waiting (Some refused) made is = is
 
-pub prepared : (old new : AsmLines) → SameLines old new → ((founds : List Settled) → ImageOf founds old.image → ImageOf founds new.image) → IsAsBefore old new
+pub prepared : (old new : AsmLines) → SameLines old new → ((founds : List AssembledLine) → ImageOf founds old.image → ImageOf founds new.image) → IsAsBefore old new
 prepared old new same made = record {
   names = same.known.names;
   worked = λ lines works.
@@ -130,7 +130,7 @@ going_is lines names image waiting (Some refused) none is = cc none
 
 pub worked : (old ready kept new : AsmLines) (text : List ℕ) (checked : Checked) (waiting : Option Pending) (emitted : Emitted) (at : Location)
     → is_some old.refused ≡ false
-    → SameLines old ready → ((founds : List Settled) → ImageOf founds old.image → ImageOf founds ready.image) → at ≡ behind ready.location checked.moved.gap
+    → SameLines old ready → ((founds : List AssembledLine) → ImageOf founds old.image → ImageOf founds ready.image) → at ≡ behind ready.location checked.moved.gap
     → AssemblesBy ready.symbols (ready.taken + 1) at text (model_of_statement checked.parsed.statement) waiting emitted → Keeps ready waiting checked kept
     → SameWork ready kept
     → StandsStill ready kept → SameKnown kept new → Emits kept at emitted (is_some waiting) new → Adds old text checked new

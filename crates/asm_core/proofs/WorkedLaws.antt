@@ -14,8 +14,8 @@ use Rattle.asm_defs.specs.Locations.{Line, place}
 use Rattle.asm_defs.specs.Statements as parsed
 use Rattle.asm_defs.specs.Statements.{Statement, parse_line}
 use Rattle.asm_defs.specs.SecondChecks.{outcome}
-use Rattle.asm_defs.specs.Memory.{Settled, contents_by, references_of}
-use Rattle.asm_defs.specs.Modules.{settle, with_room}
+use Rattle.asm_defs.specs.Memory.{AssembledLine, contents_by, references_of}
+use Rattle.asm_defs.specs.Modules.{assembled_line, with_room}
 use Rattle.asm_defs.specs.Growing.{is_unresolved, held_place}
 use Rattle.asm_checks.specs.Answers.{Causes}
 use Rattle.asm_checks.proofs.Failures.{caused, causes_on}
@@ -34,7 +34,7 @@ use Rattle.asm_core.proofs.BlankLaws.{nothing_placed, nothing_comes, still_room}
 use Rattle.asm_core.proofs.KnownLaws.{onto_more, stand_more, known_more, held_more, known_still, refuses_still, comes_still}
 
 -- a line without room is refused for a cause that is no want of memory
-room_causes : (earlier : List Settled) (line : Settled) (cause : AsmCause) → with_room earlier line ≡ Err cause → Causes cause (with_room earlier line)
+room_causes : (earlier : List AssembledLine) (line : AssembledLine) (cause : AsmCause) → with_room earlier line ≡ Err cause → Causes cause (with_room earlier line)
 room_causes earlier line cause e = by (no_room earlier line cause e)
   where
     by : are_causes Overflow cause ⊎ are_causes Overlap cause → Causes cause (with_room earlier line)
@@ -64,13 +64,13 @@ module _ (known more : Names) (grows : Grows known more) (lines : List Line) (li
       (subst (IsStopped refused (line ∷ lines) more) (sym rest) (stopped_more refused waiting is))
 
   module _ (image : Option Image) (waiting : List Pending) (going : IsGoing lines known image waiting) where
-    abbrev earlier : List Settled
+    abbrev earlier : List AssembledLine
     earlier = onto [] going.founds
 
     still : AreKnown more [] going.order going.founds waiting
     still = known_still known more grows [] going.order going.founds waiting going.known
 
-    goes_on : (image' : Option Image) (waiting' : List Pending) (found : Settled)
+    goes_on : (image' : Option Image) (waiting' : List Pending) (found : AssembledLine)
         → AreKnown more [] (going.order ++ line ∷ []) (going.founds ++ found ∷ []) waiting'
         → StandsBehind earlier found → ImageOf (found ∷ earlier) image' → IsGoing (line ∷ lines) more image' waiting'
     goes_on image' waiting' found known stand placed = record {
@@ -129,7 +129,7 @@ module _ (known more : Names) (grows : Grows known more) (lines : List Line) (li
       -- a line that comes to something
       module _ (statement : Statement) (is_statement : statement ≡ line.statement) (given : List Content) (comes : ComesTo known at statement given)
           (is_waiting : old.waiting.items ≡ waiting) where
-        abbrev found : Settled
+        abbrev found : AssembledLine
         found = record { at = place lines line; outcome = comes.found }
 
         outcome_is : outcome (look_up known) (place lines line) line.statement ≡ Ok comes.found
@@ -142,7 +142,7 @@ module _ (known more : Names) (grows : Grows known more) (lines : List Line) (li
             subst (λ before. IsKnown more before line found) going.all
             (record { at = refl; comes = comes_still known more grows lines line (ap (is_closed is_unresolved) outcome_is) ∙ outcome_is })
 
-        comes_by : (answer : Result Settled AsmCause) → with_room earlier found ≡ answer → ByRoom old earlier found false new answer → Worked
+        comes_by : (answer : Result AssembledLine AsmCause) → with_room earlier found ≡ answer → ByRoom old earlier found false new answer → Worked
         comes_by (Ok other) room by =
             by_going
             (goes_on new.image new.waiting.items found
@@ -168,7 +168,7 @@ module _ (known more : Names) (grows : Grows known more) (lines : List Line) (li
               ∙ ap (λ (at : Location). contents_by at (references_of references earlier) comes.found) is_at),
         )
 
-        pub comes_worked : ((earlier : List Settled) (line : Settled) → ImageOf earlier old.image → AreContents at given earlier line
+        pub comes_worked : ((earlier : List AssembledLine) (line : AssembledLine) → ImageOf earlier old.image → AreContents at given earlier line
             → ByRoom old earlier line false new (with_room earlier line))
             → Worked
         comes_worked emits =
@@ -178,7 +178,7 @@ module _ (known more : Names) (grows : Grows known more) (lines : List Line) (li
       -- a line that waits
       module _ (number : ℕ) (is_taken : number ≡ line.number) (statement : Statement) (is_statement : statement ≡ line.statement) (pending : Pending)
           (given : List Content) (held : IsHeld number at text statement pending given) (is_waiting : old.waiting.items ≡ waiting ++ pending ∷ []) where
-        abbrev place_held : Settled
+        abbrev place_held : AssembledLine
         place_held = held_place (place lines line) line.statement
 
         is_of : IsOf lines line pending
@@ -188,7 +188,7 @@ module _ (known more : Names) (grows : Grows known more) (lines : List Line) (li
           parsed = ap parse_line held.is.text ∙ is_said;
         }
 
-        waits_by : (answer : Result Settled AsmCause) → with_room earlier place_held ≡ answer → ByRoom old earlier place_held true new answer → Worked
+        waits_by : (answer : Result AssembledLine AsmCause) → with_room earlier place_held ≡ answer → ByRoom old earlier place_held true new answer → Worked
         waits_by (Ok other) room by =
             by_going
             (goes_on new.image new.waiting.items place_held
@@ -206,7 +206,7 @@ module _ (known more : Names) (grows : Grows known more) (lines : List Line) (li
             ap (λ (at : Location). contents_by at [] (held_place at statement).outcome) is_at
             ∙ ap (λ (statement : Statement). contents_by (place lines line) [] (held_place (place lines line) statement).outcome) is_statement
 
-        pub waits_worked : ((earlier : List Settled) (line : Settled) → ImageOf earlier old.image → AreContents at given earlier line
+        pub waits_worked : ((earlier : List AssembledLine) (line : AssembledLine) → ImageOf earlier old.image → AreContents at given earlier line
             → ByRoom old earlier line true new (with_room earlier line))
             → Worked
         waits_worked emits =
@@ -229,7 +229,7 @@ module _ (known more : Names) (grows : Grows known more) (lines : List Line) (li
         refused_worked stop =
             by_refusal cause None (
               ap (is_closed is_unresolved) refused_is ∙ ap not refused.closed,
-              causes_on cause (outcome (look_up known) at statement) (settle known lines earlier line) refused.causes
+              causes_on cause (outcome (look_up known) at statement) (assembled_line known lines earlier line) refused.causes
                   (λ e. ap (λ answer. answer >>= λ outcome. with_room earlier (record { at = place lines line; outcome = outcome })) refused_is),
             )
             (stop.0, stop.1 ∙ is_waiting)

@@ -3,7 +3,7 @@ use Rattle.std.specs.Prelude.{◌≡◌, ℕ, ◌+◌, ◌++◌, List, ◌∷◌
 use Rattle.asm_defs.specs.Locations.{Line, place, behind}
 use Rattle.asm_defs.specs.Statements.{parse_line}
 use Rattle.asm_defs.specs.FirstChecks.{defs_in, refs_in}
-use Rattle.asm_defs.specs.Memory.{Settled}
+use Rattle.asm_defs.specs.Memory.{AssembledLine}
 use Rattle.asm_checks.specs.Defined.{model_of_statement}
 use Rattle.asm_checks.specs.declared.first_checks.Checked.{Checked}
 use Rattle.asm_core.specs.declared.lines.AsmLines.{AsmLines}
@@ -45,4 +45,4 @@ pub record Counts (old new : AsmLines) : Type 0 where
   pub waiting : new.waiting.items ≡ old.waiting.items
   pub refused : new.refused ≡ old.refused
   pub ready : IsSome new.image
-  pub image : (founds : List Settled) → ImageOf founds old.image → ImageOf founds new.image
+  pub image : (founds : List AssembledLine) → ImageOf founds old.image → ImageOf founds new.image

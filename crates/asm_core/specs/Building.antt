@@ -13,8 +13,8 @@ use Rattle.asm_defs.specs.Statements.{parse_line}
 use Rattle.asm_defs.specs.Locations.{Line, location, place, reached}
 use Rattle.asm_defs.specs.FirstChecks.{names, defs, refs, check}
 use Rattle.asm_defs.specs.SecondChecks.{outcome}
-use Rattle.asm_defs.specs.Memory.{Settled}
-use Rattle.asm_defs.specs.Modules.{title, settle, with_room}
+use Rattle.asm_defs.specs.Memory.{AssembledLine}
+use Rattle.asm_defs.specs.Modules.{title, assembled_line, with_room}
 use Rattle.asm_defs.specs.Growing.{is_unresolved, held_place}
 use Rattle.asm_checks.specs.Answers.{Causes}
 use Rattle.asm_checks.specs.declared.failure.Failure.{Failure}
@@ -35,19 +35,19 @@ pub record IsOf (before : List Line) (line : Line) (pending : Pending) : Type 0 
   pub parsed : parse_line pending.text.items ≡ Ok line.statement
 
 -- a line comes to something by the names that are known
-pub record IsKnown (known : Names) (before : List Line) (line : Line) (found : Settled) : Type 0 where
+pub record IsKnown (known : Names) (before : List Line) (line : Line) (found : AssembledLine) : Type 0 where
   pub at : found.at ≡ place before line
   pub comes : outcome (look_up known) (place before line) line.statement ≡ Ok found.outcome
 
 -- or it is the first that waits, and zeros hold its places
-pub record IsWaiting (before : List Line) (line : Line) (found : Settled) (waiting rest : List Pending) : Type 0 where
+pub record IsWaiting (before : List Line) (line : Line) (found : AssembledLine) (waiting rest : List Pending) : Type 0 where
   pub first : Pending
   pub is : IsOf before line first
   pub held : found ≡ held_place (place before line) line.statement
   pub others : waiting ≡ first ∷ rest
 
 -- what is known of lines in their order after others, and which of them wait
-abbrev pub AreKnown : Names → List Line → List Line → List Settled → List Pending → Type 0
+abbrev pub AreKnown : Names → List Line → List Line → List AssembledLine → List Pending → Type 0
 AreKnown known before [] [] waiting = waiting ≡ []
 AreKnown known before [] (found ∷ founds) waiting = ⊥
 AreKnown known before (line ∷ lines) [] waiting = ⊥
@@ -57,31 +57,31 @@ AreKnown known before (line ∷ lines) (found ∷ founds) waiting =
     × AreKnown known (line ∷ before) lines founds others)
 
 -- what the lines place, whatever the names that others define; there is no image of no lines
-abbrev pub ImageOf : List Settled → Option Image → Type 0
+abbrev pub ImageOf : List AssembledLine → Option Image → Type 0
 ImageOf lines None = lines ≡ []
 ImageOf lines (Some image) = (references : List Reference) → IsImage references lines image
 
 -- no line is refused so far
 pub record IsGoing (lines : List Line) (names : Names) (placed : Option Image) (waiting : List Pending) : Type 0 where
   pub order : List Line
-  pub founds : List Settled
+  pub founds : List AssembledLine
   pub all : lines ≡ onto [] order
   pub known : AreKnown names [] order founds waiting
   pub stand : AllStand [] founds
   pub image : ImageOf (onto [] founds) placed
 
 -- the second checks refuse a line after others, whatever names are still to come
-abbrev pub Refuses : Names → List Line → List Settled → Line → AsmCause → Option Pending → Type 0
+abbrev pub Refuses : Names → List Line → List AssembledLine → Line → AsmCause → Option Pending → Type 0
 Refuses known before earlier line cause None =
     IsTrue (is_closed is_unresolved (outcome (look_up known) (place before line) line.statement))
-    × Causes cause (settle known before earlier line)
+    × Causes cause (assembled_line known before earlier line)
 Refuses known before earlier line cause (Some pending) =
     IsOf before line pending × Causes cause (with_room earlier (held_place (place before line) line.statement))
 
 -- a line is refused, and no line after it counts
 pub record IsStopped (refused : Refused) (lines : List Line) (names : Names) (waiting : List Pending) : Type 0 where
   pub order : List Line
-  pub founds : List Settled
+  pub founds : List AssembledLine
   pub line : Line
   pub later : List Line
   pub all : lines ≡ onto (line ∷ onto [] order) later

@@ -6,7 +6,7 @@ use Rattle.object_defs.specs.Modules.{Reference}
 use Rattle.asm_defs.specs.declared.causes.AsmCause.{AsmCause}
 use Rattle.asm_defs.specs.declared.content.Content.{Content}
 use Rattle.asm_defs.specs.declared.location.Location.{Location}
-use Rattle.asm_defs.specs.Memory.{Settled, contents, is_placed_in}
+use Rattle.asm_defs.specs.Memory.{AssembledLine, contents, is_placed_in}
 use Rattle.asm_defs.specs.Modules.{with_room}
 use Rattle.module_image.specs.declared.image.Image.{Image}
 use Rattle.asm_core.specs.Keeping.{SameNames, StandsStill}
@@ -28,13 +28,13 @@ pub record SameLines (old new : AsmLines) : Type 0 where
   pub refused : new.refused ≡ old.refused
 
 -- the bytes that a line places after others at a place
-abbrev pub AreContents : Location → List Content → List Settled → Settled → Type 0
+abbrev pub AreContents : Location → List Content → List AssembledLine → AssembledLine → Type 0
 AreContents at given earlier line =
     (line.at ≡ at) × ((references : List Reference) → IsTrue (is_placed_in at.part)
     → given ≡ contents references earlier line)
 
 -- a line is placed after others, and whether it has room
-pub record Places {A : Type 0} (earlier : List Settled) (line : Settled) (result : Result A AsmCause)
+pub record Places {A : Type 0} (earlier : List AssembledLine) (line : AssembledLine) (result : Result A AsmCause)
     (image : Option Image) : Type 0 where
   pub room : map_ok (λ _. line) result ≡ with_room earlier line
   pub placed : ImageOf (line ∷ earlier) image
@@ -50,7 +50,7 @@ Stops old cause true new =
     × (new.waiting.items ≡ front)
 
 -- a line was placed, or is refused since it has no room
-abbrev pub ByRoom : AsmLines → List Settled → Settled → Bool → AsmLines → Result Settled AsmCause → Type 0
+abbrev pub ByRoom : AsmLines → List AssembledLine → AssembledLine → Bool → AsmLines → Result AssembledLine AsmCause → Type 0
 ByRoom old earlier line waits new (Ok found) =
     (new.refused ≡ old.refused) × (new.waiting.items ≡ old.waiting.items) × ImageOf (line ∷ earlier) new.image
 ByRoom old earlier line waits new (Err cause) = Stops old cause waits new
@@ -58,5 +58,5 @@ ByRoom old earlier line waits new (Err cause) = Stops old cause waits new
 abbrev pub Emits : AsmLines → Location → Emitted → Bool → AsmLines → Type 0
 Emits old at (emitted.Refused cause) waits new = Stops old cause false new
 Emits old at (emitted.Bytes given) waits new =
-    (earlier : List Settled) (line : Settled) → ImageOf earlier old.image → AreContents at given.items earlier line
+    (earlier : List AssembledLine) (line : AssembledLine) → ImageOf earlier old.image → AreContents at given.items earlier line
     → ByRoom old earlier line waits new (with_room earlier line)

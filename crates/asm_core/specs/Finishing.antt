@@ -4,7 +4,7 @@ use Rattle.source_defs.specs.Refusals.{Refusal}
 use Rattle.source_defs.specs.Orders.{onto}
 use Rattle.expression_defs.specs.Symbols.{Names}
 use Rattle.source_defs.specs.Lines.{numbered}
-use Rattle.expression_defs.specs.Layout.{settled, laid}
+use Rattle.expression_defs.specs.Layout.{assembled_lines, laid}
 use Rattle.expression_defs.specs.declared.causes.ExprError.TheVariants as expr
 use Rattle.instruction_defs.specs.declared.causes.FormError.TheVariants as form
 use Rattle.object_defs.specs.Modules as object
@@ -14,8 +14,8 @@ use Rattle.object_tags.specs.declared.parts.Module.{Module}
 use Rattle.asm_defs.specs.declared.causes.AsmCause.{AsmCause}
 use Rattle.asm_defs.specs.declared.causes.AsmCause.TheVariants as cause
 use Rattle.asm_defs.specs.Locations.{Line, reached}
-use Rattle.asm_defs.specs.Memory.{Settled}
-use Rattle.asm_defs.specs.Modules.{settle, title}
+use Rattle.asm_defs.specs.Memory.{AssembledLine}
+use Rattle.asm_defs.specs.Modules.{assembled_line, title}
 use Rattle.asm_defs.specs.FirstChecks.{check, names, defs}
 use Rattle.module_image.specs.Standing.{SamePlaces}
 use Rattle.asm_core.specs.Building.{HasAccepted}
@@ -33,25 +33,25 @@ RefusesAt (At line (cause.Form form.Memory)) defined = ⊥
 RefusesAt (At line (cause.Form (form.Expr expr.Memory))) defined = ⊥
 RefusesAt (At line refused) defined = defined ≡ Err (record { line = line; cause = refused })
 
--- the lines were settled, and what was known of each takes as much room
-pub record AreResolved (unused : List Reference) (order : List Line) (founds : List Settled) (known : Names)
+-- the lines were assembled, and what was known of each takes as much room
+pub record AreResolved (unused : List Reference) (order : List Line) (founds : List AssembledLine) (known : Names)
     (old new : Output) : Type 0 where
-  pub done : List Settled
-  pub settled : settled (settle known) (onto [] order) ≡ Ok done
+  pub done : List AssembledLine
+  pub assembled_lines : assembled_lines (assembled_line known) (onto [] order) ≡ Ok done
   pub places : SamePlaces (onto [] founds) done
   pub output : IsOutput unused [] founds old → IsOutput unused done [] new
 
 -- or one is refused
-abbrev pub ResolvesAll : {A : Type 0} → List Reference → List Line → List Settled → Names → Result A AsmError → Output
+abbrev pub ResolvesAll : {A : Type 0} → List Reference → List Line → List AssembledLine → Names → Result A AsmError → Output
     → Output → Type 0
 ResolvesAll unused order founds known (Ok _) old new = AreResolved unused order founds known old new
-ResolvesAll unused order founds known (Err error) old new = RefusesAt error (settled (settle known) (onto [] order))
+ResolvesAll unused order founds known (Err error) old new = RefusesAt error (assembled_lines (assembled_line known) (onto [] order))
 
--- lines are refused where those before the refused one are settled
-abbrev pub StopsBehind : Names → List Line → List Line → List Settled → List Settled → AsmError → Type 0
+-- lines are refused where those before the refused one are assembled
+abbrev pub StopsBehind : Names → List Line → List Line → List AssembledLine → List AssembledLine → AsmError → Type 0
 StopsBehind known lines order founds done error =
-    settled (settle known) (onto [] order) ≡ Ok done → SamePlaces (onto [] founds) done
-    → RefusesAt error (settled (settle known) lines)
+    assembled_lines (assembled_line known) (onto [] order) ≡ Ok done → SamePlaces (onto [] founds) done
+    → RefusesAt error (assembled_lines (assembled_line known) lines)
 
 -- what a builder keeps for the module of its lines
 pub record Knows (lines : List Line) (builder : AsmLines) : Type 0 where

@@ -9,7 +9,7 @@ use Rattle.asm_defs.specs.declared.causes.AsmCause.{AsmCause}
 use Rattle.asm_defs.specs.declared.location.Location.{Location}
 use Rattle.asm_defs.specs.Statements.{Statement, parse_line}
 use Rattle.asm_defs.specs.SecondChecks.{Outcome, outcome}
-use Rattle.asm_defs.specs.Memory.{Settled, bytes_in, references_of}
+use Rattle.asm_defs.specs.Memory.{AssembledLine, bytes_in, references_of}
 use Rattle.asm_defs.specs.Modules.{entry}
 use Rattle.asm_defs.specs.Growing.{declared_size}
 use Rattle.asm_checks.specs.Answers.{Fails}
@@ -20,26 +20,26 @@ use Rattle.asm_core.specs.declared.second_pass.Output.{Output}
 use Rattle.asm_core.specs.declared.pending.Pending.{Pending}
 
 -- the bytes of lines, of which some are done and others stand after them; and the last uses in those that are done
-pub record HoldsBytes (unused : List Reference) (done others : List Settled) (output : Output) : Type 0 where
+pub record HoldsBytes (unused : List Reference) (done others : List AssembledLine) (output : Output) : Type 0 where
   pub image : IsImage unused (onto done others) output.image
   pub references : map model_of_ref output.references.items ≡ references_of unused done
 
 -- and the entry
-pub record IsOutput (unused : List Reference) (done others : List Settled) (output : Output) : Type 0 where
+pub record IsOutput (unused : List Reference) (done others : List AssembledLine) (output : Output) : Type 0 where
   pub bytes : HoldsBytes unused done others output
   pub entry : output.entry ≡ entry done
 
 -- a line comes to the place that was held for it
 abbrev pub FillsBytes : List Reference → Location → Outcome → Output → Output → Type 0
 FillsBytes unused at found old new =
-    (done others : List Settled) (held : Settled) → AllStand (held ∷ done) others
+    (done others : List AssembledLine) (held : AssembledLine) → AllStand (held ∷ done) others
     → FillsPlace held (record { at = at; outcome = found })
     → HoldsBytes unused done (held ∷ others) old → HoldsBytes unused
     (record { at = at; outcome = found } ∷ done) others new
 
 abbrev pub Fills : List Reference → Location → Outcome → Output → Output → Type 0
 Fills unused at found old new =
-    (done others : List Settled) (held : Settled) → AllStand (held ∷ done) others
+    (done others : List AssembledLine) (held : AssembledLine) → AllStand (held ∷ done) others
     → FillsPlace held (record { at = at; outcome = found })
     → IsOutput unused done (held ∷ others) old → IsOutput unused (record { at = at; outcome = found } ∷ done) others new
 

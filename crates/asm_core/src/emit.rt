@@ -2,7 +2,7 @@
 
 ghost use Rattle.std.specs.Prelude.{◌≡◌, ◌<◌, ◌≤◌, ◌+◌, ◌-◌, ◌^◌, List, length, IsSome, IfOk, OnOk, IsTrue};
 ghost use Rattle.asm_defs.specs.Locations as places;
-ghost use Rattle.asm_defs.specs.Memory.{Settled};
+ghost use Rattle.asm_defs.specs.Memory.{AssembledLine};
 ghost use Rattle.asm_checks.specs.Defined.{model_of_statement};
 ghost use Rattle.asm_checks.specs.Moves.{MovesWithin};
 ghost use Rattle.asm_checks.specs.Checks.{IsParsed};
@@ -22,7 +22,7 @@ impl AsmLines {
     /// Makes the image ready for a line.
     pub(crate) fn prepare(&mut self) -> Result<(), AllocError>
         ensures ready { OnOk result (IsSome self.new.image) }
-        ensures image { (lines : List Settled) → ImageOf lines self.old.image → ImageOf lines self.new.image }
+        ensures image { (lines : List AssembledLine) → ImageOf lines self.old.image → ImageOf lines self.new.image }
         ensures lines { SameLines self.old self.new }
     {
         if self.image.is_none() {
@@ -79,7 +79,7 @@ impl AsmLines {
     fn place(&mut self, at: Location, contents: &[Content]) -> Result<(), AsmCause>
         requires ready { IsSome self.old.image }
         requires fits { at.number + length contents.now ≤ 65536 }
-        ensures placed { (earlier : List Settled) (line : Settled) → ImageOf earlier self.old.image →
+        ensures placed { (earlier : List AssembledLine) (line : AssembledLine) → ImageOf earlier self.old.image →
             AreContents at contents.now earlier line → Places earlier line result self.new.image }
         ensures lines { SameLines self.old self.new }
     {

@@ -6,7 +6,7 @@ ghost use Rattle.object_defs.specs.Modules.{Reference};
 ghost use Rattle.object_tags.specs.Seen.{model_of_def, model_of_ref, model_of_module};
 ghost use Rattle.asm_defs.specs.Locations.{Line};
 ghost use Rattle.asm_defs.specs.FirstChecks as first;
-ghost use Rattle.asm_defs.specs.Memory.{Settled};
+ghost use Rattle.asm_defs.specs.Memory.{AssembledLine};
 ghost use Rattle.asm_defs.specs.Modules.{unused, module_by, module_behind, definition_in};
 ghost use Rattle.asm_checks.specs.Outcomes.{model_of_spot};
 ghost use Rattle.asm_core.specs.declared.pending.Pending.{Pending};
@@ -43,7 +43,7 @@ impl AsmLines {
 
     /// The output of the first pass. The builder gives up its image.
     fn output(&mut self) -> Result<Output, AllocError>
-        ensures output { IfOk result (λ output. (founds : List Settled) → ImageOf (onto [] founds) self.old.image →
+        ensures output { IfOk result (λ output. (founds : List AssembledLine) → ImageOf (onto [] founds) self.old.image →
             IsOutput (map unused self.old.refs.items) [] founds output) }
         ensures same { SameEnd self.old self.new }
     {
@@ -62,7 +62,7 @@ impl AsmLines {
 
     /// Resolves the lines that wait in their order, up to the first that is refused.
     fn resolve_all(&self, output: &mut Output) -> Result<(), AsmError>
-        ensures { (unused : List Reference) (order : List Line) (founds : List Settled) →
+        ensures { (unused : List Reference) (order : List Line) (founds : List AssembledLine) →
             AreKnown self.now.symbols [] order founds self.now.waiting.items → AllStand [] founds →
             ResolvesAll unused order founds self.now.symbols result output.old output.new }
     {
@@ -77,9 +77,9 @@ impl AsmLines {
 
     /// The module of lines that are all resolved.
     fn module_of(&self, output: &Output) -> Result<Module, AllocError>
-        ensures { (lines : List Line) (settled : List Settled) → Knows lines self.now →
-            IsOutput (map unused (first.refs lines)) settled [] output.now →
-            IfOk result (λ found. model_of_module found ≡ module_by lines settled) }
+        ensures { (lines : List Line) (assembled_lines : List AssembledLine) → Knows lines self.now →
+            IsOutput (map unused (first.refs lines)) assembled_lines [] output.now →
+            IfOk result (λ found. model_of_module found ≡ module_by lines assembled_lines) }
     {
         Ok(Module {
             name: self.title,
@@ -94,7 +94,7 @@ impl AsmLines {
 
 /// Why a line is refused where those before it are resolved: a value of it, else what was known when it was taken.
 fn stopped(symbols: &Symbols, output: &mut Output, refused: &Refused) -> AsmError
-    ensures { (lines : List Line) (waiting : List Pending) (done : List Settled)
+    ensures { (lines : List Line) (waiting : List Pending) (done : List AssembledLine)
         → (is : IsStopped refused.now lines symbols.now waiting) →
         StopsBehind symbols.now lines is.order is.founds done result }
 {

@@ -11,7 +11,7 @@ use Rattle.asm_defs.specs.declared.location.Location.{Location}
 use Rattle.asm_defs.specs.Statements as parsed
 use Rattle.asm_defs.specs.Statements.{Statement}
 use Rattle.asm_defs.specs.SecondChecks.{Outcome, Nothing, Words, Bytes, Entry}
-use Rattle.asm_defs.specs.Memory.{Settled}
+use Rattle.asm_defs.specs.Memory.{AssembledLine}
 
 -- a refusal that more names may lift
 abbrev pub is_unresolved : AsmCause → Bool
@@ -45,5 +45,5 @@ declared_size (parsed.Text quoted) = length (characters quoted)
 declared_size _ = 0
 
 -- zeros in the places of a line that waits for names
-abbrev pub held_place : Location → Statement → Settled
+abbrev pub held_place : Location → Statement → AssembledLine
 held_place at statement = record { at = at; outcome = Bytes (replicate (declared_size statement) 0) }

@@ -17,7 +17,7 @@ use Rattle.count_defs.specs.Counts.{one_if}
 use Rattle.source_defs.specs.Names.{same_text}
 
 -- a line by its place and what it came to
-pub record Settled : Type 0 where
+pub record AssembledLine : Type 0 where
   pub at : Location
   pub outcome : Outcome
 
@@ -46,17 +46,17 @@ bytes_in (Bytes bytes) = length bytes
 bytes_in (Entry entry) = 0
 
 -- a line places a byte at a place
-abbrev pub covers : Settled → Part → ℕ → Bool
+abbrev pub covers : AssembledLine → Part → ℕ → Bool
 covers line part p =
     same_part line.at.part part && nat_le line.at.number p && nat_lt p (line.at.number + bytes_in line.outcome)
 
 -- a byte was placed at a place
-abbrev pub is_placed : List Settled → Part → ℕ → Bool
+abbrev pub is_placed : List AssembledLine → Part → ℕ → Bool
 is_placed [] part p = false
 is_placed (line ∷ before) part p = covers line part p || is_placed before part p
 
 -- a byte of a word was placed, by the word's number
-abbrev pub has_word : List Settled → Part → ℕ → Bool
+abbrev pub has_word : List AssembledLine → Part → ℕ → Bool
 has_word lines part w = is_placed lines part (2 * w) || is_placed lines part (2 * w + 1)
 
 -- how many words a part has
@@ -73,15 +73,15 @@ any_from has first zero = false
 any_from has first (suc count) = has first || any_from has (first + 1) count
 
 -- how many words of a part are placed
-abbrev pub words_in : List Settled → Part → ℕ
+abbrev pub words_in : List AssembledLine → Part → ℕ
 words_in lines part = count_from (has_word lines part) 0 part_words
 
 -- how many words are placed
-abbrev pub word_count : List Settled → ℕ
+abbrev pub word_count : List AssembledLine → ℕ
 word_count lines = words_in lines part.Relocatable + words_in lines part.Absolute
 
 -- a byte that a line places was placed before
-abbrev pub overlaps : List Settled → Settled → Bool
+abbrev pub overlaps : List AssembledLine → AssembledLine → Bool
 overlaps before line = any_from (is_placed before line.at.part) line.at.number (bytes_in line.outcome)
 
 -- the place of the last use of a name so far; absolute 0 before the first
@@ -131,16 +131,16 @@ behind_by at references (Words words) =
 behind_by at references _ = references
 
 -- The last uses after lines. Profile: a word under DORG is no use.
-abbrev pub references_of : List Reference → List Settled → List Reference
+abbrev pub references_of : List Reference → List AssembledLine → List Reference
 references_of references [] = references
 references_of references (line ∷ before) = behind_by line.at (references_of references before) line.outcome
 
 -- what a line places, by the names that others define
-abbrev pub contents : List Reference → List Settled → Settled → List Content
+abbrev pub contents : List Reference → List AssembledLine → AssembledLine → List Content
 contents references before line = contents_by line.at (references_of references before) line.outcome
 
 -- what stands at a place
-abbrev pub content_at : List Reference → List Settled → Part → ℕ → Option Content
+abbrev pub content_at : List Reference → List AssembledLine → Part → ℕ → Option Content
 content_at references [] part p = None
 content_at references (line ∷ before) part p =
     if covers line part p
@@ -173,7 +173,7 @@ abbrev pub pieces_in : (ℕ → Option Content) → Part → List Piece
 pieces_in content part = pieces_from content part 0 part_words
 
 -- Profile: a module's words are its relocatable ones in order of their places, then its absolute ones.
-abbrev pub pieces : List Reference → List Settled → List Piece
+abbrev pub pieces : List Reference → List AssembledLine → List Piece
 pieces references lines =
     pieces_in (content_at references lines part.Relocatable) part.Relocatable
     ++ pieces_in (content_at references lines part.Absolute) part.Absolute

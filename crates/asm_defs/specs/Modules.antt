@@ -4,7 +4,7 @@ use Rattle.source_defs.specs.Refusals.{Refusal, ◌>>=◌}
 use Rattle.expression_defs.specs.Expression.{Value, Absolute, Relocatable}
 use Rattle.expression_defs.specs.Symbols.{Names, look_up}
 use Rattle.source_defs.specs.Lines.{numbered, line_texts}
-use Rattle.expression_defs.specs.Layout.{laid, settled}
+use Rattle.expression_defs.specs.Layout.{laid, assembled_lines}
 use Rattle.object_defs.specs.declared.spot.Spot.{Spot}
 use Rattle.object_defs.specs.declared.spot.Spot.TheVariants as spot
 use Rattle.object_defs.specs.Digits.{padded}
@@ -16,11 +16,11 @@ use Rattle.asm_defs.specs.Statements.{Statement, Idt}
 use Rattle.asm_defs.specs.Locations.{Line, place, reached}
 use Rattle.asm_defs.specs.FirstChecks.{check, title_in, names, refs, defs}
 use Rattle.asm_defs.specs.SecondChecks.{Outcome, Nothing, Words, Bytes, Entry, outcome}
-use Rattle.asm_defs.specs.Memory.{Settled, word_count, overlaps, references_of, pieces}
+use Rattle.asm_defs.specs.Memory.{AssembledLine, word_count, overlaps, references_of, pieces}
 
 -- Whether what a line places has room after others. Profile: the 32,769th word comes first, then a byte that was
 -- placed before.
-abbrev pub with_room : List Settled → Settled → Result Settled AsmCause
+abbrev pub with_room : List AssembledLine → AssembledLine → Result AssembledLine AsmCause
 with_room earlier line =
     if nat_lt most_words (word_count (line ∷ earlier)) then Err Overflow
     else if overlaps earlier line then Err Overlap
@@ -28,13 +28,13 @@ with_room earlier line =
 
 -- The second checks of what a line says at a place after others, by all names: its values and their ranges, then its
 -- room.
-abbrev pub settle_at : Names → Location → Statement → List Settled → Result Settled AsmCause
-settle_at known at statement earlier = do
+abbrev pub assembled_at : Names → Location → Statement → List AssembledLine → Result AssembledLine AsmCause
+assembled_at known at statement earlier = do
   found ← outcome (look_up known) at statement
   with_room earlier (record { at = at; outcome = found })
 
-abbrev pub settle : Names → List Line → List Settled → Line → Result Settled AsmCause
-settle known before earlier line = settle_at known (place before line) line.statement earlier
+abbrev pub assembled_line : Names → List Line → List AssembledLine → Line → Result AssembledLine AsmCause
+assembled_line known before earlier line = assembled_at known (place before line) line.statement earlier
 
 -- Editor/Assembler manual, "Program Identifier". Profile: a later name replaces an earlier one, and blanks fill it up.
 abbrev pub title_by : List ℕ → Statement → List ℕ
@@ -62,7 +62,7 @@ entry_by entry Nothing = entry
 entry_by entry (Words words) = entry
 entry_by entry (Bytes bytes) = entry
 
-abbrev pub entry : List Settled → Option Spot
+abbrev pub entry : List AssembledLine → Option Spot
 entry [] = None
 entry (line ∷ before) = entry_by (entry before) line.outcome
 
@@ -71,21 +71,21 @@ abbrev pub unused : List ℕ → Reference
 unused name = record { name = name; last = spot.Absolute 0 }
 
 -- The module of lines that no check refuses.
-abbrev pub module_by : List Line → List Settled → Module
-module_by lines settled =
+abbrev pub module_by : List Line → List AssembledLine → Module
+module_by lines assembled_lines =
     let references = map unused (refs lines) in
     record {
       name = title lines;
       size = reached lines;
-      pieces = pieces references settled;
+      pieces = pieces references assembled_lines;
       defs = map (definition_in (names lines)) (defs lines);
-      refs = references_of references settled;
-      entry = entry settled;
+      refs = references_of references assembled_lines;
+      entry = entry assembled_lines;
     }
 
 abbrev pub module_behind : List Line → Result Module (Refusal AsmCause)
 module_behind lines = do
-  found ← settled (settle (names lines)) lines
+  found ← assembled_lines (assembled_line (names lines)) lines
   Ok (module_by lines found)
 
 -- the module of numbered lines, or the first that is refused: by the first checks, else by the second

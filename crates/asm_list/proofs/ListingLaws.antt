@@ -6,13 +6,13 @@ use Rattle.std.specs.List.{flat_map}
 use Rattle.std.proofs.lemmas.List.{length-map}
 use Rattle.source_defs.specs.Refusals.{Refusal}
 use Rattle.expression_defs.specs.Symbols.{Names}
-use Rattle.expression_defs.specs.Layout.{settled}
+use Rattle.expression_defs.specs.Layout.{assembled_lines}
 use Rattle.asm_defs.specs.declared.causes.AsmCause.{AsmCause}
 use Rattle.asm_defs.specs.declared.location.Location.{Location}
 use Rattle.asm_defs.specs.Locations.{Line}
 use Rattle.asm_defs.specs.FirstChecks.{names}
-use Rattle.asm_defs.specs.Memory.{Settled}
-use Rattle.asm_defs.specs.Modules.{settle}
+use Rattle.asm_defs.specs.Memory.{AssembledLine}
+use Rattle.asm_defs.specs.Modules.{assembled_line}
 use Rattle.shelf_defs.specs.Copied as spec
 use Rattle.shelf_defs.specs.Copied.{PlacedLine, CopyRefusal, Copied, most_bytes, copied_by}
 use Rattle.shelf_defs.specs.Assembly.{texts, laid_copied}
@@ -103,7 +103,7 @@ module _ (found : Copied) (lines : List Line) (kept : List KeptLine) (keeps : Ke
 
   -- all lines, with their names
   module _ (laid : laid_copied found ≡ Ok lines) (whole : front found.lines ≡ found.lines) where
-    listing_is : (answer : Result (List Settled) (Refusal AsmCause)) → settled (settle (names lines)) lines ≡ answer
+    listing_is : (answer : Result (List AssembledLine) (Refusal AsmCause)) → assembled_lines (assembled_line (names lines)) lines ≡ answer
         → listing_of found ≡ listing_behind found.lines lines answer
     listing_is answer is = ap (listing_by found.lines) laid ∙ ap (listing_behind found.lines lines) is
 
@@ -113,10 +113,10 @@ module _ (found : Copied) (lines : List Line) (kept : List KeptLine) (keeps : Ke
     all_names : paired found.lines (defined lines) ≡ map named_line kept
     all_names = ap (λ all. paired all (defined lines)) (sym whole) ∙ names_are found.lines lines kept keeps
 
-    whole_listing : (known : Names) → known ≡ names lines → (settled_as : List Settled) → settled (settle (names lines)) lines ≡ Ok settled_as
+    whole_listing : (known : Names) → known ≡ names lines → (assembled_as : List AssembledLine) → assembled_lines (assembled_line (names lines)) lines ≡ Ok assembled_as
         → IsListing (Whole known)
-    whole_listing known same settled_as is =
-        by_listing (Whole known) (listing_behind found.lines lines (Ok settled_as)) (listing_is (Ok settled_as) is)
+    whole_listing known same assembled_as is =
+        by_listing (Whole known) (listing_behind found.lines lines (Ok assembled_as)) (listing_is (Ok assembled_as) is)
         (ap (λ known. all_rows kept (Whole known)) same
         ∙ (ap (λ pairs. lines_rows None pairs ++ rows_of_names (names lines) kept) (sym (all_pairs (Some (names lines))))
         ∙ ap (λ named. lines_rows None (paired found.lines (shown (Some (names lines)) lines))
@@ -128,7 +128,7 @@ module _ (found : Copied) (lines : List Line) (kept : List KeptLine) (keeps : Ke
     behind_listing known number error same refused =
         let refusal : Refusal AsmCause = record { line = number; cause = refused.cause } in
         let listing = listing_behind found.lines lines (Err refusal) in
-        by_listing (Behind known number error) listing (listing_is (Err refusal) refused.settled)
+        by_listing (Behind known number error) listing (listing_is (Err refusal) refused.assembled_lines)
         (ap (λ known. all_rows kept (Behind known number error)) same
         ∙ (ap (lines_rows None) (map_take (listed_line (Some (names lines))) (number - 1) kept ∙ ap (take (number - 1)) (sym (all_pairs (Some (names lines)))))
         ∙ sym (append-nil (lines_rows None (take (number - 1) (paired found.lines (shown (Some (names lines)) lines)))))))

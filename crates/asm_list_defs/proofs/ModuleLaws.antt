@@ -5,7 +5,7 @@ use Rattle.std.proofs.lemmas.Bool.Decides.{nat_tests}
 use Rattle.std.proofs.lemmas.Bool.{and_parts, or_parts, or_right}
 use Rattle.source_defs.specs.Refusals.{Refusal, at_line}
 use Rattle.expression_defs.specs.Symbols.{Names, look_up}
-use Rattle.expression_defs.specs.Layout.{settled}
+use Rattle.expression_defs.specs.Layout.{assembled_lines}
 use Rattle.object_defs.specs.Modules.{Module, Reference, most_words}
 use Rattle.asm_defs.specs.declared.causes.AsmCause.{AsmCause}
 use Rattle.asm_defs.specs.declared.causes.AsmCause.TheVariants.{Overflow, Overlap}
@@ -14,26 +14,26 @@ use Rattle.asm_defs.specs.declared.location.Part.TheVariants as part
 use Rattle.asm_defs.specs.Locations.{Line, place}
 use Rattle.asm_defs.specs.FirstChecks.{names, refs}
 use Rattle.asm_defs.specs.SecondChecks.{outcome}
-use Rattle.asm_defs.specs.Memory.{Settled, bytes_in, is_placed_in, same_part, covers, is_placed, any_from, overlaps, word_count, contents, content_at}
-use Rattle.asm_defs.specs.Modules.{settle, with_room, unused, module_behind}
+use Rattle.asm_defs.specs.Memory.{AssembledLine, bytes_in, is_placed_in, same_part, covers, is_placed, any_from, overlaps, word_count, contents, content_at}
+use Rattle.asm_defs.specs.Modules.{assembled_line, with_room, unused, module_behind}
 use Rattle.asm_defs.proofs.CheckLaws.{bound}
 use Rattle.shelf_defs.specs.Files.{Contents}
 use Rattle.shelf_defs.specs.Copied.{PlacedLine, Copied, copied_by}
 use Rattle.shelf_defs.specs.Assembly.{in_place, laid_copied, module_of_copied}
 use Rattle.asm_list_defs.specs.Listed.{Shown, shown_at, shown, found_or, paired, listed_names, listing_behind, listing_by, listing_of}
-use Rattle.asm_list_defs.specs.Laws.{shown_settled, shown_in_order, StandAtTheirPlaces, IsListed, ListingsShowModules}
+use Rattle.asm_list_defs.specs.Laws.{shown_assembled, shown_in_order, StandAtTheirPlaces, IsListed, ListingsShowModules}
 
 -- what has room stays as it is, and nothing of it was placed before
-pub record HasRoom (earlier : List Settled) (line found : Settled) : Type 0 where
+pub record HasRoom (earlier : List AssembledLine) (line found : AssembledLine) : Type 0 where
   pub same : line ≡ found
   pub free : overlaps earlier line ≡ false
 
-room_by : (full taken : Bool) (earlier : List Settled) (line found : Settled) → overlaps earlier line ≡ taken
+room_by : (full taken : Bool) (earlier : List AssembledLine) (line found : AssembledLine) → overlaps earlier line ≡ taken
     → (if full then Err Overflow else if taken then Err Overlap else Ok line) ≡ Ok found → HasRoom earlier line found
 room_by false false earlier line found is e = record { same = cc e; free = is }
 room_by _ _ earlier line found is e = cc e
 
-has_room : (earlier : List Settled) (line found : Settled) → with_room earlier line ≡ Ok found → HasRoom earlier line found
+has_room : (earlier : List AssembledLine) (line found : AssembledLine) → with_room earlier line ≡ Ok found → HasRoom earlier line found
 has_room earlier line found e = room_by (nat_lt most_words (word_count (line ∷ earlier))) (overlaps earlier line) earlier line found refl e
 
 pub at_line_ok : {A : Type 0} (number : ℕ) (answer : Result A AsmCause) (found : A) → at_line number answer ≡ Ok found → answer ≡ Ok found
@@ -41,34 +41,34 @@ at_line_ok number (Ok value) found e = cc e
 at_line_ok number (Err refused) found e = cc e
 
 -- each of the lines has room behind those before it
-abbrev AllRoom : List Settled → Type 0
+abbrev AllRoom : List AssembledLine → Type 0
 AllRoom [] = ⊤
 AllRoom (line ∷ before) = (overlaps before line ≡ false) × AllRoom before
 
 module _ (known : Names) where
-  pub record Settles (lines : List Line) (found : List Settled) : Type 0 where
+  pub record Assembles (lines : List Line) (found : List AssembledLine) : Type 0 where
     pub shows : shown (Some known) lines ≡ shown_in_order found
     pub room : AllRoom found
 
-  one_settled : (before : List Line) (earlier : List Settled) (line : Line) (found : Settled) → settle known before earlier line ≡ Ok found
-      → (shown_at (Some known) (place before line) line ≡ shown_settled found) × (overlaps earlier found ≡ false)
-  one_settled before earlier line found e =
+  one_assembled : (before : List Line) (earlier : List AssembledLine) (line : Line) (found : AssembledLine) → assembled_line known before earlier line ≡ Ok found
+      → (shown_at (Some known) (place before line) line ≡ shown_assembled found) × (overlaps earlier found ≡ false)
+  one_assembled before earlier line found e =
       let at = place before line in
       let a = bound (outcome (look_up known) at line.statement) _ found e in
       let room = has_room earlier (record { at = at; outcome = a.0 }) found a.2 in (
-        ap (λ answer. record { at = at; outcome = found_or at answer }) a.1 ∙ ap shown_settled room.same,
+        ap (λ answer. record { at = at; outcome = found_or at answer }) a.1 ∙ ap shown_assembled room.same,
         subst (λ found. overlaps earlier found ≡ false) room.same room.free,
       )
 
-  all_settled : (lines : List Line) (found : List Settled) → settled (settle known) lines ≡ Ok found → Settles lines found
-  all_settled [] found e = let same : [] ≡ found = cc e in subst (Settles []) same (record { shows = refl; room = tt })
-  all_settled (line ∷ before) found e =
-      let a = bound (settled (settle known) before) _ found e in
-      let b = bound (at_line line.number (settle known before a.0 line)) _ found a.2 in
-      let one = one_settled before a.0 line b.0 (at_line_ok line.number (settle known before a.0 line) b.0 b.1) in
-      let others = all_settled before a.0 a.1 in
+  all_assembled : (lines : List Line) (found : List AssembledLine) → assembled_lines (assembled_line known) lines ≡ Ok found → Assembles lines found
+  all_assembled [] found e = let same : [] ≡ found = cc e in subst (Assembles []) same (record { shows = refl; room = tt })
+  all_assembled (line ∷ before) found e =
+      let a = bound (assembled_lines (assembled_line known) before) _ found e in
+      let b = bound (at_line line.number (assembled_line known before a.0 line)) _ found a.2 in
+      let one = one_assembled before a.0 line b.0 (at_line_ok line.number (assembled_line known before a.0 line) b.0 b.1) in
+      let others = all_assembled before a.0 a.1 in
       let same : b.0 ∷ a.0 ≡ found = cc b.2 in
-      subst (Settles (line ∷ before)) same (record {
+      subst (Assembles (line ∷ before)) same (record {
         shows = ap (λ (shows : List Shown). shows ++ shown_at (Some known) (place before line) line ∷ []) others.shows
             ∙ ap (λ (show : Shown). shown_in_order a.0 ++ show ∷ []) one.0;
         room = (one.1, others.room);
@@ -98,19 +98,19 @@ placed_same part.Dummy placed = cc placed
 placed_same _ placed = refl
 
 -- a line covers its own places
-covers_own : (line : Settled) (k : ℕ) → is_placed_in line.at.part ≡ true → k < bytes_in line.outcome → covers line line.at.part (line.at.number + k) ≡ true
+covers_own : (line : AssembledLine) (k : ℕ) → is_placed_in line.at.part ≡ true → k < bytes_in line.outcome → covers line line.at.part (line.at.number + k) ≡ true
 covers_own line k placed lt =
     let from : nat_le line.at.number (line.at.number + k) ≡ true = grind (arith, nat_tests) in
     let to : nat_lt (line.at.number + k) (line.at.number + bytes_in line.outcome) ≡ true = grind (arith, nat_tests, lt) in
     rw (placed_same line.at.part placed, from, to) refl
 
 -- they are placed behind it too
-still_placed : (later before : List Settled) (line : Settled) (p : Part) (n : ℕ) → covers line p n ≡ true → is_placed (later ++ line ∷ before) p n ≡ true
+still_placed : (later before : List AssembledLine) (line : AssembledLine) (p : Part) (n : ℕ) → covers line p n ≡ true → is_placed (later ++ line ∷ before) p n ≡ true
 still_placed [] before line p n own = ap (λ b. b || is_placed before p n) own
 still_placed (other ∷ later) before line p n own = or_right (covers other p n) (is_placed (later ++ line ∷ before) p n) (still_placed later before line p n own)
 
 -- a line that has room covers no place of those before it
-apart_by : (earlier : List Settled) (other : Settled) (p : Part) (n : ℕ) (b : Bool) → overlaps earlier other ≡ false → is_placed earlier p n ≡ true → covers other p n ≡ b
+apart_by : (earlier : List AssembledLine) (other : AssembledLine) (p : Part) (n : ℕ) (b : Bool) → overlaps earlier other ≡ false → is_placed earlier p n ≡ true → covers other p n ≡ b
     → covers other p n ≡ false
 apart_by earlier other p n false free placed e = e
 apart_by earlier other p n true free placed e =
@@ -127,7 +127,7 @@ apart_by earlier other p n true free placed e =
 chosen : {A : Type 0} (test b : Bool) (one other : A) → test ≡ b → (if test then one else other) ≡ (if b then one else other)
 chosen test b one other e = ap (λ b. if b then one else other) e
 
-module _ (references : List Reference) (line : Settled) (before : List Settled) (k : ℕ) (placed : is_placed_in line.at.part ≡ true)
+module _ (references : List Reference) (line : AssembledLine) (before : List AssembledLine) (k : ℕ) (placed : is_placed_in line.at.part ≡ true)
     (within : k < bytes_in line.outcome) where
   abbrev p : Part
   p = line.at.part
@@ -138,7 +138,7 @@ module _ (references : List Reference) (line : Settled) (before : List Settled) 
   own : covers line p n ≡ true
   own = covers_own line k placed within
 
-  stands : (later : List Settled) → AllRoom (later ++ line ∷ before)
+  stands : (later : List AssembledLine) → AllRoom (later ++ line ∷ before)
       → content_at references (later ++ line ∷ before) p n ≡ slice_get (contents references before line) k
   stands [] room =
       let back : line.at.number + k - line.at.number ≡ k = omega arith in
@@ -148,9 +148,9 @@ module _ (references : List Reference) (line : Settled) (before : List Settled) 
       let apart = apart_by (later ++ line ∷ before) other p n (covers other p n) room.0 (still_placed later before line p n own) refl in
       chosen (covers other p n) false _ (content_at references (later ++ line ∷ before) p n) apart ∙ stands later room.1
 
-all_stand : (references : List Reference) (found : List Settled) → AllRoom found → StandAtTheirPlaces references found
+all_stand : (references : List Reference) (found : List AssembledLine) → AllRoom found → StandAtTheirPlaces references found
 all_stand references found room later before line k is placed within =
-    ap (λ (all : List Settled). content_at references all line.at.part (line.at.number + k)) is
+    ap (λ (all : List AssembledLine). content_at references all line.at.part (line.at.number + k)) is
     ∙ stands references line before k placed within later (subst AllRoom is room)
 
 -- an accepted source
@@ -162,14 +162,14 @@ of_copied : (copied : Copied) (m : Module) (contents : Contents) (source : List 
     → IsListed m contents source (listing_of copied)
 of_copied copied m contents source same e =
     let a = bound (laid_copied copied) _ m e in
-    let b = bound (settled (settle (names a.0)) a.0) _ m (in_place_ok copied.lines (module_behind a.0) m a.2) in
-    let is = all_settled (names a.0) a.0 b.0 b.1 in
+    let b = bound (assembled_lines (assembled_line (names a.0)) a.0) _ m (in_place_ok copied.lines (module_behind a.0) m a.2) in
+    let is = all_assembled (names a.0) a.0 b.0 b.1 in
     let found : listing_of copied ≡ listing_behind copied.lines a.0 (Ok b.0) =
     ap (listing_by copied.lines) a.1 ∙ ap (listing_behind copied.lines a.0) b.1 in
     record {
       lines = a.0;
       laid = ap laid_copied (sym same) ∙ a.1;
-      settled = b.0;
+      assembled_lines = b.0;
       is = cc b.2;
       shows = ap (λ listing. listing.lines) found
           ∙ (ap (paired copied.lines) is.shows ∙ ap (λ (copied : Copied). paired copied.lines (shown_in_order b.0)) same);

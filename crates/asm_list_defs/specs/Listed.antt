@@ -10,14 +10,14 @@ use Rattle.source_defs.specs.Refusals.{Refusal}
 use Rattle.expression_defs.specs.Expression.{Value}
 use Rattle.expression_defs.specs.Symbols.{Names, look_up}
 use Rattle.source_defs.specs.Lines.{numbered}
-use Rattle.expression_defs.specs.Layout.{laid, settled}
+use Rattle.expression_defs.specs.Layout.{laid, assembled_lines}
 use Rattle.asm_defs.specs.declared.causes.AsmCause.{AsmCause}
 use Rattle.asm_defs.specs.declared.location.Location.{Location}
 use Rattle.asm_defs.specs.Locations.{Line, location, place}
 use Rattle.asm_defs.specs.FirstChecks.{check, names}
 use Rattle.asm_defs.specs.SecondChecks.{Outcome, Nothing, outcome}
-use Rattle.asm_defs.specs.Memory.{Settled, is_placed_in}
-use Rattle.asm_defs.specs.Modules.{settle}
+use Rattle.asm_defs.specs.Memory.{AssembledLine, is_placed_in}
+use Rattle.asm_defs.specs.Modules.{assembled_line}
 use Rattle.shelf_defs.specs.Files.{Contents}
 use Rattle.shelf_defs.specs.Copied.{Place, PlacedLine, CopyRefusal, At, Asm, Copied, copied_by}
 use Rattle.shelf_defs.specs.Assembly.{texts, places, place_of, laid_copied}
@@ -103,7 +103,7 @@ listing_before all refusal =
     record { lines = paired all (shown None (lines_in (first_answer all))); names = []; refusal = Some refusal }
 
 -- a source by its second checks
-abbrev pub listing_behind : List PlacedLine → List Line → Result (List Settled) (Refusal AsmCause) → Listing
+abbrev pub listing_behind : List PlacedLine → List Line → Result (List AssembledLine) (Refusal AsmCause) → Listing
 listing_behind all lines (Ok found) =
     record { lines = paired all (shown (Some (names lines)) lines); names = listed_names all lines; refusal = None }
 listing_behind all lines (Err refusal) =
@@ -114,7 +114,7 @@ listing_behind all lines (Err refusal) =
     }
 
 abbrev pub listing_by : List PlacedLine → Result (List Line) CopyRefusal → Listing
-listing_by all (Ok lines) = listing_behind all lines (settled (settle (names lines)) lines)
+listing_by all (Ok lines) = listing_behind all lines (assembled_lines (assembled_line (names lines)) lines)
 listing_by all (Err refusal) = listing_before (front all) refusal
 
 -- the listing of copied lines

@@ -5,13 +5,13 @@ use Rattle.std.proofs.Math.Seq.{take-length, take-append_seam}
 use Rattle.std.proofs.lemmas.List.{length-map, map-append}
 use Rattle.source_defs.specs.Refusals.{Refusal, ◌>>=◌}
 use Rattle.source_defs.specs.Lines.{numbered}
-use Rattle.expression_defs.specs.Layout.{laid, settled}
+use Rattle.expression_defs.specs.Layout.{laid, assembled_lines}
 use Rattle.object_defs.specs.Modules as object
 use Rattle.asm_defs.specs.declared.causes.AsmCause.{AsmCause}
 use Rattle.asm_defs.specs.Locations.{Line}
 use Rattle.asm_defs.specs.FirstChecks.{check, names}
-use Rattle.asm_defs.specs.Memory.{Settled}
-use Rattle.asm_defs.specs.Modules.{settle, module_by, module_behind, module_of_lines}
+use Rattle.asm_defs.specs.Memory.{AssembledLine}
+use Rattle.asm_defs.specs.Modules.{assembled_line, module_by, module_behind, module_of_lines}
 use Rattle.shelf_defs.specs.Copied.{most_bytes, most_copies, PlacedLine, Ending, Refused, Copied}
 use Rattle.shelf_defs.specs.Assembly.{texts, places, place_of, in_place, unless_refused, laid_copied}
 use Rattle.asm_list_defs.specs.Listed.{front, first_answer, let_through}
@@ -36,7 +36,7 @@ use Rattle.bench_shelf.specs.CopyAnswers.{CopyRefuses}
 use Rattle.bench_shelf.specs.Causes.{ShelfCauses, ReadWithinLimit}
 use Rattle.bench_shelf.specs.Kept.{AreKept, IsKept}
 use Rattle.bench_shelf.specs.Leading.{Holds, EndsAs, GoesOn, LeadsTo, Halts, Stopped, WhereTold, EndsBy, Copies, IsHeld}
-use Rattle.bench_shelf.specs.Listed.{IsTold, IsUntold, AllSettled, SettledAs, RefusedBehind, FinishesBy, Finishes, StopsAt, KeepsFront, EndsListed, GivesListed}
+use Rattle.bench_shelf.specs.Listed.{IsTold, IsUntold, AllAssembled, AssembledAs, RefusedBehind, FinishesBy, Finishes, StopsAt, KeepsFront, EndsListed, GivesListed}
 use Rattle.bench_shelf.specs.Listed.{ListFaultEnds, ListAnswered, EndingCauses, ListCauses}
 use Rattle.bench_shelf.proofs.LaidLonger.{laid_longer}
 use Rattle.bench_shelf.proofs.TakingLaws.{refusal_is}
@@ -187,22 +187,22 @@ abbrev module_answers : Result object.Module (Refusal AsmCause) → Result objec
 module_answers a b = a ≡ b
 
 -- what the second checks make of lines that were taken
-settled_by : (answer : Result (List Settled) (Refusal AsmCause)) (lines : List Line) (module_ : object.Module)
-    → (answer >>= λ found. Ok (module_by lines found)) ≡ Ok module_ → (found : List Settled) × (answer ≡ Ok found)
-settled_by (Ok found) lines module_ e = (found, refl)
-settled_by (Err refusal) lines module_ e = cc e
+assembled_by : (answer : Result (List AssembledLine) (Refusal AsmCause)) (lines : List Line) (module_ : object.Module)
+    → (answer >>= λ found. Ok (module_by lines found)) ≡ Ok module_ → (found : List AssembledLine) × (answer ≡ Ok found)
+assembled_by (Ok found) lines module_ e = (found, refl)
+assembled_by (Err refusal) lines module_ e = cc e
 
-settled_not : (answer : Result (List Settled) (Refusal AsmCause)) (lines : List Line) (refusal : Refusal AsmCause)
+assembled_not : (answer : Result (List AssembledLine) (Refusal AsmCause)) (lines : List Line) (refusal : Refusal AsmCause)
     → module_answers (answer >>= λ found. Ok (module_by lines found)) (Err refusal) → answer ≡ Err refusal
-settled_not (Ok found) lines refusal e = cc e
-settled_not (Err found) lines refusal e = cc e
+assembled_not (Ok found) lines refusal e = cc e
+assembled_not (Err found) lines refusal e = cc e
 
 module _ (done : List PlacedLine) (builder : AsmLines) (has : HasAccepted (texts done) builder) where
   behind_is : module_of_lines (texts done) ≡ module_behind has.lines
   behind_is = ap (λ answer. answer >>= module_behind) has.laid
 
-  pub all_settled : (module_ : object.Module) → module_of_lines (texts done) ≡ Ok module_ → AllSettled has.lines
-  all_settled module_ e = settled_by (settled (settle (names has.lines)) has.lines) has.lines module_ (sym behind_is ∙ e)
+  pub all_assembled : (module_ : object.Module) → module_of_lines (texts done) ≡ Ok module_ → AllAssembled has.lines
+  all_assembled module_ e = assembled_by (assembled_lines (assembled_line (names has.lines)) has.lines) has.lines module_ (sym behind_is ∙ e)
 
   pub refused_told : (runs : List Run) (error : AsmError) (found : RefusedLine) → places_of runs ≡ places done → RefusesAt error (module_of_lines (texts done))
       → RefusesLine runs error (Ok found) → RefusedBehind done has.lines found.number found.error
@@ -214,7 +214,7 @@ module _ (done : List PlacedLine) (builder : AsmLines) (has : HasAccepted (texts
         cause = cause;
         is = told.is;
         own = is.0;
-        settled = subst (λ n. SettledAs has.lines n cause) (sym told.number)
-            (settled_not (settled (settle (names has.lines)) has.lines) has.lines (record { line = line; cause = cause }) (sym behind_is ∙ is.1));
+        assembled_lines = subst (λ n. AssembledAs has.lines n cause) (sym told.number)
+            (assembled_not (assembled_lines (assembled_line (names has.lines)) has.lines) has.lines (record { line = line; cause = cause }) (sym behind_is ∙ is.1));
         place = told.place ∙ ap (λ places. place_of places found.number) kept;
       }

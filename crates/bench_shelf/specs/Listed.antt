@@ -1,12 +1,12 @@
 -- The lines of a source with the files that it copies, as a listing needs them, by the answers of a shelf.
 use Rattle.std.specs.Prelude.{◌≡◌, ⊤, ℕ, List, length, map, Option, Some, Result, Ok, Err}
 use Rattle.std.proofs.Common.{Vec, Global}
-use Rattle.expression_defs.specs.Layout.{settled}
+use Rattle.expression_defs.specs.Layout.{assembled_lines}
 use Rattle.asm_defs.specs.declared.causes.AsmCause.{AsmCause}
 use Rattle.asm_defs.specs.Locations.{Line}
 use Rattle.asm_defs.specs.FirstChecks.{names}
-use Rattle.asm_defs.specs.Memory.{Settled}
-use Rattle.asm_defs.specs.Modules.{settle}
+use Rattle.asm_defs.specs.Memory.{AssembledLine}
+use Rattle.asm_defs.specs.Modules.{assembled_line}
 use Rattle.shelf_defs.specs.Files.{Contents}
 use Rattle.shelf_defs.specs.Copied.{PlacedLine, Copied, most_bytes, copied_by}
 use Rattle.shelf_defs.specs.Assembly.{places, place_of, laid_copied}
@@ -37,11 +37,11 @@ abbrev pub IsTold : CopyError → Type 0
 IsTold error = IsUntold error → ⊥
 
 -- the answer of the second checks
-abbrev pub SettledAs : List Line → ℕ → AsmCause → Type 0
-SettledAs lines number cause = settled (settle (names lines)) lines ≡ Err (record { line = number; cause = cause })
+abbrev pub AssembledAs : List Line → ℕ → AsmCause → Type 0
+AssembledAs lines number cause = assembled_lines (assembled_line (names lines)) lines ≡ Err (record { line = number; cause = cause })
 
-abbrev pub AllSettled : List Line → Type 0
-AllSettled lines = (found : List Settled) × (settled (settle (names lines)) lines ≡ Ok found)
+abbrev pub AllAssembled : List Line → Type 0
+AllAssembled lines = (found : List AssembledLine) × (assembled_lines (assembled_line (names lines)) lines ≡ Ok found)
 
 -- a line is refused by them, by its number among the lines that were taken, at its place
 pub record RefusedBehind (done : List PlacedLine) (lines : List Line) (number : ℕ) (error : CopyError) : Type 0 where
@@ -49,12 +49,12 @@ pub record RefusedBehind (done : List PlacedLine) (lines : List Line) (number : 
   pub cause : AsmCause
   pub is : error ≡ refused_at at (Asm cause)
   pub own : IsOwnCause cause
-  pub settled : SettledAs lines number cause
+  pub assembled_lines : AssembledAs lines number cause
   pub place : model_of_place at ≡ place_of (places done) number
 
 -- what the second checks make of lines that were taken
 abbrev pub FinishesBy : List PlacedLine → List Line → ListedEnding → Type 0
-FinishesBy done lines (Whole known) = (known ≡ names lines) × AllSettled lines
+FinishesBy done lines (Whole known) = (known ≡ names lines) × AllAssembled lines
 FinishesBy done lines (Behind known number error) = (known ≡ names lines) × RefusedBehind done lines number error
 FinishesBy done lines (Before error) = ⊥
 

@@ -6,10 +6,10 @@ use Rattle.object_defs.specs.Modules.{Module}
 use Rattle.asm_defs.specs.declared.causes.AsmCause.{AsmCause}
 use Rattle.asm_defs.specs.Locations.{Line}
 use Rattle.asm_defs.specs.FirstChecks.{names}
-use Rattle.asm_defs.specs.Memory.{Settled}
+use Rattle.asm_defs.specs.Memory.{AssembledLine}
 use Rattle.asm_defs.specs.Modules as modules
-use Rattle.asm_defs.specs.Modules.{settle, module_behind}
-use Rattle.expression_defs.specs.Layout.{settled}
+use Rattle.asm_defs.specs.Modules.{assembled_line, module_behind}
+use Rattle.expression_defs.specs.Layout.{assembled_lines}
 use Rattle.shelf_defs.specs.Files.{Files, of_files}
 use Rattle.shelf_defs.specs.Copied.{PlacedLine, CopyRefusal, At, TooLarge, copied}
 use Rattle.shelf_defs.specs.Assembly.{in_place, laid_copied, module_of_files}
@@ -27,14 +27,14 @@ refusal_of (Ok value) = None
 refusal_of (Err refusal) = Some refusal
 
 -- what a listing refuses is what is refused of the module
-refused_behind : (all : List PlacedLine) (lines : List Line) (found : Result (List Settled) (Refusal AsmCause))
+refused_behind : (all : List PlacedLine) (lines : List Line) (found : Result (List AssembledLine) (Refusal AsmCause))
     → (listing_behind all lines found).refusal ≡ refusal_of (in_place all (found >>= λ found. Ok (modules.module_by lines found)))
 refused_behind all lines (Ok found) = refl
 refused_behind all lines (Err refusal) = refl
 
 refused_by : (all : List PlacedLine) (found : Result (List Line) CopyRefusal)
     → (listing_by all found).refusal ≡ refusal_of (found >>= λ lines. in_place all (module_behind lines))
-refused_by all (Ok lines) = refused_behind all lines (settled (settle (names lines)) lines)
+refused_by all (Ok lines) = refused_behind all lines (assembled_lines (assembled_line (names lines)) lines)
 refused_by all (Err refusal) = refl
 
 refused_alike : (files : Files) (source : List ℕ) → (listing (of_files files) source).refusal ≡ refusal_of (module_of_files files source)

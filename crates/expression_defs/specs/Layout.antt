@@ -76,13 +76,13 @@ module _ {P S C : Type 0} (check : List (Laid P S) → ℕ → List ℕ → Resu
   laid lines = laid_behind [] lines
 
 -- lines by the second checks, which see what the lines before came to, those lines, and the line
-module _ {P S A C : Type 0} (settle : List (Laid P S) → List A → Laid P S → Result A C) where
+module _ {P S A C : Type 0} (assembled_line : List (Laid P S) → List A → Laid P S → Result A C) where
   -- what the lines come to, or the first that the checks refuse
-  abbrev pub settled : List (Laid P S) → Result (List A) (Refusal C)
-  settled [] = Ok []
-  settled (line ∷ before) = do
-    earlier ← settled before
-    found ← at_line line.number (settle before earlier line)
+  abbrev pub assembled_lines : List (Laid P S) → Result (List A) (Refusal C)
+  assembled_lines [] = Ok []
+  assembled_lines (line ∷ before) = do
+    earlier ← assembled_lines before
+    found ← at_line line.number (assembled_line before earlier line)
     Ok (found ∷ earlier)
 
 -- one of the lines ends the source

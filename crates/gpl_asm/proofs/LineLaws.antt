@@ -3,7 +3,7 @@ use Rattle.std.proofs.Common.{◌≡◌, ℕ, ◌+◌, Bool, true, false, List, 
 use Rattle.std.specs.Prelude.{Option, Result, is_some, if◌then◌else◌}
 use Rattle.source_defs.specs.Refusals.{Refusal, ◌>>=◌, at_line}
 use Rattle.expression_defs.specs.Symbols.{Names, look_up}
-use Rattle.expression_defs.specs.Layout.{settled, set_or, origin, since_origin, bytes_of}
+use Rattle.expression_defs.specs.Layout.{assembled_lines, set_or, origin, since_origin, bytes_of}
 use Rattle.gpl_source_defs.specs.declared.causes.GplCause.{GplCause}
 use Rattle.gpl_source_defs.specs.declared.causes.GplCause.TheVariants.{Overlap}
 use Rattle.gpl_source_defs.specs.declared.location.Location.{Location}
@@ -11,7 +11,7 @@ use Rattle.gpl_source_defs.specs.Statements.{declared_size}
 use Rattle.gpl_source_defs.specs.Locations.{Line, location, place, behind, start, origin_of}
 use Rattle.gpl_source_defs.specs.FirstChecks.{Checked, line_of}
 use Rattle.gpl_source_defs.specs.SecondChecks.{Outcome, Bytes, outcome}
-use Rattle.gpl_source_defs.specs.Programs.{Settled, settle, image, bytes_in, overlaps, with_room}
+use Rattle.gpl_source_defs.specs.Programs.{AssembledLine, assembled_line, image, bytes_in, overlaps, with_room}
 use Rattle.gpl_asm.specs.declared.pending.Rest.{Rest}
 use Rattle.gpl_asm.specs.declared.lines.GplLines.{GplLines}
 use Rattle.gpl_asm.specs.Replay.{Built, put, answer, replay, nothing}
@@ -49,34 +49,34 @@ module _ (later : Names) where
   abbrev added : List Line → Line → Built → Result Built (Refusal GplCause)
   added lines line built = at_line line.number (outcome (look_up later) (place lines line) line.statement >>= λ found. put (place lines line) found built)
 
-  room_by : (number : ℕ) (found : List Settled) (line : Settled) (overlap : Bool)
+  room_by : (number : ℕ) (found : List AssembledLine) (line : AssembledLine) (overlap : Bool)
       → (at_line number (if overlap then Err Overlap else Ok line) >>= λ last. Ok (built_of (last ∷ found)))
       ≡ at_line number (if overlap then Err Overlap else Ok (built_of (line ∷ found)))
   room_by number found line true = refl
   room_by number found line false = refl
 
-  outcome_by : (number : ℕ) (at : Location) (found : List Settled) (answer : Result Outcome GplCause)
+  outcome_by : (number : ℕ) (at : Location) (found : List AssembledLine) (answer : Result Outcome GplCause)
       → (at_line number (answer >>= λ came. with_room found (record { at = at.number; outcome = came })) >>= λ last. Ok (built_of (last ∷ found)))
       ≡ at_line number (answer >>= λ came. put at came (built_of found))
   outcome_by number at found (Ok came) =
       room_by number found (record { at = at.number; outcome = came }) (overlaps (image found) at.number (bytes_in came))
   outcome_by number at found (Err cause) = refl
 
-  then_built : (answer : Result Settled (Refusal GplCause)) (found : List Settled)
+  then_built : (answer : Result AssembledLine (Refusal GplCause)) (found : List AssembledLine)
       → ((answer >>= λ last. Ok (last ∷ found)) >>= λ all. Ok (built_of all)) ≡ (answer >>= λ last. Ok (built_of (last ∷ found)))
   then_built (Ok last) found = refl
   then_built (Err refusal) found = refl
 
-  whole_by : (lines : List Line) (line : Line) (earlier : Result (List Settled) (Refusal GplCause))
-      → ((earlier >>= λ found. at_line line.number (settle later lines found line) >>= λ last. Ok (last ∷ found)) >>= λ all. Ok (built_of all))
+  whole_by : (lines : List Line) (line : Line) (earlier : Result (List AssembledLine) (Refusal GplCause))
+      → ((earlier >>= λ found. at_line line.number (assembled_line later lines found line) >>= λ last. Ok (last ∷ found)) >>= λ all. Ok (built_of all))
       ≡ ((earlier >>= λ found. Ok (built_of found)) >>= added lines line)
   whole_by lines line (Ok found) =
-      then_built (at_line line.number (settle later lines found line)) found
+      then_built (at_line line.number (assembled_line later lines found line)) found
       ∙ outcome_by line.number (place lines line) found (outcome (look_up later) (place lines line) line.statement)
   whole_by lines line (Err refusal) = refl
 
   pub whole_more : (lines : List Line) (line : Line) → whole later (line ∷ lines) ≡ (whole later lines >>= added lines line)
-  whole_more lines line = whole_by lines line (settled (settle later) lines)
+  whole_more lines line = whole_by lines line (assembled_lines (assembled_line later) lines)
 
   -- a line that comes to nothing
   nothing_put : (number : ℕ) (at : Location) (answer : Result Built (Refusal GplCause))

@@ -5,11 +5,11 @@ use Rattle.source_defs.specs.Refusals.{Refusal, ◌>>=◌}
 use Rattle.expression_defs.specs.Symbols.{Names}
 use Rattle.expression_defs.specs.Growing.{Grows}
 use Rattle.source_defs.specs.Lines.{numbered}
-use Rattle.expression_defs.specs.Layout.{laid, settled, has_ended}
+use Rattle.expression_defs.specs.Layout.{laid, assembled_lines, has_ended}
 use Rattle.gpl_source_defs.specs.declared.causes.GplCause.{GplCause}
 use Rattle.gpl_source_defs.specs.Locations.{Line, location, place}
 use Rattle.gpl_source_defs.specs.FirstChecks.{names, check, label_entry}
-use Rattle.gpl_source_defs.specs.Programs.{Settled, settle, image, entry}
+use Rattle.gpl_source_defs.specs.Programs.{AssembledLine, assembled_line, image, entry}
 use Rattle.gpl_asm.specs.declared.lines.GplLines.{GplLines}
 use Rattle.gpl_asm.specs.declared.taken.TakenLine.{TakenLine}
 use Rattle.gpl_asm.specs.declared.error.GplError.{GplError}
@@ -17,12 +17,12 @@ use Rattle.gpl_asm.specs.declared.error.GplError.TheVariants as error
 use Rattle.gpl_asm.specs.Replay.{Built, nothing, replay, HasRoom}
 use Rattle.gpl_lines.specs.Answers.{NoMemory}
 
-abbrev pub built_of : List Settled → Built
+abbrev pub built_of : List AssembledLine → Built
 built_of found = record { image = image found; entry = entry found }
 
 -- what lines come to by all names
 abbrev pub whole : Names → List Line → Result Built (Refusal GplCause)
-whole later lines = settled (settle later) lines >>= λ found. Ok (built_of found)
+whole later lines = assembled_lines (assembled_line later) lines >>= λ found. Ok (built_of found)
 
 -- the builder after lines, of which the nearest stands first
 pub record IsBehind (lines : List Line) (builder : GplLines) : Type 0 where

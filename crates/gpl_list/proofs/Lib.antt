@@ -2,6 +2,6 @@ pub mod Further
 mod PlacedLines
 mod RowLaws
 mod ReadLaws
-mod SettleLaws
+mod SecondPassLaws
 mod PassLaws
 mod ListingLaws

@@ -2,17 +2,17 @@
 use Rattle.std.proofs.Common.{◌≡◌, ℕ, List, [], ◌∷◌, ◌++◌, Ok, Err, map, refl, sym, ap, subst, ◌∙◌, append_assoc, append-nil}
 use Rattle.source_defs.specs.Refusals.{Refusal}
 use Rattle.expression_defs.specs.Symbols.{Names}
-use Rattle.expression_defs.specs.Layout.{laid, settled}
+use Rattle.expression_defs.specs.Layout.{laid, assembled_lines}
 use Rattle.expression_defs.proofs.DefinedNames.{grown_not}
 use Rattle.gpl_source_defs.specs.declared.causes.GplCause.{GplCause}
 use Rattle.gpl_source_defs.specs.Locations.{Line}
 use Rattle.gpl_source_defs.specs.FirstChecks.{check, names}
-use Rattle.gpl_source_defs.specs.Programs.{Settled, settle}
+use Rattle.gpl_source_defs.specs.Programs.{AssembledLine, assembled_line}
 use Rattle.gpl_list_defs.specs.Rows as spec
-use Rattle.gpl_list_defs.specs.Listing.{Listing, settled_listing, laid_listing, let_through}
+use Rattle.gpl_list_defs.specs.Listing.{Listing, assembled_listing, laid_listing, let_through}
 use Rattle.gpl_list.specs.declared.rows.Row.{Row}
 use Rattle.gpl_list.specs.Reading.{model_of_row, Describes, DescribesAll, onto}
-use Rattle.gpl_list.proofs.SettleLaws.{same_row}
+use Rattle.gpl_list.proofs.SecondPassLaws.{same_row}
 
 -- ---- rows without bytes
 
@@ -37,25 +37,25 @@ unplaced texts lines rows (rest, are, all) =
 -- ---- the listings
 
 module _ (texts : List (ℕ × List ℕ)) (lines : List Line) (shown : List spec.Row) (named : List spec.NameRow) where
-  pub listed_whole : (known : Names) (found : List Settled) → known ≡ names lines → settled (settle known) lines ≡ Ok found
+  pub listed_whole : (known : Names) (found : List AssembledLine) → known ≡ names lines → assembled_lines (assembled_line known) lines ≡ Ok found
       → shown ≡ spec.rows (spec.placed_bytes known) texts lines → named ≡ spec.name_rows lines
-      → record { rows = shown; names = named; refused = Ok tt } ≡ settled_listing texts lines (settled (settle (names lines)) lines)
+      → record { rows = shown; names = named; refused = Ok tt } ≡ assembled_listing texts lines (assembled_lines (assembled_line (names lines)) lines)
   listed_whole known found same e rows names_are =
-      let e' : settled (settle (names lines)) lines ≡ Ok found = ap (λ (known : Names). settled (settle known) lines) (sym same) ∙ e in
+      let e' : assembled_lines (assembled_line (names lines)) lines ≡ Ok found = ap (λ (known : Names). assembled_lines (assembled_line known) lines) (sym same) ∙ e in
       let all : shown ≡ spec.rows (spec.placed_bytes (names lines)) texts lines =
       rows ∙ ap (λ (known : Names). spec.rows (spec.placed_bytes known) texts lines) same in
       ap (λ (rows : List spec.Row). record { rows = rows; names = named; refused = Ok tt }) all
       ∙ (ap (λ (names_are : List spec.NameRow). record { rows = spec.rows (spec.placed_bytes (names lines)) texts lines; names = names_are; refused = Ok tt }) names_are
-      ∙ sym (ap (settled_listing texts lines) e'))
+      ∙ sym (ap (assembled_listing texts lines) e'))
 
-  pub listed_front : (known : Names) (refused : Refusal GplCause) → known ≡ names lines → settled (settle known) lines ≡ Err refused
+  pub listed_front : (known : Names) (refused : Refusal GplCause) → known ≡ names lines → assembled_lines (assembled_line known) lines ≡ Err refused
       → shown ≡ spec.rows (spec.placed_bytes known) texts (spec.lines_before refused.line lines) → named ≡ []
-      → record { rows = shown; names = named; refused = Err refused } ≡ settled_listing texts lines (settled (settle (names lines)) lines)
+      → record { rows = shown; names = named; refused = Err refused } ≡ assembled_listing texts lines (assembled_lines (assembled_line (names lines)) lines)
   listed_front known refused same e rows none =
       let front = spec.lines_before refused.line lines in
-      let e' : settled (settle (names lines)) lines ≡ Err refused = ap (λ (known : Names). settled (settle known) lines) (sym same) ∙ e in
+      let e' : assembled_lines (assembled_line (names lines)) lines ≡ Err refused = ap (λ (known : Names). assembled_lines (assembled_line known) lines) (sym same) ∙ e in
       let all : shown ≡ spec.rows (spec.placed_bytes (names lines)) texts front =
       rows ∙ ap (λ (known : Names). spec.rows (spec.placed_bytes known) texts front) same in
       ap (λ (rows : List spec.Row). record { rows = rows; names = named; refused = Err refused }) all
       ∙ (ap (λ (names_are : List spec.NameRow). record { rows = spec.rows (spec.placed_bytes (names lines)) texts front; names = names_are; refused = Err refused }) none
-      ∙ sym (ap (settled_listing texts lines) e'))
+      ∙ sym (ap (assembled_listing texts lines) e'))

@@ -9,7 +9,7 @@ use Rattle.gpl_source_defs.specs.declared.causes.GplCause.TheVariants.{Overlap}
 use Rattle.gpl_source_defs.specs.declared.location.Location.{Location}
 use Rattle.gpl_source_defs.specs.Statements.{Statement, declared_size}
 use Rattle.gpl_source_defs.specs.SecondChecks.{Outcome, outcome}
-use Rattle.gpl_source_defs.specs.Programs.{Settled, settle_at, with_room, overlaps, image, bytes_in, entry_by}
+use Rattle.gpl_source_defs.specs.Programs.{AssembledLine, assembled_at, with_room, overlaps, image, bytes_in, entry_by}
 use Rattle.gpl_source_defs.proofs.Sizes.{outcome_size}
 use Rattle.gpl_lines.specs.Answers.{Fails, NoMemory}
 use Rattle.gpl_lines.specs.declared.failure.Failure.{Failure}
@@ -17,16 +17,16 @@ use Rattle.gpl_lines.specs.declared.failure.Failure.TheVariants as failure
 use Rattle.gpl_asm.specs.Replay.{Built, put, Puts}
 use Rattle.gpl_list_defs.specs.Rows as spec
 
-module _ (known : Names) (at : Location) (statement : Statement) (earlier : List Settled) (found : Outcome)
+module _ (known : Names) (at : Location) (statement : Statement) (earlier : List AssembledLine) (found : Outcome)
     (came : outcome (look_up known) at statement ≡ Ok found) where
-  abbrev line : Settled
+  abbrev line : AssembledLine
   line = record { at = at.number; outcome = found }
 
   abbrev full : Bool
   full = overlaps (image earlier) at.number (bytes_in found)
 
-  settled_by : settle_at known at statement earlier ≡ with_room earlier line
-  settled_by = ap (λ answer. answer >>= λ found. with_room earlier (record { at = at.number; outcome = found })) came
+  assembled_by : assembled_at known at statement earlier ≡ with_room earlier line
+  assembled_by = ap (λ answer. answer >>= λ found. with_room earlier (record { at = at.number; outcome = found })) came
 
   abbrev made : Built
   made = record { image = placed (image earlier) at.number (bytes_in found); entry = entry_by None found }
@@ -34,7 +34,7 @@ module _ (known : Names) (at : Location) (statement : Statement) (earlier : List
   abbrev put_by : Bool → Result Built GplCause
   put_by full = if full then Err Overlap else Ok made
 
-  abbrev room_by : Bool → Result Settled GplCause
+  abbrev room_by : Bool → Result AssembledLine GplCause
   room_by full = if full then Err Overlap else Ok line
 
   put_ok : (full : Bool) (built : Built) → put_by full ≡ Ok built → (room_by full ≡ Ok line) × (made ≡ built)
@@ -59,23 +59,23 @@ module _ (known : Names) (at : Location) (statement : Statement) (earlier : List
 
   pub placed_there : (to left : Image) (after : Option ℕ) → to ≡ image earlier
       → put at found (empty_built to) ≡ Ok (record { image = left; entry = after })
-      → (line : Settled) × (settle_at known at statement earlier ≡ Ok line) × (left ≡ image (line ∷ earlier))
+      → (line : AssembledLine) × (assembled_at known at statement earlier ≡ Ok line) × (left ≡ image (line ∷ earlier))
   placed_there to left after same e =
       let e' : put_by full ≡ Ok (record { image = left; entry = after }) = ap (λ (to : Image). put at found (empty_built to)) (sym same) ∙ e in
       let b = put_ok full (record { image = left; entry = after }) e' in
-      (line, settled_by ∙ b.0, ap (λ (built : Built). built.image) (sym b.1))
+      (line, assembled_by ∙ b.0, ap (λ (built : Built). built.image) (sym b.1))
 
   pub refused_there : (to : Image) (cause : GplCause) → to ≡ image earlier → put at found (empty_built to) ≡ Err cause
-      → settle_at known at statement earlier ≡ Err cause
+      → assembled_at known at statement earlier ≡ Err cause
   refused_there to cause same e =
-      settled_by ∙ put_err full cause (ap (λ (to : Image). put at found (empty_built to)) (sym same) ∙ e)
+      assembled_by ∙ put_err full cause (ap (λ (to : Image). put at found (empty_built to)) (sym same) ∙ e)
 
   pub bytes_there : spec.placed_bytes known at statement ≡ bytes_in found
   bytes_there = ap spec.bytes_of came
 
 -- a line that fails before it is placed
-pub fails_before : (known : Names) (at : Location) (statement : Statement) (earlier : List Settled) (failed : Failure)
-    → Fails failed (outcome (look_up known) at statement) → Fails failed (settle_at known at statement earlier)
+pub fails_before : (known : Names) (at : Location) (statement : Statement) (earlier : List AssembledLine) (failed : Failure)
+    → Fails failed (outcome (look_up known) at statement) → Fails failed (assembled_at known at statement earlier)
 fails_before known at statement earlier failure.Memory fails = tt
 fails_before known at statement earlier (failure.Refused cause) fails =
     (ap (λ answer. answer >>= λ found. with_room earlier (record { at = at.number; outcome = found })) fails.0, fails.1)

@@ -1,3 +1,3 @@
 pub mod Reading
-pub mod Settling
+pub mod SecondPass
 pub mod Listings

@@ -4,7 +4,7 @@
 mod listing;
 mod read;
 mod rows;
-mod settle;
+mod second_pass;
 mod text;
 mod write;
 

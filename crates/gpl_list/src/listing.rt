@@ -1,19 +1,19 @@
 //! The listing of a source.
 
 ghost use Rattle.std.specs.Prelude.{◌≡◌, ◌<◌, ◌^◌, ℕ, List, IfOk, length};
-ghost use Rattle.expression_defs.specs.Layout.{settled};
+ghost use Rattle.expression_defs.specs.Layout.{assembled_lines};
 ghost use Rattle.gpl_source_defs.specs.Locations.{Line};
 ghost use Rattle.gpl_source_defs.specs.FirstChecks.{names};
-ghost use Rattle.gpl_source_defs.specs.Programs.{settle};
+ghost use Rattle.gpl_source_defs.specs.Programs.{assembled_line};
 ghost use Rattle.bench_io.specs.Written.{Written};
 ghost use Rattle.gpl_list_defs.specs.Text.{listing_lines};
-ghost use Rattle.gpl_list_defs.specs.Listing.{listing_of, settled_listing};
+ghost use Rattle.gpl_list_defs.specs.Listing.{listing_of, assembled_listing};
 ghost use Rattle.gpl_list.specs.Reading.{Keeps};
 ghost use Rattle.gpl_list.specs.Listings.{model_of_listing, refused_by};
 
 use crate::read::ReadLines;
 use crate::rows::{NameRow, Row};
-use crate::settle::settle_rows;
+use crate::second_pass::assemble_rows;
 use crate::write::{put_names, put_rows};
 use bench_io::{Failed, Sink};
 use gpl_asm::GplError;
@@ -48,7 +48,7 @@ pub fn list_source(alloc: Global, text: &[u8]) -> Result<GplListing, AllocError>
 {
     let mut read = ReadLines::new(alloc)?;
     match read.read(text) {
-        Ok(()) => settled_listing(read),
+        Ok(()) => assembled_listing(read),
         Err(GplError::At { line, cause }) => Ok(GplListing {
             rows: read.rows,
             names: Vec::new(alloc),
@@ -59,10 +59,10 @@ pub fn list_source(alloc: Global, text: &[u8]) -> Result<GplListing, AllocError>
 }
 
 /// The listing of lines that the first checks let through.
-fn settled_listing(read: ReadLines) -> Result<GplListing, AllocError>
+fn assembled_listing(read: ReadLines) -> Result<GplListing, AllocError>
     ensures { (texts : List (ℕ × List ℕ)) → (lines : List Line) → Keeps texts lines read →
         IfOk result (λ listing. model_of_listing listing
-        ≡ settled_listing texts lines (settled (settle (names lines)) lines)) }
+        ≡ assembled_listing texts lines (assembled_lines (assembled_line (names lines)) lines)) }
 {
     let ReadLines {
         alloc,
@@ -70,15 +70,15 @@ fn settled_listing(read: ReadLines) -> Result<GplListing, AllocError>
         names,
         builder,
     } = read;
-    let mut settled = Vec::new(alloc);
-    match settle_rows(alloc, builder.names(), rows, &mut settled) {
+    let mut assembled_lines = Vec::new(alloc);
+    match assemble_rows(alloc, builder.names(), rows, &mut assembled_lines) {
         Ok(()) => Ok(GplListing {
-            rows: settled,
+            rows: assembled_lines,
             names,
             refused: None,
         }),
         Err(GplError::At { line, cause }) => Ok(GplListing {
-            rows: settled,
+            rows: assembled_lines,
             names: Vec::new(alloc),
             refused: Some(Refused { line, cause }),
         }),

@@ -6,7 +6,7 @@ use Rattle.source_defs.specs.Refusals.{Refusal, ◌>>=◌, at_line}
 use Rattle.expression_defs.specs.Expression.{Value}
 use Rattle.expression_defs.specs.Symbols.{Names, predefined, look_up}
 use Rattle.source_defs.specs.Lines.{line_texts}
-use Rattle.expression_defs.specs.Layout.{laid, settled}
+use Rattle.expression_defs.specs.Layout.{laid, assembled_lines}
 use Rattle.expression_defs.specs.Layout as layout
 use Rattle.source_defs.proofs.RefusalLaws.{bound}
 use Rattle.gpl_defs.specs.Image.{Image, placed}
@@ -17,9 +17,9 @@ use Rattle.gpl_source_defs.specs.Statements.{Statement, Grom, Aorg}
 use Rattle.gpl_source_defs.specs.Locations.{Line, place}
 use Rattle.gpl_source_defs.specs.FirstChecks.{check, names}
 use Rattle.gpl_source_defs.specs.SecondChecks.{Outcome, outcome}
-use Rattle.gpl_source_defs.specs.Programs.{Settled, settle, settle_at, overlaps, image, bytes_in, program_by, program_behind}
+use Rattle.gpl_source_defs.specs.Programs.{AssembledLine, assembled_line, assembled_at, overlaps, image, bytes_in, program_by, program_behind}
 use Rattle.gpl_list_defs.specs.Rows.{Row, NameRow, address, bytes_of, placed_bytes, row, rows, names_in, name_rows}
-use Rattle.gpl_list_defs.specs.Listing.{settled_listing, laid_listing}
+use Rattle.gpl_list_defs.specs.Listing.{assembled_listing, laid_listing}
 use Rattle.gpl_list_defs.specs.Laws.{with_rows, with_names, ListsOf, ListingsGivePrograms}
 
 -- ---- rows and names behind others
@@ -54,38 +54,38 @@ at_address look at (Aorg number) to found e = cc e
 at_address look at _ to found e = refl
 
 -- what a line came to
-record Came (known : Names) (at : Location) (statement : Statement) (line : Settled) : Type 0 where
+record Came (known : Names) (at : Location) (statement : Statement) (line : AssembledLine) : Type 0 where
   at_is : line.at ≡ at.number
   came : outcome (look_up known) at statement ≡ Ok line.outcome
 
-abbrev room_by : Bool → Settled → Result Settled GplCause
+abbrev room_by : Bool → AssembledLine → Result AssembledLine GplCause
 room_by full line = if full then Err Overlap else Ok line
 
-has_room : (full : Bool) (line found : Settled) → room_by full line ≡ Ok found → line ≡ found
+has_room : (full : Bool) (line found : AssembledLine) → room_by full line ≡ Ok found → line ≡ found
 has_room true line found e = cc e
 has_room false line found e = cc e
 
-came_to : (known : Names) (at : Location) (statement : Statement) (earlier : List Settled) (found : Settled)
-    → settle_at known at statement earlier ≡ Ok found → Came known at statement found
+came_to : (known : Names) (at : Location) (statement : Statement) (earlier : List AssembledLine) (found : AssembledLine)
+    → assembled_at known at statement earlier ≡ Ok found → Came known at statement found
 came_to known at statement earlier found e =
     let b = bound (outcome (look_up known) at statement) _ found e in
-    let line : Settled = record { at = at.number; outcome = b.0 } in
+    let line : AssembledLine = record { at = at.number; outcome = b.0 } in
     let same : line ≡ found = has_room (overlaps (image earlier) at.number (bytes_in b.0)) line found b.2 in
     record {
-      at_is = ap (λ (line : Settled). line.at) (sym same);
-      came = b.1 ∙ ap (λ (line : Settled). Ok line.outcome) same;
+      at_is = ap (λ (line : AssembledLine). line.at) (sym same);
+      came = b.1 ∙ ap (λ (line : AssembledLine). Ok line.outcome) same;
     }
 
 at_line_ok : {A : Type 0} (number : ℕ) (answer : Result A GplCause) (found : A) → at_line number answer ≡ Ok found → answer ≡ Ok found
 at_line_ok number (Ok value) found e = cc e
 at_line_ok number (Err cause) found e = cc e
 
--- the rows of lines that are settled make their image
+-- the rows of lines that are assembled make their image
 module _ (known : Names) (texts : List (ℕ × List ℕ)) where
   abbrev shown : List Line → List Row
   shown lines = rows (placed_bytes known) texts lines
 
-  one_more : (before : List Line) (line : Line) (earlier : List Settled) (found : Settled) → with_rows empty (shown before) ≡ image earlier
+  one_more : (before : List Line) (line : Line) (earlier : List AssembledLine) (found : AssembledLine) → with_rows empty (shown before) ≡ image earlier
       → Came known (place before line) line.statement found → with_rows empty (shown (line ∷ before)) ≡ image (found ∷ earlier)
   one_more before line earlier found is came =
       let at = place before line in
@@ -96,27 +96,27 @@ module _ (known : Names) (texts : List (ℕ × List ℕ)) where
       ∙ (at_address (look_up known) at line.statement (image earlier) found.outcome came.came
       ∙ ap (λ at. placed (image earlier) at (bytes_in found.outcome)) (sym came.at_is))))
 
-  pub rows_give : (lines : List Line) (found : List Settled) → settled (settle known) lines ≡ Ok found → with_rows empty (shown lines) ≡ image found
+  pub rows_give : (lines : List Line) (found : List AssembledLine) → assembled_lines (assembled_line known) lines ≡ Ok found → with_rows empty (shown lines) ≡ image found
   rows_give [] found e = let same : [] ≡ found = cc e in ap image same
   rows_give (line ∷ before) found e =
-      let b = bound (settled (settle known) before) _ found e in
-      let c = bound (at_line line.number (settle known before b.0 line)) _ found b.2 in
+      let b = bound (assembled_lines (assembled_line known) before) _ found e in
+      let c = bound (at_line line.number (assembled_line known before b.0 line)) _ found b.2 in
       let same : c.0 ∷ b.0 ≡ found = cc (c.2) in
-      let came = came_to known (place before line) line.statement b.0 c.0 (at_line_ok line.number (settle known before b.0 line) c.0 c.1) in
+      let came = came_to known (place before line) line.statement b.0 c.0 (at_line_ok line.number (assembled_line known before b.0 line) c.0 c.1) in
       one_more before line b.0 c.0 (rows_give before b.0 b.1) came ∙ ap image same
 
 -- ---- the listing of a source
 
-settled_gives : (texts : List (ℕ × List ℕ)) (lines : List Line) (answer : Result (List Settled) (Refusal GplCause))
-    → settled (settle (names lines)) lines ≡ answer
-    → ListsOf (settled_listing texts lines answer) (answer >>= λ found. Ok (program_by lines found))
-settled_gives texts lines (Ok found) e =
+assembled_gives : (texts : List (ℕ × List ℕ)) (lines : List Line) (answer : Result (List AssembledLine) (Refusal GplCause))
+    → assembled_lines (assembled_line (names lines)) lines ≡ answer
+    → ListsOf (assembled_listing texts lines answer) (answer >>= λ found. Ok (program_by lines found))
+assembled_gives texts lines (Ok found) e =
     record { image = rows_give (names lines) texts lines found e; names = names_give lines; accepted = refl }
-settled_gives texts lines (Err refused) e = refl
+assembled_gives texts lines (Err refused) e = refl
 
 laid_gives : (texts : List (ℕ × List ℕ)) (answer : Result (List Line) (Refusal GplCause))
     → ListsOf (laid_listing texts answer) (answer >>= program_behind)
-laid_gives texts (Ok lines) = settled_gives texts lines (settled (settle (names lines)) lines) refl
+laid_gives texts (Ok lines) = assembled_gives texts lines (assembled_lines (assembled_line (names lines)) lines) refl
 laid_gives texts (Err refused) = refl
 
 pub listings_give_programs : ListingsGivePrograms

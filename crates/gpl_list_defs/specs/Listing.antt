@@ -2,11 +2,11 @@
 use Rattle.std.specs.Prelude.{ℕ, ◌-◌, List, [], take, Result, Ok, Err}
 use Rattle.source_defs.specs.Refusals.{Refusal}
 use Rattle.source_defs.specs.Lines.{line_texts}
-use Rattle.expression_defs.specs.Layout.{laid, settled}
+use Rattle.expression_defs.specs.Layout.{laid, assembled_lines}
 use Rattle.gpl_source_defs.specs.declared.causes.GplCause.{GplCause}
 use Rattle.gpl_source_defs.specs.Locations.{Line}
 use Rattle.gpl_source_defs.specs.FirstChecks.{check, names}
-use Rattle.gpl_source_defs.specs.Programs.{Settled, settle}
+use Rattle.gpl_source_defs.specs.Programs.{AssembledLine, assembled_line}
 use Rattle.report_defs.specs.declared.status.Status.TheVariants.{Done}
 use Rattle.report_defs.specs.SourceFaults.{gpl_line}
 use Rattle.report_defs.specs.Report.{Report, Whole, RejectedAfter}
@@ -21,10 +21,10 @@ pub record Listing : Type 0 where
 
 -- Of lines that the first checks let through. Profile: each has a row, and the names stand after them; of a source that
 -- the second checks refuse the lines before the refused one have rows, and no names stand.
-abbrev pub settled_listing : List (ℕ × List ℕ) → List Line → Result (List Settled) (Refusal GplCause) → Listing
-settled_listing texts lines (Ok found) =
+abbrev pub assembled_listing : List (ℕ × List ℕ) → List Line → Result (List AssembledLine) (Refusal GplCause) → Listing
+assembled_listing texts lines (Ok found) =
     record { rows = rows (placed_bytes (names lines)) texts lines; names = name_rows lines; refused = Ok tt }
-settled_listing texts lines (Err refused) =
+assembled_listing texts lines (Err refused) =
     record {
       rows = rows (placed_bytes (names lines)) texts (lines_before refused.line lines);
       names = [];
@@ -39,7 +39,7 @@ let_through (Err refused) = []
 -- Profile: where the first checks refuse a line, those before it have rows without bytes, since later names are not
 -- known.
 abbrev pub laid_listing : List (ℕ × List ℕ) → Result (List Line) (Refusal GplCause) → Listing
-laid_listing texts (Ok lines) = settled_listing texts lines (settled (settle (names lines)) lines)
+laid_listing texts (Ok lines) = assembled_listing texts lines (assembled_lines (assembled_line (names lines)) lines)
 laid_listing texts (Err refused) =
     record {
       rows = rows no_bytes texts (let_through (laid check (take (refused.line - 1) texts)));

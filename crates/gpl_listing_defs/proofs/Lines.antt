@@ -6,7 +6,7 @@ use Rattle.std.specs.List.{list_all}
 use Rattle.std.proofs.lemmas.Bool.Decides.{nat_tests}
 use Rattle.source_defs.specs.Digits.{hex_word, hex_byte, word_digits, byte_digits}
 use Rattle.source_defs.specs.Lines.{numbered}
-use Rattle.expression_defs.specs.Layout.{laid_behind, settled}
+use Rattle.expression_defs.specs.Layout.{laid_behind, assembled_lines}
 use Rattle.source_defs.specs.ListedLines.{listed, with_operands}
 use Rattle.expression_defs.specs.Symbols.{Names, look_up, predefined}
 use Rattle.grom_defs.specs.declared.size.TheConstants.{GROM_SIZE}
@@ -21,7 +21,7 @@ use Rattle.gpl_source_defs.specs.Statements.{Statement, Instruction, Grom, Aorg,
 use Rattle.gpl_source_defs.specs.Locations.{Line, start, behind, location, place, address_of, origin_of}
 use Rattle.gpl_source_defs.specs.FirstChecks.{checked, check, line_of, names, is_full, is_bad, is_end}
 use Rattle.gpl_source_defs.specs.SecondChecks.{Bytes, outcome}
-use Rattle.gpl_source_defs.specs.Programs.{Settled, image, entry, overlaps, settle, settle_at}
+use Rattle.gpl_source_defs.specs.Programs.{AssembledLine, image, entry, overlaps, assembled_line, assembled_at}
 use Rattle.gpl_listing_defs.specs.Texts.{mnemonic_of, instr_text}
 use Rattle.listed_lines.proofs.DigitLaws.{word_passes, byte_passes}
 use Rattle.listed_lines.proofs.OperandLines.{whole, one_text}
@@ -30,10 +30,10 @@ use Rattle.gpl_listing_defs.proofs.Operands.{Alphabet, word_value, byte_value, t
 use Rattle.gpl_listing_defs.proofs.Instructions.{InstrFits, InGromOf, instr_names, left_of, skeleton_back, size_back, instruction_back}
 
 -- what some lines come to
-pub record Stands (before : List Line) (earlier : List Settled) (at : Location) (bytes : Image) : Type 0 where
+pub record Stands (before : List Line) (earlier : List AssembledLine) (at : Location) (bytes : Image) : Type 0 where
   pub names_are : names before ≡ predefined
   pub location_is : location before ≡ at
-  pub settled_are : settled (settle predefined) before ≡ Ok earlier
+  pub assembled_are : assembled_lines (assembled_line predefined) before ≡ Ok earlier
   pub image_is : image earlier ≡ bytes
   pub entry_is : entry earlier ≡ None
 
@@ -44,7 +44,7 @@ at_first = search rules
 pub record Taken (before : List Line) (number : ℕ) (text : List ℕ) (last : Bool) (next : Location) (bytes : Image) :
     Type 0 where
   pub line : Line
-  pub earlier : List Settled
+  pub earlier : List AssembledLine
   pub check_is : check before number text ≡ Ok line
   pub last_is : line.last ≡ last
   pub stands : Stands (line ∷ before) earlier next bytes
@@ -66,11 +66,11 @@ location_behind : (line : Line) (before : List Line) (o : Option Location) → l
 location_behind line before None e gap = rw (e, gap) (same_location _ _ _ (omega arith))
 location_behind line before (Some origin) e gap = rw (e, gap) (same_location _ _ _ (omega arith))
 
-settle_here : (earlier : List Settled) (at there : Location) (held : Image) (said : Statement) (bytes : List ℕ) →
+assemble_here : (earlier : List AssembledLine) (at there : Location) (held : Image) (said : Statement) (bytes : List ℕ) →
     there ≡ at → image earlier ≡ held → outcome (look_up predefined) at said ≡ Ok (Bytes bytes) →
     overlaps held at.number bytes ≡ false →
-    settle_at predefined there said earlier ≡ Ok (record { at = at.number; outcome = Bytes bytes })
-settle_here earlier at there held said bytes same is second free = rw (same, second, is, free) refl
+    assembled_at predefined there said earlier ≡ Ok (record { at = at.number; outcome = Bytes bytes })
+assemble_here earlier at there held said bytes same is second free = rw (same, second, is, free) refl
 
 plain_letters : Alphabet plain_byte
 plain_letters = search rules
@@ -102,7 +102,7 @@ unfolding checked
 checked_as known here line name field said cut is full bad =
     rw (cut.fields_are, cut.name_is, cut.field_is, is, full, bad) refl
 
-module _ {before : List Line} {earlier : List Settled} {at : Location} {held : Image} (number : ℕ)
+module _ {before : List Line} {earlier : List AssembledLine} {at : Location} {held : Image} (number : ℕ)
     (stands : Stands before earlier at held) where
   -- a line by its operation, its operands, what it says and what it places
   taken : (name : List ℕ) (operands : Option (List ℕ)) (said : Statement) (bytes : List ℕ) (next : Location) →
@@ -126,10 +126,10 @@ module _ {before : List Line} {earlier : List Settled} {at : Location} {held : I
           names_are = stands.names_are;
           location_is = location_behind line before (origin_of at said) refl refl
               ∙ (ap (λ here. moved (origin_of at said) here (declared_size said)) stands.location_is ∙ there);
-          settled_are =
+          assembled_are =
               rw (
-                stands.settled_are,
-                settle_here earlier at (place before line) held said bytes
+                stands.assembled_are,
+                assemble_here earlier at (place before line) held said bytes
                     (ap (λ here. behind here 0) stands.location_is ∙ here_again at) stands.image_is second free,
               ) refl;
           image_is = ap (λ held. placed held at.number bytes) stands.image_is;
@@ -208,10 +208,10 @@ module _ {before : List Line} {earlier : List Settled} {at : Location} {held : I
 -- lines behind others that are let through to the last, with the image that all come to
 pub record Ends (before : List Line) (number : ℕ) (texts : List (List ℕ)) (bytes : Image) : Type 0 where
   pub all : List Line
-  pub found : List Settled
+  pub found : List AssembledLine
   pub laid_is : laid_behind check before (numbered number texts) ≡ Ok all
   pub names_are : names all ≡ predefined
-  pub settled_are : settled (settle predefined) all ≡ Ok found
+  pub assembled_are : assembled_lines (assembled_line predefined) all ≡ Ok found
   pub image_is : image found ≡ bytes
   pub entry_is : entry found ≡ None
 
@@ -222,7 +222,7 @@ ends_last before number text next bytes taken = record {
   found = taken.earlier;
   laid_is = rw (taken.check_is, taken.last_is) refl;
   names_are = taken.stands.names_are;
-  settled_are = taken.stands.settled_are;
+  assembled_are = taken.stands.assembled_are;
   image_is = taken.stands.image_is;
   entry_is = taken.stands.entry_is;
 }
@@ -244,7 +244,7 @@ ends_more before number text texts next bytes whole taken ends = record {
       (laid_behind check (taken.line ∷ before) (numbered (number + 1) texts)) taken.last_is
       ∙ ends.laid_is);
   names_are = ends.names_are;
-  settled_are = ends.settled_are;
+  assembled_are = ends.assembled_are;
   image_is = ends.image_is;
   entry_is = ends.entry_is;
 }

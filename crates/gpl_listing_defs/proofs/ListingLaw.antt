@@ -14,7 +14,7 @@ use Rattle.gpl_defs.specs.Image.{Image, placed}
 use Rattle.gpl_defs.specs.Bytes.{bytes_of}
 use Rattle.gpl_source_defs.specs.declared.location.Location.{Location}
 use Rattle.gpl_source_defs.specs.Locations.{Line, start}
-use Rattle.gpl_source_defs.specs.Programs.{Settled, overlaps, program_of_source}
+use Rattle.gpl_source_defs.specs.Programs.{AssembledLine, overlaps, program_of_source}
 use Rattle.gpl_listing_defs.specs.Listing.{Listed, listed_at}
 use Rattle.gpl_listing_defs.specs.Listing.{origin_texts, origin_texts_at, texts_from, texts_between, grom_texts, grom_listing}
 use Rattle.gpl_listing_defs.proofs.LineSteps.{no_texts, next_texts}
@@ -63,7 +63,7 @@ module _ (image : List ℕ) (low high : ℕ) (bytes : (k : ℕ) → slice_index 
     within : at + line.size ≤ high
     in_grom : at + line.size ≤ grom + 0x2000
 
-  entered : {before : List Line} {earlier : List Settled} (grom at number : ℕ) → Stands before earlier (here grom at) (held at) →
+  entered : {before : List Line} {earlier : List AssembledLine} (grom at number : ℕ) → Stands before earlier (here grom at) (held at) →
       low ≤ at → at < high → grom % 0x2000 ≡ 0 → grom ≤ at → at < grom + 0x2000 → (line : Listed) →
       Entry image at high line → Entered grom at before number line
   entered grom at number stands le inside whole from to line (Whole found valid fits same ends) =
@@ -91,7 +91,7 @@ module _ (image : List ℕ) (low high : ℕ) (bytes : (k : ℕ) → slice_index 
 
   abbrev Goes : ℕ → ℕ → List (List ℕ) → Type 0
   Goes grom at texts =
-      (before : List Line) (earlier : List Settled) (number : ℕ) → Stands before earlier (here grom at) (held at) →
+      (before : List Line) (earlier : List AssembledLine) (number : ℕ) → Stands before earlier (here grom at) (held at) →
       Ends before number (map listed texts) (held high)
 
   abbrev left_from : ℕ → ℕ → List (List ℕ)
@@ -116,7 +116,7 @@ module _ (image : List ℕ) (low high : ℕ) (bytes : (k : ℕ) → slice_index 
 
   -- GROM and AORG, and what stands behind them
   origin_from : (loc : Location) (at : ℕ) (texts : List (List ℕ)) → at < 65536 → loc.number ≤ loc.grom + 0x2000 →
-      Goes (at / GROM_SIZE * GROM_SIZE) at texts → (before : List Line) (earlier : List Settled) (number : ℕ) →
+      Goes (at / GROM_SIZE * GROM_SIZE) at texts → (before : List Line) (earlier : List AssembledLine) (number : ℕ) →
       Stands before earlier loc (held at) → Ends before number (map listed (origin_texts at ++ texts)) (held high)
   origin_from loc at texts lt within go before earlier number stands =
       let first = grom_taken number stands (at / GROM_SIZE * GROM_SIZE) (omega arith) (omega arith) within in
@@ -206,7 +206,7 @@ program_is : (texts : List (List ℕ)) (bytes : Image) → Ends [] 1 (map listed
     list_all (λ line. list_all in_line line) (map listed texts) ≡ true →
     program_of_source (joined (map listed texts)) ≡ Ok (record { image = bytes; entry = None; names = predefined })
 program_is texts bytes ends clean =
-    rw (lines_joined (map listed texts) clean, ends.laid_is, ends.names_are, ends.settled_are, ends.image_is, ends.entry_is) refl
+    rw (lines_joined (map listed texts) clean, ends.laid_is, ends.names_are, ends.assembled_are, ends.image_is, ends.entry_is) refl
 
 -- what is listed is assembled again
 pub listings_come_back : ListingsComeBack

@@ -22,9 +22,9 @@ abbrev Answer : Type 0
 Answer = Result (List Line) (Refusal AsmCause)
 
 -- a line is refused, or ends the source
-abbrev Settles : Answer → Type 0
-Settles (Ok lines) = has_ended lines ≡ true
-Settles (Err refusal) = ⊤
+abbrev IsFinal : Answer → Type 0
+IsFinal (Ok lines) = has_ended lines ≡ true
+IsFinal (Err refusal) = ⊤
 
 abbrev behind_line : List Line → List (ℕ × List ℕ) → Line → Answer
 behind_line before rest found = if found.last then Ok (found ∷ before) else laid_behind check (found ∷ before) rest
@@ -46,14 +46,14 @@ module _ (more : List (List ℕ)) where
   by_answer before rest longer number answer (Ok found) e going next = by_last before rest longer answer found found.last refl e going (next found)
   by_answer before rest longer number answer (Err cause) e going next = e
 
-  pub settled_stays : (texts : List (List ℕ)) (before : List Line) (number : ℕ) (answer : Answer) → has_ended before ≡ false
-      → laid_behind check before (numbered number texts) ≡ answer → Settles answer → laid_behind check before (numbered number (texts ++ more)) ≡ answer
-  settled_stays [] before number answer going e settles =
-      let ended : has_ended before ≡ true = subst Settles (sym e) settles in
+  pub final_stays : (texts : List (List ℕ)) (before : List Line) (number : ℕ) (answer : Answer) → has_ended before ≡ false
+      → laid_behind check before (numbered number texts) ≡ answer → IsFinal answer → laid_behind check before (numbered number (texts ++ more)) ≡ answer
+  final_stays [] before number answer going e final =
+      let ended : has_ended before ≡ true = subst IsFinal (sym e) final in
       cc (going, ended)
-  settled_stays (text ∷ texts) before number answer going e settles =
+  final_stays (text ∷ texts) before number answer going e final =
       by_answer before (numbered (number + 1) texts) (numbered (number + 1) (texts ++ more)) number answer (check before number text) e going
-      (λ found going e. settled_stays texts (found ∷ before) (number + 1) answer going e settles)
+      (λ found going e. final_stays texts (found ∷ before) (number + 1) answer going e final)
 
 -- the next line of the source
 module _ (left : List (List ℕ)) (text : List ℕ) (old : AsmLines) (has : HasLeft (text ∷ left) old) where
@@ -70,7 +70,7 @@ module _ (left : List (List ℕ)) (text : List ℕ) (old : AsmLines) (has : HasL
   pub stays_ended : has_ended has.taken.lines ≡ true → HasLeft left old
   stays_ended ended =
       let laid_as : (more : List (List ℕ)) → laid check (numbered 1 (has.texts ++ more)) ≡ Ok has.taken.lines =
-      λ more. settled_stays more has.texts [] 1 (Ok has.taken.lines) refl has.taken.laid ended in
+      λ more. final_stays more has.texts [] 1 (Ok has.taken.lines) refl has.taken.laid ended in
       record {
         texts = has.texts;
         taken = has.taken;
@@ -86,7 +86,7 @@ module _ (left : List (List ℕ)) (text : List ℕ) (old : AsmLines) (has : HasL
       sym has.makes
       ∙ ap (λ (answer : Answer). answer >>= module_behind)
       (ap (λ texts. laid check (numbered 1 texts)) (sym (append_assoc has.texts (text ∷ []) left))
-      ∙ settled_stays left (has.texts ++ text ∷ []) [] 1 (Err refusal) refl e tt))
+      ∙ final_stays left (has.texts ++ text ∷ []) [] 1 (Err refusal) refl e tt))
       refuses
 
 -- no line was taken

@@ -5,7 +5,7 @@ use Rattle.std.specs.FinMap.{empty, contains_key}
 use Rattle.source_defs.specs.Refusals.{Refusal, ◌>>=◌}
 use Rattle.expression_defs.specs.Symbols.{Names, look_up}
 use Rattle.source_defs.specs.Lines.{numbered, line_texts}
-use Rattle.expression_defs.specs.Layout.{laid, settled}
+use Rattle.expression_defs.specs.Layout.{laid, assembled_lines}
 use Rattle.gpl_defs.specs.Image.{Image, placed}
 use Rattle.gpl_source_defs.specs.declared.causes.GplCause.{GplCause}
 use Rattle.gpl_source_defs.specs.declared.causes.GplCause.TheVariants.{Overlap}
@@ -16,7 +16,7 @@ use Rattle.gpl_source_defs.specs.FirstChecks.{check, names}
 use Rattle.gpl_source_defs.specs.SecondChecks.{Outcome, Bytes, Entry, outcome}
 
 -- a line by its address and what it came to
-pub record Settled : Type 0 where
+pub record AssembledLine : Type 0 where
   pub at : ℕ
   pub outcome : Outcome
 
@@ -29,12 +29,12 @@ entry_by entry (Bytes bytes) = entry
 entry_by entry (Entry address) = Some address
 
 -- The image of lines: the bytes of each stand from its address on.
-abbrev pub image : List Settled → Image
+abbrev pub image : List AssembledLine → Image
 image [] = empty
 image (line ∷ before) = placed (image before) line.at (bytes_in line.outcome)
 
 -- the entry that END gives
-abbrev pub entry : List Settled → Option ℕ
+abbrev pub entry : List AssembledLine → Option ℕ
 entry [] = None
 entry (line ∷ before) = entry_by (entry before) line.outcome
 
@@ -44,19 +44,19 @@ overlaps image at [] = false
 overlaps image at (byte ∷ bytes) = contains_key image at || overlaps image (at + 1) bytes
 
 -- Profile: no byte is placed where one was placed before.
-abbrev pub with_room : List Settled → Settled → Result Settled GplCause
+abbrev pub with_room : List AssembledLine → AssembledLine → Result AssembledLine GplCause
 with_room earlier line =
     if overlaps (image earlier) line.at (bytes_in line.outcome) then Err Overlap else Ok line
 
 -- The second checks of what a line says at a place after others, by all names. Profile: its values, their ranges, then
 -- its room.
-abbrev pub settle_at : Names → Location → Statement → List Settled → Result Settled GplCause
-settle_at known at statement earlier = do
+abbrev pub assembled_at : Names → Location → Statement → List AssembledLine → Result AssembledLine GplCause
+assembled_at known at statement earlier = do
   found ← outcome (look_up known) at statement
   with_room earlier (record { at = at.number; outcome = found })
 
-abbrev pub settle : Names → List Line → List Settled → Line → Result Settled GplCause
-settle known before earlier line = settle_at known (place before line) line.statement earlier
+abbrev pub assembled_line : Names → List Line → List AssembledLine → Line → Result AssembledLine GplCause
+assembled_line known before earlier line = assembled_at known (place before line) line.statement earlier
 
 -- what a source is assembled to
 pub record Program : Type 0 where
@@ -64,13 +64,13 @@ pub record Program : Type 0 where
   pub entry : Option ℕ
   pub names : Names
 
-abbrev pub program_by : List Line → List Settled → Program
-program_by lines settled = record { image = image settled; entry = entry settled; names = names lines }
+abbrev pub program_by : List Line → List AssembledLine → Program
+program_by lines assembled_lines = record { image = image assembled_lines; entry = entry assembled_lines; names = names lines }
 
 -- the program of lines that the first checks let through
 abbrev pub program_behind : List Line → Result Program (Refusal GplCause)
 program_behind lines = do
-  found ← settled (settle (names lines)) lines
+  found ← assembled_lines (assembled_line (names lines)) lines
   Ok (program_by lines found)
 
 -- the program of numbered lines, or the first that is refused: by the first checks, else by the second

@@ -17,7 +17,7 @@ use Rattle.object_defs.specs.Modules.{Module}
 use Rattle.asm_defs.specs.declared.content.Content.{Content}
 use Rattle.asm_defs.specs.declared.location.Part.{Part}
 use Rattle.asm_defs.specs.declared.location.Part.TheVariants as part
-use Rattle.asm_defs.specs.Memory.{Settled, content_at, spot_by, joined, pieces, pieces_at, pieces_from, part_words}
+use Rattle.asm_defs.specs.Memory.{AssembledLine, content_at, spot_by, joined, pieces, pieces_at, pieces_from, part_words}
 use Rattle.link_defs.specs.Placing.{sections, first_base, word_at, words_of, value_of}
 use Rattle.link_defs.specs.First.{first, first_behind}
 use Rattle.link_defs.specs.LinkedMemory.{LinkedMemory, linked, linked_parts, filled, is_outside, is_taken, is_loadable}
@@ -113,7 +113,7 @@ all_pieces f a rest most words size same =
     ∙ pieces_there f a words (λ p le. same p))))))
 
 -- the pieces of lines that hold words
-pub pieces_held : (lines : List Settled) (a : ℕ) (words : List ℕ) → HoldWords [] lines (2 * a) words → a + length words ≤ 32768
+pub pieces_held : (lines : List AssembledLine) (a : ℕ) (words : List ℕ) → HoldWords [] lines (2 * a) words → a + length words ≤ 32768
     → pieces [] lines ≡ pieces_of (2 * a) words
 unfolding part_words
 pieces_held lines a words hold le =

@@ -14,7 +14,7 @@ use Rattle.asm_defs.specs.declared.location.Location.{Location}
 use Rattle.asm_defs.specs.declared.location.Part.{Part}
 use Rattle.asm_defs.specs.declared.location.Part.TheVariants as part
 use Rattle.asm_defs.specs.SecondChecks.{Outcome, Nothing, Words}
-use Rattle.asm_defs.specs.Memory.{Settled, covers, same_part, is_placed, bytes_in, contents_by}
+use Rattle.asm_defs.specs.Memory.{AssembledLine, covers, same_part, is_placed, bytes_in, contents_by}
 use Rattle.asm_defs.proofs.PlacedWords.{word_contents}
 use Rattle.asm_defs.specs.Memory.{content_at, any_from, count_from, has_word, words_in, word_count, part_words}
 use Rattle.line_laws.specs.KnownLines.{numbers_of, words_of, is_at, is_absolute}
@@ -125,14 +125,14 @@ module _ (from : ℕ) (words more : List ℕ) where
       ∙ sym (chosen _ true _ _ inside ∙ get_past (cells words) (p - from) (omega (arith, le, size))))
 
 -- lines that hold words from a place on, and nothing else
-pub record HoldWords (references : List Reference) (lines : List Settled) (from : ℕ) (words : List ℕ) : Type 0 where
+pub record HoldWords (references : List Reference) (lines : List AssembledLine) (from : ℕ) (words : List ℕ) : Type 0 where
   pub absolute : (p : ℕ) → content_at references lines part.Absolute p ≡ content_of from words p
   pub relocatable : (p : ℕ) → content_at references lines part.Relocatable p ≡ None
   pub free : (p : ℕ) → from + 2 * length words ≤ p → is_placed lines part.Absolute p ≡ false
   pub none : (p : ℕ) → is_placed lines part.Relocatable p ≡ false
 
 -- A line that places some words where the last words end, or none.
-pub record ComesNext (line : Settled) (at : ℕ) (more : List ℕ) : Type 0 where
+pub record ComesNext (line : AssembledLine) (at : ℕ) (more : List ℕ) : Type 0 where
   pub words : words_of line.outcome ≡ Some more
   pub place : (is_empty more || is_at at line.at) ≡ true
 
@@ -150,7 +150,7 @@ stands_by place at (word ∷ words) e =
     let b = both (is_absolute place.part) _ e in
     inr (is_there place at place.part refl b.0 (grind (arith, nat_tests, b.1)))
 
-module _ (line : Settled) (at : ℕ) (more : List ℕ) (next : ComesNext line at more) where
+module _ (line : AssembledLine) (at : ℕ) (more : List ℕ) (next : ComesNext line at more) where
   pub size : bytes_in line.outcome ≡ 2 * length more
   size = placed_size line.outcome more next.words
 
@@ -201,7 +201,7 @@ module _ (line : Settled) (at : ℕ) (more : List ℕ) (next : ComesNext line at
       let rest : among p ≡ false = sym (ap (λ b. b && nat_le line.at.number p && nat_lt p (line.at.number + bytes_in line.outcome)) same) ∙ e in
       grind (arith, nat_tests, rest, size, le, there.1)
 
-  module _ (references : List Reference) (lines : List Settled) (from : ℕ) (words : List ℕ) (ends : at ≡ from + 2 * length words) (hold : HoldWords references lines from words) where
+  module _ (references : List Reference) (lines : List AssembledLine) (from : ℕ) (words : List ℕ) (ends : at ≡ from + 2 * length words) (hold : HoldWords references lines from words) where
     absolute_more : (p : ℕ) → content_at references (line ∷ lines) part.Absolute p ≡ content_of from (words ++ more) p
     absolute_more p = by (covers line part.Absolute p) refl
       where
@@ -252,7 +252,7 @@ count_most : (f : ℕ → Bool) (first n : ℕ) → count_from f first n ≤ n
 count_most f first zero = omega arith
 count_most f first (suc n) = omega (arith, one_at_most (f first), count_most f (first + 1) n)
 
-none_counted : (lines : List Settled) → ((p : ℕ) → is_placed lines part.Relocatable p ≡ false) → words_in lines part.Relocatable ≡ 0
+none_counted : (lines : List AssembledLine) → ((p : ℕ) → is_placed lines part.Relocatable p ≡ false) → words_in lines part.Relocatable ≡ 0
 none_counted lines none =
     count_none (has_word lines part.Relocatable) 0 part_words
     (λ w. ap (λ b. b || is_placed lines part.Relocatable (2 * w + 1)) (none (2 * w)) ∙ none (2 * w + 1))
@@ -261,6 +261,6 @@ few : (relocatable absolute most : ℕ) → relocatable ≡ 0 → absolute ≤ m
 few relocatable absolute most none le = omega (arith, none, le)
 
 -- so many words have room
-pub few_words : (lines : List Settled) → ((p : ℕ) → is_placed lines part.Relocatable p ≡ false) → word_count lines ≤ 32768
+pub few_words : (lines : List AssembledLine) → ((p : ℕ) → is_placed lines part.Relocatable p ≡ false) → word_count lines ≤ 32768
 unfolding part_words
 few_words lines none = few _ _ _ (none_counted lines none) (count_most (has_word lines part.Absolute) 0 part_words)

@@ -10,7 +10,7 @@ use Rattle.source_defs.specs.Refusals.{◌>>=◌, at_line}
 use Rattle.expression_defs.specs.Symbols.{look_up, predefined, registers}
 use Rattle.expression_defs.specs.Expression.{Value, Absolute, Relocatable}
 use Rattle.source_defs.specs.Lines.{numbered}
-use Rattle.expression_defs.specs.Layout.{settled, laid, with_names}
+use Rattle.expression_defs.specs.Layout.{assembled_lines, laid, with_names}
 use Rattle.expression_defs.proofs.LaidLaws.{laid_more}
 use Rattle.object_defs.specs.declared.spot.Spot.{Spot}
 use Rattle.object_defs.specs.Modules.{Module, Reference}
@@ -24,17 +24,17 @@ use Rattle.asm_defs.specs.FirstChecks.{check, line_of, names, refs, defs, refs_i
 use Rattle.asm_defs.specs.FirstChecks.{label_entry, external_entries}
 use Rattle.asm_defs.specs.SecondChecks.{Outcome, Words, Entry}
 use Rattle.asm_defs.specs.declared.content.Content.{Content}
-use Rattle.asm_defs.specs.Memory.{Settled, covers, same_part, is_placed, bytes_in, any_from, word_count, pieces}
+use Rattle.asm_defs.specs.Memory.{AssembledLine, covers, same_part, is_placed, bytes_in, any_from, word_count, pieces}
 use Rattle.asm_defs.specs.Memory.{references_of, behind_by, behind_word, spot_by, is_placed_in}
 use Rattle.asm_defs.proofs.PlacedWords.{behind_words}
-use Rattle.asm_defs.specs.Modules.{settle, with_room, module_by, module_behind, module_of_lines, entry, entry_by}
+use Rattle.asm_defs.specs.Modules.{assembled_line, with_room, module_by, module_behind, module_of_lines, entry, entry_by}
 use Rattle.asm_defs.specs.Modules.{unused, definition_in}
 use Rattle.line_laws.specs.KnownLines.{KnownLine, known_line, all_names, all_words, names_behind, are_new, are_close}
 use Rattle.line_laws.specs.Laws.{looks, AreKnown, HasWords, KnownLinesHaveTheirWords}
 use Rattle.line_laws.proofs.EarlierLines.{is_free}
 use Rattle.line_laws.proofs.LaidLines.{StandFor, laid_list, AreLaid, are_laid, check_behind}
 use Rattle.line_laws.proofs.PlacedWords.{HoldWords, few_words, content_of}
-use Rattle.line_laws.proofs.SecondChecks.{as_settled, settled_list, settle_is, AreSettled, are_settled, settled_step}
+use Rattle.line_laws.proofs.SecondChecks.{as_assembled, assembled_list, assemble_is, AreAssembled, are_assembled, assembled_step}
 use Rattle.line_laws.proofs.SecondChecks.{room_by}
 use Rattle.line_laws.proofs.LinkedPieces.{pieces_held}
 use Rattle.line_laws.proofs.Small.{both, append_none}
@@ -64,12 +64,12 @@ no_line : (at : Location) (found : Outcome) → behind_by at [] found ≡ []
 no_line at (Words words) = either_none (is_placed_in at.part) _ (no_words at.part at.number words)
 no_line at _ = refl
 
-pub no_uses : (lines : List Settled) → references_of [] lines ≡ []
+pub no_uses : (lines : List AssembledLine) → references_of [] lines ≡ []
 no_uses [] = refl
 no_uses (line ∷ lines) = ap (λ references. behind_by line.at references line.outcome) (no_uses lines) ∙ no_line line.at line.outcome
 
 -- a line that places no bytes
-module _ (line : Settled) (none : bytes_in line.outcome ≡ 0) where
+module _ (line : AssembledLine) (none : bytes_in line.outcome ≡ 0) where
   pub not_covered : (found : Part) (p : ℕ) → covers line found p ≡ false
   not_covered found p = false_from_ne_true _ (λ e.
       let b = both (same_part line.at.part found && nat_le line.at.number p) _ e in
@@ -78,7 +78,7 @@ module _ (line : Settled) (none : bytes_in line.outcome ≡ 0) where
       let to : p < line.at.number + bytes_in line.outcome = grind (arith, nat_tests, b.1) in
       omega (arith, none, from, to))
 
-  pub hold_still : (lines : List Settled) (from : ℕ) (words : List ℕ) → HoldWords [] lines from words → HoldWords [] (line ∷ lines) from words
+  pub hold_still : (lines : List AssembledLine) (from : ℕ) (words : List ℕ) → HoldWords [] lines from words → HoldWords [] (line ∷ lines) from words
   hold_still lines from words hold = record {
     absolute = λ p. rw (not_covered part.Absolute p) (hold.absolute p);
     relocatable = λ p. rw (not_covered part.Relocatable p) (hold.relocatable p);
@@ -86,7 +86,7 @@ module _ (line : Settled) (none : bytes_in line.outcome ≡ 0) where
     none = λ p. ap (λ b. b || is_placed lines part.Relocatable p) (not_covered part.Relocatable p) ∙ hold.none p;
   }
 
-  pub room_still : (lines : List Settled) (from : ℕ) (words : List ℕ) → HoldWords [] lines from words → with_room lines line ≡ Ok line
+  pub room_still : (lines : List AssembledLine) (from : ℕ) (words : List ℕ) → HoldWords [] lines from words → with_room lines line ≡ Ok line
   room_still lines from words hold =
       let few = few_words (line ∷ lines) (hold_still lines from words hold).none in
       let fits : nat_lt 32768 (word_count (line ∷ lines)) ≡ false = grind (arith, nat_tests, few) in
@@ -145,27 +145,27 @@ module _ (half : ℕ) (texts : List (List ℕ)) (last : List ℕ) (defined : Lis
   pub looked : looks defined ≡ look_up (names (final ∷ front))
   looked i name = sym (stand name) i
 
-  rest : AreSettled (looks defined) (names (final ∷ front)) looked (2 * half) lines [] 1 [] []
-  rest = are_settled (looks defined) (names (final ∷ front)) looked (2 * half) texts lines [] 1 [] [] is.known is.plain
+  rest : AreAssembled (looks defined) (names (final ∷ front)) looked (2 * half) lines [] 1 [] []
+  rest = are_assembled (looks defined) (names (final ∷ front)) looked (2 * half) texts lines [] 1 [] [] is.known is.plain
       (ap (λ n. are_close n lines) (omega arith) ∙ is.close) refl
       (record { absolute = λ p. none_there p; relocatable = λ p. refl; free = λ p le. refl; none = λ p. refl })
     where
       none_there : (p : ℕ) → None ≡ content_of (2 * half) [] p
       none_there p = none_by (nat_le (2 * half) p) (p - 2 * half)
 
-  abbrev found : List Settled
-  found = settled_list [] lines
+  abbrev found : List AssembledLine
+  found = assembled_list [] lines
 
-  final_room : with_room found (as_settled end) ≡ Ok (as_settled end)
-  final_room = room_still (as_settled end) (no_bytes end.outcome spot is.enters) found (2 * half) (all_words lines) rest.hold
+  final_room : with_room found (as_assembled end) ≡ Ok (as_assembled end)
+  final_room = room_still (as_assembled end) (no_bytes end.outcome spot is.enters) found (2 * half) (all_words lines) rest.hold
 
-  all_settled : settled (settle (names (final ∷ front))) (final ∷ front) ≡ Ok (as_settled end ∷ found)
-  all_settled =
-      settled_step (names (final ∷ front)) front found number end.found (as_settled end) (settled (settle (names (final ∷ front))) front) rest.settled
-      (settle_is (looks defined) (names (final ∷ front)) looked (2 * half) last end front number found final_known final_room)
+  all_assembled : assembled_lines (assembled_line (names (final ∷ front))) (final ∷ front) ≡ Ok (as_assembled end ∷ found)
+  all_assembled =
+      assembled_step (names (final ∷ front)) front found number end.found (as_assembled end) (assembled_lines (assembled_line (names (final ∷ front))) front) rest.assembled_lines
+      (assemble_is (looks defined) (names (final ∷ front)) looked (2 * half) last end front number found final_known final_room)
 
   abbrev whole : Module
-  whole = module_by (final ∷ front) (as_settled end ∷ found)
+  whole = module_by (final ∷ front) (as_assembled end ∷ found)
 
   no_refs : refs (final ∷ front) ≡ []
   no_refs = append_none (refs front) (refs_in end.found.statement) (ap refs_in is.ends.1) ∙ first.refs
@@ -176,15 +176,15 @@ module _ (half : ℕ) (texts : List (List ℕ)) (last : List ℕ) (defined : Lis
   pub assembled : module_of_lines (texts ++ last ∷ []) ≡ Ok whole
   assembled =
       ap (λ answer. answer >>= module_behind) all_laid
-      ∙ ap (λ answer. answer >>= λ found. Ok (module_by (final ∷ front) found)) all_settled
+      ∙ ap (λ answer. answer >>= λ found. Ok (module_by (final ∷ front) found)) all_assembled
 
   pub has_words : half + length (all_words lines) ≤ 32768 → HasWords (2 * half) (all_words lines) spot whole
   has_words le = record {
-    pieces = ap (λ references. pieces (map unused references) (as_settled end ∷ found)) no_refs
-        ∙ pieces_held (as_settled end ∷ found) half (all_words lines)
-        (hold_still (as_settled end) (no_bytes end.outcome spot is.enters) found (2 * half) (all_words lines) rest.hold) le;
+    pieces = ap (λ references. pieces (map unused references) (as_assembled end ∷ found)) no_refs
+        ∙ pieces_held (as_assembled end ∷ found) half (all_words lines)
+        (hold_still (as_assembled end) (no_bytes end.outcome spot is.enters) found (2 * half) (all_words lines) rest.hold) le;
     defs = ap (map (definition_in (names (final ∷ front)))) no_defs;
-    refs = ap (λ references. references_of (map unused references) (as_settled end ∷ found)) no_refs ∙ no_uses (as_settled end ∷ found);
+    refs = ap (λ references. references_of (map unused references) (as_assembled end ∷ found)) no_refs ∙ no_uses (as_assembled end ∷ found);
     entered = ap (entry_by (entry found)) is.enters;
   }
 

@@ -13,7 +13,7 @@ use Rattle.asm_defs.specs.declared.location.Part.{Part}
 use Rattle.asm_defs.specs.declared.location.Part.TheVariants as part
 use Rattle.asm_defs.specs.declared.location.Location.{Location}
 use Rattle.asm_defs.specs.SecondChecks.{Outcome, Nothing, Words, Bytes, Entry}
-use Rattle.asm_defs.specs.Memory.{Settled, same_part, covers, is_placed, has_word, words_in, any_from, part_words, bytes_in, behind_word}
+use Rattle.asm_defs.specs.Memory.{AssembledLine, same_part, covers, is_placed, has_word, words_in, any_from, part_words, bytes_in, behind_word}
 use Rattle.asm_defs.proofs.PlacedWords.{word_contents}
 use Rattle.asm_defs.specs.Memory.{spot_by, contents_by, contents, content_at, references_of, is_placed_in}
 use Rattle.module_image.specs.Tables.{cell, put_from, is_taken, is_taken_word, words_taken}
@@ -94,7 +94,7 @@ is_there : {A : Type 0} (items : List A) (at : ℕ) (item : A) → at < length i
 is_there items at item lt = ap is_some (slice_get-get_or items at item lt)
 
 module _ (unused : List Reference) where
-  some_by : (line : Settled) (before : List Settled) (part : Part) (p : ℕ) (b : Bool) → covers line part p ≡ b
+  some_by : (line : AssembledLine) (before : List AssembledLine) (part : Part) (p : ℕ) (b : Bool) → covers line part p ≡ b
       → is_some (content_at unused before part p) ≡ is_placed before part p
       → is_some (content_at unused (line ∷ before) part p) ≡ is_placed (line ∷ before) part p
   some_by line before part p true e ih =
@@ -104,11 +104,11 @@ module _ (unused : List Reference) where
       ∙ sym (ap (λ b. b || is_placed before part p) e))
   some_by line before part p false e ih = ap is_some (chosen _ false _ _ e) ∙ (ih ∙ sym (ap (λ b. b || is_placed before part p) e))
 
-  pub content_some : (lines : List Settled) (part : Part) (p : ℕ) → is_some (content_at unused lines part p) ≡ is_placed lines part p
+  pub content_some : (lines : List AssembledLine) (part : Part) (p : ℕ) → is_some (content_at unused lines part p) ≡ is_placed lines part p
   content_some [] part p = refl
   content_some (line ∷ before) part p = some_by line before part p (covers line part p) refl (content_some before part p)
 
-  module _ (lines : List Settled) (part : Part) (cells : List (Option Content)) (holds : (p : ℕ) → cell cells p ≡ content_at unused lines part p) where
+  module _ (lines : List AssembledLine) (part : Part) (cells : List (Option Content)) (holds : (p : ℕ) → cell cells p ≡ content_at unused lines part p) where
     taken_is : (p : ℕ) → is_taken cells p ≡ is_placed lines part p
     taken_is p = ap is_some (holds p) ∙ content_some lines part p
 
@@ -122,7 +122,7 @@ module _ (unused : List Reference) where
     unfolding words_taken part_words
     words_are = count_same (has_word lines part) (is_taken_word cells) 0 32768 (λ w le. word_is w)
 
-  module _ (line : Settled) (earlier : List Settled) (part : Part) (old : List (Option Content)) (holds : (p : ℕ) → cell old p ≡ content_at unused earlier part p) where
+  module _ (line : AssembledLine) (earlier : List AssembledLine) (part : Part) (old : List (Option Content)) (holds : (p : ℕ) → cell old p ≡ content_at unused earlier part p) where
     -- a line of another part
     pub holds_still : same_part line.at.part part ≡ false → (p : ℕ) → cell old p ≡ content_at unused (line ∷ earlier) part p
     holds_still other p =
@@ -148,7 +148,7 @@ never part.Relocatable = refl
 never part.Absolute = refl
 never part.Dummy = refl
 
-dummy_free : (lines : List Settled) (p : ℕ) → is_placed lines part.Dummy p ≡ false
+dummy_free : (lines : List AssembledLine) (p : ℕ) → is_placed lines part.Dummy p ≡ false
 dummy_free [] p = refl
 dummy_free (line ∷ before) p =
     ap (λ b. b && nat_le line.at.number p && nat_lt p (line.at.number + bytes_in line.outcome) || is_placed before part.Dummy p) (never line.at.part)
@@ -158,7 +158,7 @@ any_none : (f : ℕ → Bool) (from n : ℕ) → ((w : ℕ) → f w ≡ false) �
 any_none f from zero free = refl
 any_none f from (suc n) free = ap (λ b. b || any_from f (from + 1) n) (free from) ∙ any_none f (from + 1) n free
 
-pub nothing_overlaps : (lines : List Settled) (at : Part) (from n : ℕ) → at ≡ part.Dummy → any_from (is_placed lines at) from n ≡ false
+pub nothing_overlaps : (lines : List AssembledLine) (at : Part) (from n : ℕ) → at ≡ part.Dummy → any_from (is_placed lines at) from n ≡ false
 nothing_overlaps lines at from n e = ap (λ (found : Part). any_from (is_placed lines found) from n) e ∙ any_none (is_placed lines part.Dummy) from n (dummy_free lines)
 
 abbrev pub are_same : Part → Part → Type 0
@@ -179,7 +179,7 @@ part_placed part.Absolute b e = refl
 part_placed part.Dummy b e = cc e
 
 -- bytes that are laid behind lines
-module _ (references : List Reference) (earlier : List Settled) (line : Settled) (at : Location) (given : List Content) (is_at : line.at ≡ at) (is_given : is_placed_in at.part ≡ true → given ≡ contents references earlier line) (within : at.number + length given ≤ 65536) where
+module _ (references : List Reference) (earlier : List AssembledLine) (line : AssembledLine) (at : Location) (given : List Content) (is_at : line.at ≡ at) (is_given : is_placed_in at.part ≡ true → given ≡ contents references earlier line) (within : at.number + length given ≤ 65536) where
   size_is : is_placed_in at.part ≡ true → length given ≡ bytes_in line.outcome
   size_is placed = ap length (is_given placed) ∙ contents_length line.at (references_of references earlier) line.outcome
 

@@ -9,14 +9,14 @@ use Rattle.asm_defs.specs.declared.content.Content.{Content}
 use Rattle.asm_defs.specs.declared.location.Location.{Location}
 use Rattle.asm_defs.specs.declared.location.Part.{Part}
 use Rattle.asm_defs.specs.declared.location.Part.TheVariants as part
-use Rattle.asm_defs.specs.Memory.{Settled, contents, same_part, is_placed_in, word_count, overlaps}
+use Rattle.asm_defs.specs.Memory.{AssembledLine, contents, same_part, is_placed_in, word_count, overlaps}
 use Rattle.asm_defs.specs.Modules.{with_room}
 use Rattle.module_image.specs.Images.{IsImage, IsLaid, any_in, any_laid}
 use Rattle.module_image.specs.declared.image.Image.{Image}
 use Rattle.module_image.proofs.HoldingLaws.{part_holds, any_there, any_nowhere, words_are}
 
-module _ (earlier : List Settled) (line : Settled) where
-  abbrev room_by : Bool → Bool → Result Settled AsmCause
+module _ (earlier : List AssembledLine) (line : AssembledLine) where
+  abbrev room_by : Bool → Bool → Result AssembledLine AsmCause
   room_by full overlap = if full then Err Overflow else if overlap then Err Overlap else Ok line
 
   pub is_full : 32768 < word_count (line ∷ earlier) → with_room earlier line ≡ Err Overflow
@@ -34,7 +34,7 @@ module _ (earlier : List Settled) (line : Settled) where
   has_room le over = ap (λ b. room_by b (overlaps earlier line)) (fits le) ∙ ap (room_by false) over
 
 -- the words of both tables are those of the lines
-pub words_counted : (references : List Reference) (lines : List Settled) (image : Image) → IsImage references lines image
+pub words_counted : (references : List Reference) (lines : List AssembledLine) (image : Image) → IsImage references lines image
     → word_count lines ≡ image.relocatable.words + image.absolute.words
 words_counted references lines image is =
     omega (
@@ -45,7 +45,7 @@ words_counted references lines image is =
       image.absolute.counted,
     )
 
-module _ (references : List Reference) (earlier : List Settled) (line : Settled) (at : Location) (given : List Content) (old : Image) (is : IsImage references earlier old) (is_at : line.at ≡ at) (is_given : is_placed_in at.part ≡ true → given ≡ contents references earlier line) (within : at.number + length given ≤ 65536) where
+module _ (references : List Reference) (earlier : List AssembledLine) (line : AssembledLine) (at : Location) (given : List Content) (old : Image) (is : IsImage references earlier old) (is_at : line.at ≡ at) (is_given : is_placed_in at.part ≡ true → given ≡ contents references earlier line) (within : at.number + length given ≤ 65536) where
   pub image_behind : (new : Image) → IsLaid at given old new → IsImage references (line ∷ earlier) new
   image_behind new laid = record {
     relocatable = part_holds references earlier line at given is_at is_given within part.Relocatable (same_part at.part part.Relocatable)

@@ -17,7 +17,7 @@ use Rattle.asm_defs.specs.declared.location.Part.{Part}
 use Rattle.asm_defs.specs.declared.location.Part.TheVariants as part
 use Rattle.asm_defs.specs.declared.location.Location.{Location}
 use Rattle.asm_defs.specs.SecondChecks.{Outcome, Nothing, Words, Bytes, Entry}
-use Rattle.asm_defs.specs.Memory.{Settled, same_part, covers, is_placed, has_word, words_in, word_count, overlaps, any_from, part_words, bytes_in}
+use Rattle.asm_defs.specs.Memory.{AssembledLine, same_part, covers, is_placed, has_word, words_in, word_count, overlaps, any_from, part_words, bytes_in}
 use Rattle.asm_defs.specs.Memory.{spot_by, word_of, behind_word, contents_by, contents, content_at, references_of, behind_by}
 use Rattle.asm_defs.specs.Memory.{is_placed_in}
 use Rattle.asm_defs.proofs.PlacedWords.{word_contents, behind_words}
@@ -88,8 +88,8 @@ enters_none entry (Words words) own = refl
 enters_none entry (Bytes bytes) own = refl
 enters_none entry (Entry found) own = cc own
 
-module _ (first second : List Settled) (same : SamePlaces first second) where
-  pub same_behind : (line : Settled) → SamePlaces (line ∷ first) (line ∷ second)
+module _ (first second : List AssembledLine) (same : SamePlaces first second) where
+  pub same_behind : (line : AssembledLine) → SamePlaces (line ∷ first) (line ∷ second)
   same_behind line part p = ap (λ b. covers line part p || b) (same part p)
 
   word_same : (part : Part) (w : ℕ) → has_word first part w ≡ has_word second part w
@@ -104,16 +104,16 @@ module _ (first second : List Settled) (same : SamePlaces first second) where
       ap (λ count. count + words_in first part.Absolute) (words_same part.Relocatable)
       ∙ ap (λ count. words_in second part.Relocatable + count) (words_same part.Absolute)
 
-abbrev room_of : ℕ → Bool → Settled → Result Settled AsmCause
+abbrev room_of : ℕ → Bool → AssembledLine → Result AssembledLine AsmCause
 room_of count overlap line = if nat_lt 32768 count then Err Overflow else if overlap then Err Overlap else Ok line
 
-pub room_same : (first second : List Settled) → SamePlaces first second → (line : Settled) → with_room first line ≡ with_room second line
+pub room_same : (first second : List AssembledLine) → SamePlaces first second → (line : AssembledLine) → with_room first line ≡ with_room second line
 room_same first second same line =
     ap (λ count. room_of count (overlaps first line) line) (count_is (line ∷ first) (line ∷ second) (same_behind first second same line))
     ∙ ap (λ b. room_of (word_count (line ∷ second)) b line)
     (any_same (is_placed first line.at.part) (is_placed second line.at.part) line.at.number (bytes_in line.outcome) (λ p. same line.at.part p))
 
-pub stand_same : (first second lines : List Settled) → SamePlaces first second → AllStand first lines → AllStand second lines
+pub stand_same : (first second lines : List AssembledLine) → SamePlaces first second → AllStand first lines → AllStand second lines
 stand_same first second [] same all = tt
 stand_same first second (line ∷ lines) same all = (
   record { room = sym (room_same first second same line) ∙ all.0.room; stands = all.0.stands },
@@ -121,7 +121,7 @@ stand_same first second (line ∷ lines) same all = (
 )
 
 -- a line that has room overlaps no other
-room_apart : (full overlap : Bool) (line : Settled) → (if full then Err Overflow else if overlap then Err Overlap else Ok line) ≡ Ok line → overlap ≡ false
+room_apart : (full overlap : Bool) (line : AssembledLine) → (if full then Err Overflow else if overlap then Err Overlap else Ok line) ≡ Ok line → overlap ≡ false
 room_apart true overlap line e = cc e
 room_apart false true line e = cc e
 room_apart false false line e = refl
@@ -144,7 +144,7 @@ each_free f from (suc n) p free ge lt =
     let parts = left_free (f from) (any_from f (from + 1) n) free in
     free_by f from p (nat_lt from p) refl ge parts.0 (λ later. each_free f (from + 1) n p parts.1 later (omega (arith, lt)))
 
-module _ (references : List Reference) (done : List Settled) (held line : Settled) (fills : FillsPlace held line) where
+module _ (references : List Reference) (done : List AssembledLine) (held line : AssembledLine) (fills : FillsPlace held line) where
   pub covers_same : (part : Part) (p : ℕ) → covers held part p ≡ covers line part p
   covers_same part p =
       ap (λ (at : Location). same_part at.part part && nat_le at.number p && nat_lt p (at.number + bytes_in held.outcome)) (sym fills.at)
@@ -157,10 +157,10 @@ module _ (references : List Reference) (done : List Settled) (held line : Settle
   abbrev new_at : Part → ℕ → Option Content → Option Content
   new_at part p other = if covers line part p then slice_get (contents references done line) (p - line.at.number) else other
 
-  abbrev IsSwapped : List Settled → List Settled → Type 0
+  abbrev IsSwapped : List AssembledLine → List AssembledLine → Type 0
   IsSwapped old new = (part : Part) (p : ℕ) → content_at references new part p ≡ new_at part p (content_at references old part p)
 
-  abbrev Has : List Settled → Type 0
+  abbrev Has : List AssembledLine → Type 0
   Has old = (part : Part) (p : ℕ) → covers held part p ≡ true → is_placed old part p ≡ true
 
   first_by : (part : Part) (p : ℕ) (b : Bool) → covers line part p ≡ b
@@ -171,7 +171,7 @@ module _ (references : List Reference) (done : List Settled) (held line : Settle
       ∙ (sym (chosen (covers held part p) false (slice_get (contents references done held) (p - held.at.number)) (content_at references done part p) (covers_same part p ∙ e))
       ∙ sym (chosen (covers line part p) false (slice_get (contents references done line) (p - line.at.number)) (content_at references (held ∷ done) part p) e))
 
-  module _ (old new : List Settled) (swapped : IsSwapped old new) (has : Has old) (found : Settled) (behind_it : StandsBehind old found) where
+  module _ (old new : List AssembledLine) (swapped : IsSwapped old new) (has : Has old) (found : AssembledLine) (behind_it : StandsBehind old found) where
     free : overlaps old found ≡ false
     free = room_apart (nat_lt 32768 (word_count (found ∷ old))) (overlaps old found) found behind_it.room
 
@@ -206,7 +206,7 @@ module _ (references : List Reference) (done : List Settled) (held line : Settle
   right_true true b e = refl
   right_true false b e = e
 
-  all_swapped : (old new founds : List Settled) → IsSwapped old new → Has old → AllStand old founds → IsSwapped (onto old founds) (onto new founds)
+  all_swapped : (old new founds : List AssembledLine) → IsSwapped old new → Has old → AllStand old founds → IsSwapped (onto old founds) (onto new founds)
   all_swapped old new [] swapped has all = swapped
   all_swapped old new (found ∷ founds) swapped has all =
       all_swapped (found ∷ old) (found ∷ new) founds (λ part p. next_by old new swapped has found all.0 part p (covers found part p) refl)
@@ -215,12 +215,12 @@ module _ (references : List Reference) (done : List Settled) (held line : Settle
   left_true : (a b : Bool) → a ≡ true → (a || b) ≡ true
   left_true a b e = ap (λ c. c || b) e
 
-  swapped : (founds : List Settled) → AllStand (held ∷ done) founds → IsSwapped (onto (held ∷ done) founds) (onto (line ∷ done) founds)
+  swapped : (founds : List AssembledLine) → AllStand (held ∷ done) founds → IsSwapped (onto (held ∷ done) founds) (onto (line ∷ done) founds)
   swapped founds all =
       all_swapped (held ∷ done) (line ∷ done) founds (λ part p. first_by part p (covers line part p) refl)
       (λ part p there. left_true (covers held part p) (is_placed done part p) there) all
 
-  module _ (founds : List Settled) (all : AllStand (held ∷ done) founds) (given : List Content) (is_given : is_placed_in line.at.part ≡ true → given ≡ contents references done line) (within : line.at.number + length given ≤ 65536) where
+  module _ (founds : List AssembledLine) (all : AllStand (held ∷ done) founds) (given : List Content) (is_given : is_placed_in line.at.part ≡ true → given ≡ contents references done line) (within : line.at.number + length given ≤ 65536) where
     part_filled : (part : Part) (b : Bool) (old new : List (Option Content)) → same_part line.at.part part ≡ b → length old ≡ 65536
         → ((p : ℕ) → cell old p ≡ content_at references (onto (held ∷ done) founds) part p)
         → new ≡ (if b then put_from old line.at.number given else old)
@@ -253,19 +253,19 @@ module _ (references : List Reference) (done : List Settled) (held line : Settle
           old.absolute.size is.absolute laid.absolute;
     }
 
-pub onto_same : (first second lines : List Settled) → SamePlaces first second → SamePlaces (onto first lines) (onto second lines)
+pub onto_same : (first second lines : List AssembledLine) → SamePlaces first second → SamePlaces (onto first lines) (onto second lines)
 onto_same first second [] same = same
 onto_same first second (line ∷ lines) same = onto_same (line ∷ first) (line ∷ second) lines (same_behind first second same line)
 
 -- whether a line has room where a place was held for it
-filled_by : (full overlap : Bool) (held line : Settled)
+filled_by : (full overlap : Bool) (held line : AssembledLine)
     → (if full then Err Overflow else if overlap then Err Overlap else Ok line)
     ≡ ((if full then Err Overflow else if overlap then Err Overlap else Ok held) >>= λ held. Ok line)
 filled_by true overlap held line = refl
 filled_by false true held line = refl
 filled_by false false held line = refl
 
-module _ (done : List Settled) (held line : Settled) (fills : FillsPlace held line) where
+module _ (done : List AssembledLine) (held line : AssembledLine) (fills : FillsPlace held line) where
   over_same : overlaps done line ≡ overlaps done held
   over_same =
       ap (λ (at : Location). any_from (is_placed done at.part) at.number (bytes_in line.outcome)) fills.at
@@ -281,20 +281,20 @@ module _ (done : List Settled) (held line : Settled) (fills : FillsPlace held li
 abbrev pub are_causes : AsmCause → AsmCause → Type 0
 are_causes a b = a ≡ b
 
-room_refused : (full overlap : Bool) (line : Settled) (cause : AsmCause) → (if full then Err Overflow else if overlap then Err Overlap else Ok line) ≡ Err cause
+room_refused : (full overlap : Bool) (line : AssembledLine) (cause : AsmCause) → (if full then Err Overflow else if overlap then Err Overlap else Ok line) ≡ Err cause
     → are_causes Overflow cause ⊎ are_causes Overlap cause
 room_refused true overlap line cause e = inl (cc e)
 room_refused false true line cause e = inr (cc e)
 room_refused false false line cause e = cc e
 
-pub no_room : (earlier : List Settled) (line : Settled) (cause : AsmCause) → with_room earlier line ≡ Err cause → are_causes Overflow cause ⊎ are_causes Overlap cause
+pub no_room : (earlier : List AssembledLine) (line : AssembledLine) (cause : AsmCause) → with_room earlier line ≡ Err cause → are_causes Overflow cause ⊎ are_causes Overlap cause
 no_room earlier line cause e = room_refused (nat_lt 32768 (word_count (line ∷ earlier))) (overlaps earlier line) line cause e
 
-room_is : (full overlap : Bool) (line found : Settled) → (if full then Err Overflow else if overlap then Err Overlap else Ok line) ≡ Ok found → line ≡ found
+room_is : (full overlap : Bool) (line found : AssembledLine) → (if full then Err Overflow else if overlap then Err Overlap else Ok line) ≡ Ok found → line ≡ found
 room_is true overlap line found e = cc e
 room_is false true line found e = cc e
 room_is false false line found e = cc e
 
-pub has_own_room : (earlier : List Settled) (line found : Settled) → with_room earlier line ≡ Ok found → with_room earlier line ≡ Ok line
+pub has_own_room : (earlier : List AssembledLine) (line found : AssembledLine) → with_room earlier line ≡ Ok found → with_room earlier line ≡ Ok line
 has_own_room earlier line found e =
     e ∙ ap Ok (sym (room_is (nat_lt 32768 (word_count (line ∷ earlier))) (overlaps earlier line) line found e))

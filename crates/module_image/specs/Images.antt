@@ -7,7 +7,7 @@ use Rattle.asm_defs.specs.declared.content.Content.{Content}
 use Rattle.asm_defs.specs.declared.location.Location.{Location}
 use Rattle.asm_defs.specs.declared.location.Part.{Part}
 use Rattle.asm_defs.specs.declared.location.Part.TheVariants as part
-use Rattle.asm_defs.specs.Memory.{Settled, contents, same_part, is_placed_in, any_from}
+use Rattle.asm_defs.specs.Memory.{AssembledLine, contents, same_part, is_placed_in, any_from}
 use Rattle.asm_defs.specs.Modules.{with_room}
 use Rattle.module_image.specs.Tables.{cell, put_from, is_taken}
 use Rattle.module_image.specs.Holding.{Holds}
@@ -19,7 +19,7 @@ pub record IsEmpty (image : Image) : Type 0 where
   pub absolute : (p : ℕ) → cell image.absolute.cells.items p ≡ None
 
 -- the lines' bytes, by the names of REF before their first use
-pub record IsImage (references : List Reference) (lines : List Settled) (image : Image) : Type 0 where
+pub record IsImage (references : List Reference) (lines : List AssembledLine) (image : Image) : Type 0 where
   pub relocatable : Holds references lines part.Relocatable image.relocatable
   pub absolute : Holds references lines part.Absolute image.absolute
 
@@ -41,13 +41,13 @@ abbrev pub any_laid : Image → Location → ℕ → Bool
 any_laid image at count = any_in at.part image at.number count
 
 -- a line was placed after others, and whether it has room
-pub record IsPlacedBehind {A : Type 0} (references : List Reference) (earlier : List Settled) (line : Settled)
+pub record IsPlacedBehind {A : Type 0} (references : List Reference) (earlier : List AssembledLine) (line : AssembledLine)
     (result : Result A AsmCause) (new : Image) : Type 0 where
   pub room : map_ok (λ _. line) result ≡ with_room earlier line
   pub image : IsImage references (line ∷ earlier) new
 
 -- so it is where its bytes were given
-abbrev pub Places : {A : Type 0} → List Reference → List Settled → Settled → Location → List Content
+abbrev pub Places : {A : Type 0} → List Reference → List AssembledLine → AssembledLine → Location → List Content
     → Result A AsmCause → Image → Image → Type 0
 Places references earlier line at given result old new =
     IsImage references earlier old → line.at ≡ at

@@ -38,7 +38,7 @@ impl Image {
     /// one was placed there before.
     pub fn place(&mut self, at: Location, contents: &[Content]) -> Result<(), AsmCause>
         requires { at.number + length contents.now ≤ 65536 }
-        ensures { (references : List Reference) (earlier : List spec.Settled) (line : spec.Settled) →
+        ensures { (references : List Reference) (earlier : List spec.AssembledLine) (line : spec.AssembledLine) →
             Places references earlier line at contents.now result self.old self.new }
     {
         let overlaps = self.has_any(at, contents.len());

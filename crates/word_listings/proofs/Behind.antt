@@ -9,7 +9,7 @@ use Rattle.source_defs.specs.ListedLines.{listed}
 use Rattle.expression_defs.specs.Expression.{Absolute}
 use Rattle.expression_defs.specs.Symbols.{predefined}
 use Rattle.source_defs.specs.Lines.{numbered}
-use Rattle.expression_defs.specs.Layout.{laid_behind, settled}
+use Rattle.expression_defs.specs.Layout.{laid_behind, assembled_lines}
 use Rattle.object_defs.specs.Digits.{padded}
 use Rattle.object_defs.specs.Modules.{Module}
 use Rattle.asm_defs.specs.declared.causes.AsmCause.{AsmCause}
@@ -20,8 +20,8 @@ use Rattle.asm_defs.specs.Statements.{statement_in}
 use Rattle.asm_defs.specs.Locations.{Line, location, place, reached, relocatable, behind, value_of}
 use Rattle.asm_defs.specs.FirstChecks.{EarlierLines, Checked, parsed, moved, checked, check, known_of, line_of, names, refs, defs}
 use Rattle.asm_defs.specs.SecondChecks.{Outcome, Words}
-use Rattle.asm_defs.specs.Memory.{Settled}
-use Rattle.asm_defs.specs.Modules.{settle, settle_at, with_room, module_by, title, entry}
+use Rattle.asm_defs.specs.Memory.{AssembledLine}
+use Rattle.asm_defs.specs.Modules.{assembled_line, assembled_at, with_room, module_by, title, entry}
 use Rattle.line_laws.specs.KnownLines.{numbers_of, is_at}
 use Rattle.source_defs.specs.OperandLists.{is_empty}
 use Rattle.line_laws.proofs.PlacedWords.{HoldWords, ComesNext, hold_more}
@@ -55,7 +55,7 @@ pub record Taken (before : List Line) (number : ℕ) (text : List ℕ) (at next 
   pub last_is : line.last ≡ last
   pub number_is : line.number ≡ number
   pub stands : Stands (line ∷ before) next
-  pub settle_is : (earlier : List Settled) → settle predefined before earlier line
+  pub assemble_is : (earlier : List AssembledLine) → assembled_line predefined before earlier line
       ≡ (answer >>= λ found. with_room earlier (record { at = absolute_at at; outcome = found }))
 
 -- a line by itself is let through behind others
@@ -106,27 +106,27 @@ module _ (at : ℕ) (text : List ℕ) (size : ℕ) (last : Bool) (answer : Resul
         reached_is = ap (λ here. max (reached before) (relocatable here)) location_next ∙ ap (λ n. max n 0) stands.reached_is;
         title_is = back.own.title_kept (title before) ∙ stands.title_is;
       };
-      settle_is = λ earlier.
-          ap (λ place. settle_at predefined place back.statement earlier) place_is
+      assemble_is = λ earlier.
+          ap (λ place. assembled_at predefined place back.statement earlier) place_is
           ∙ ap (λ answer. answer >>= λ found. with_room earlier (record { at = absolute_at at; outcome = found })) back.comes;
     }
 
 -- ---- what the lines come to
 
-pub record Holds (before : List Line) (earlier : List Settled) (from : ℕ) (words : List ℕ) : Type 0 where
-  pub settled_are : settled (settle predefined) before ≡ Ok earlier
+pub record Holds (before : List Line) (earlier : List AssembledLine) (from : ℕ) (words : List ℕ) : Type 0 where
+  pub assembled_are : assembled_lines (assembled_line predefined) before ≡ Ok earlier
   pub hold : HoldWords [] earlier from words
   pub entry_is : entry earlier ≡ None
 
 abbrev pub Fails : List Line → Refusal AsmCause → Type 0
-Fails before refusal = settled (settle predefined) before ≡ Err refusal
+Fails before refusal = assembled_lines (assembled_line predefined) before ≡ Err refusal
 
 pub fails_still : (line : Line) (before : List Line) (refusal : Refusal AsmCause) → Fails before refusal → Fails (line ∷ before) refusal
 fails_still line before refusal e = rw e refl
 
 -- what lines come to: words that stand one behind the other from a place on, or a refusal
 abbrev pub Comes : List Line → ℕ → Result (List ℕ) (Refusal AsmCause) → Type 0
-Comes before from (Ok words) = (earlier : List Settled) × Holds before earlier from words
+Comes before from (Ok words) = (earlier : List AssembledLine) × Holds before earlier from words
 Comes before from (Err refusal) = Fails before refusal
 
 -- lines behind others, to the last
@@ -134,11 +134,11 @@ pub record Ends (before : List Line) (number : ℕ) (texts : List (List ℕ)) (a
   pub all : List Line
   pub laid_is : laid_behind check before (numbered number (map listed texts)) ≡ Ok all
   pub names_are : names all ≡ predefined
-  pub module_is : (settled (settle predefined) all >>= λ found. Ok (module_by all found)) ≡ answer
+  pub module_is : (assembled_lines (assembled_line predefined) all >>= λ found. Ok (module_by all found)) ≡ answer
 
 pub ends_last : (before : List Line) (number : ℕ) (text : List ℕ) (at next : ℕ) (come : Result Outcome AsmCause) (answer : Result Module (Refusal AsmCause))
     (taken : Taken before number text at next true come)
-    → (settled (settle predefined) (taken.line ∷ before) >>= λ found. Ok (module_by (taken.line ∷ before) found)) ≡ answer
+    → (assembled_lines (assembled_line predefined) (taken.line ∷ before) >>= λ found. Ok (module_by (taken.line ∷ before) found)) ≡ answer
     → Ends before number (text ∷ []) answer
 ends_last before number text at next come answer taken is = record {
   all = taken.line ∷ before;
@@ -160,32 +160,32 @@ ends_more before number text texts at next come answer taken ends = record {
 }
 
 -- a line that is refused
-pub fails_now : (before : List Line) (number : ℕ) (text : List ℕ) (at next : ℕ) (last : Bool) (cause : AsmCause) (earlier : List Settled)
-    (taken : Taken before number text at next last (Err cause)) → settled (settle predefined) before ≡ Ok earlier
+pub fails_now : (before : List Line) (number : ℕ) (text : List ℕ) (at next : ℕ) (last : Bool) (cause : AsmCause) (earlier : List AssembledLine)
+    (taken : Taken before number text at next last (Err cause)) → assembled_lines (assembled_line predefined) before ≡ Ok earlier
     → Fails (taken.line ∷ before) (record { line = number; cause = cause })
 fails_now before number text at next last cause earlier taken is =
-    rw (is, taken.settle_is earlier) (ap (λ number. Err (record { line = number; cause = cause })) taken.number_is)
+    rw (is, taken.assemble_is earlier) (ap (λ number. Err (record { line = number; cause = cause })) taken.number_is)
 
 -- a line that places something
-pub settles_now : (before : List Line) (number : ℕ) (text : List ℕ) (at next : ℕ) (last : Bool) (found : Outcome) (earlier : List Settled)
-    (taken : Taken before number text at next last (Ok found)) → settled (settle predefined) before ≡ Ok earlier
+pub assembles_now : (before : List Line) (number : ℕ) (text : List ℕ) (at next : ℕ) (last : Bool) (found : Outcome) (earlier : List AssembledLine)
+    (taken : Taken before number text at next last (Ok found)) → assembled_lines (assembled_line predefined) before ≡ Ok earlier
     → with_room earlier (record { at = absolute_at at; outcome = found }) ≡ Ok (record { at = absolute_at at; outcome = found })
-    → settled (settle predefined) (taken.line ∷ before) ≡ Ok (record { at = absolute_at at; outcome = found } ∷ earlier)
-settles_now before number text at next last found earlier taken is room = rw (is, taken.settle_is earlier, room) refl
+    → assembled_lines (assembled_line predefined) (taken.line ∷ before) ≡ Ok (record { at = absolute_at at; outcome = found } ∷ earlier)
+assembles_now before number text at next last found earlier taken is room = rw (is, taken.assemble_is earlier, room) refl
 
 numbers_back : (words : List ℕ) → numbers_of (map Absolute words) ≡ Some words
 numbers_back [] = refl
 numbers_back (word ∷ words) = ap (option_map (λ numbers. word ∷ numbers)) (numbers_back words)
 
 -- a line of words that come next
-pub holds_next : (before : List Line) (number : ℕ) (text : List ℕ) (at next : ℕ) (more : List ℕ) (earlier : List Settled) (from : ℕ) (words : List ℕ)
+pub holds_next : (before : List Line) (number : ℕ) (text : List ℕ) (at next : ℕ) (more : List ℕ) (earlier : List AssembledLine) (from : ℕ) (words : List ℕ)
     (taken : Taken before number text at next false (Ok (Words (map Absolute more)))) → Holds before earlier from words → at ≡ from + 2 * length words
     → Holds (taken.line ∷ before) (record { at = absolute_at at; outcome = Words (map Absolute more) } ∷ earlier) from (words ++ more)
 holds_next before number text at next more earlier from words taken holds there =
-    let line : Settled = record { at = absolute_at at; outcome = Words (map Absolute more) } in
+    let line : AssembledLine = record { at = absolute_at at; outcome = Words (map Absolute more) } in
     let comes : ComesNext line (from + 2 * length words) more = record { words = numbers_back more; place = here_next more } in
     record {
-      settled_are = settles_now before number text at next false (Words (map Absolute more)) earlier taken holds.settled_are
+      assembled_are = assembles_now before number text at next false (Words (map Absolute more)) earlier taken holds.assembled_are
           (has_room earlier line from words more holds.hold comes);
       hold = hold_more line (from + 2 * length words) more comes [] earlier from words refl holds.hold;
       entry_is = holds.entry_is;
@@ -212,7 +212,7 @@ module _ (from : ℕ) (total : List ℕ) (tails : List (List ℕ)) (whole : Modu
   abbrev pub Closes : Type 0
   Closes =
       (before : List Line) (number : ℕ) → Stands before end →
-      ((earlier : List Settled) → Holds before earlier from total → Ends before number tails (Ok whole))
+      ((earlier : List AssembledLine) → Holds before earlier from total → Ends before number tails (Ok whole))
       × ((refusal : Refusal AsmCause) → Fails before refusal → Ends before number tails (Err refusal))
 
   -- words and those that are left are all of them, and these stand from a place on
@@ -269,7 +269,7 @@ module _ (from : ℕ) (total : List ℕ) (tails : List (List ℕ)) (whole : Modu
           let within = counts.within in
           let line = taken at text (2 * count) false _ back (omega (arith, size, below, within)) before stands number in
           go_on line (Err (record { line = number; cause = Form JumpTooFar })) counts
-          (fails_now before number text at (at + 2 * count) false (Form JumpTooFar) comes.0 line comes.1.settled_are) tt
+          (fails_now before number text at (at + 2 * count) false (Form JumpTooFar) comes.0 line comes.1.assembled_are) tt
       goes_by false back counts (Ok held) comes all =
           let within = counts.within in
           let line = taken at text (2 * count) false _ back (omega (arith, size, below, within)) before stands number in

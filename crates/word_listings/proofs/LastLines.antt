@@ -6,7 +6,7 @@ use Rattle.std.specs.Prelude.{Err, ◌||◌, map, nat_le, nat_lt, slice_get, cod
 use Rattle.std.proofs.lemmas.Bool.Decides.{nat_tests}
 use Rattle.source_defs.specs.Refusals.{Refusal, ◌>>=◌}
 use Rattle.source_defs.specs.Digits.{hex_byte}
-use Rattle.expression_defs.specs.Layout.{settled}
+use Rattle.expression_defs.specs.Layout.{assembled_lines}
 use Rattle.expression_defs.specs.Symbols.{predefined}
 use Rattle.tms_defs.specs.Words.{join}
 use Rattle.object_defs.specs.declared.spot.Spot.{Spot}
@@ -22,8 +22,8 @@ use Rattle.asm_defs.specs.declared.location.Part.TheVariants as part
 use Rattle.asm_defs.specs.Locations.{Line}
 use Rattle.asm_defs.specs.FirstChecks.{names}
 use Rattle.asm_defs.specs.SecondChecks.{Bytes}
-use Rattle.asm_defs.specs.Memory.{Settled, covers, is_placed, bytes_in, any_from, content_at, pieces, pieces_at, pieces_from, part_words, word_count, references_of}
-use Rattle.asm_defs.specs.Modules.{settle, with_room, module_by, entry, entry_by, unused, definition_in}
+use Rattle.asm_defs.specs.Memory.{AssembledLine, covers, is_placed, bytes_in, any_from, content_at, pieces, pieces_at, pieces_from, part_words, word_count, references_of}
+use Rattle.asm_defs.specs.Modules.{assembled_line, with_room, module_by, entry, entry_by, unused, definition_in}
 use Rattle.line_laws.specs.KnownLines.{pieces_of}
 use Rattle.line_laws.proofs.PlacedWords.{HoldWords, content_of, few_words}
 use Rattle.line_laws.proofs.SecondChecks.{room_by}
@@ -31,10 +31,10 @@ use Rattle.line_laws.proofs.LinkedPieces.{pieces_held, pieces_there, pieces_spli
 use Rattle.line_laws.proofs.Whole.{not_covered, no_uses}
 use Rattle.line_laws.proofs.Small.{chosen}
 use Rattle.word_listings.proofs.LineBacks.{absolute_at, end_text, end_outcome, end_line, IsEntry, byte_line}
-use Rattle.word_listings.proofs.Behind.{Stands, Holds, Fails, taken, Ends, ends_last, ends_more, settles_now, fails_still}
+use Rattle.word_listings.proofs.Behind.{Stands, Holds, Fails, taken, Ends, ends_last, ends_more, assembles_now, fails_still}
 
 -- lines that hold some pieces and an entry, or none, and nothing else
-pub record Held (lines : List Settled) (held : List Piece) (entered : Option Spot) : Type 0 where
+pub record Held (lines : List AssembledLine) (held : List Piece) (entered : Option Spot) : Type 0 where
   pub pieces_are : pieces [] lines ≡ held
   pub none : (p : ℕ) → is_placed lines part.Relocatable p ≡ false
   pub entry_is : entry lines ≡ entered
@@ -49,8 +49,8 @@ same_pieces f g found first (suc n) same =
 
 -- END places nothing
 module _ (end : ℕ) (entered : Option ℕ) where
-  abbrev pub end_settled : Settled
-  end_settled = record { at = absolute_at end; outcome = end_outcome entered }
+  abbrev pub end_assembled : AssembledLine
+  end_assembled = record { at = absolute_at end; outcome = end_outcome entered }
 
   no_bytes : bytes_in (end_outcome entered) ≡ 0
   no_bytes = by entered
@@ -59,11 +59,11 @@ module _ (end : ℕ) (entered : Option ℕ) where
       by None = refl
       by (Some number) = refl
 
-  same_content : (lines : List Settled) (found : Part) (p : ℕ) → content_at [] (end_settled ∷ lines) found p ≡ content_at [] lines found p
-  same_content lines found p = chosen (covers end_settled found p) false _ _ (not_covered end_settled no_bytes found p)
+  same_content : (lines : List AssembledLine) (found : Part) (p : ℕ) → content_at [] (end_assembled ∷ lines) found p ≡ content_at [] lines found p
+  same_content lines found p = chosen (covers end_assembled found p) false _ _ (not_covered end_assembled no_bytes found p)
 
-  end_none : (lines : List Settled) (p : ℕ) → is_placed lines part.Relocatable p ≡ false → is_placed (end_settled ∷ lines) part.Relocatable p ≡ false
-  end_none lines p e = ap (λ b. b || is_placed lines part.Relocatable p) (not_covered end_settled no_bytes part.Relocatable p) ∙ e
+  end_none : (lines : List AssembledLine) (p : ℕ) → is_placed lines part.Relocatable p ≡ false → is_placed (end_assembled ∷ lines) part.Relocatable p ≡ false
+  end_none lines p e = ap (λ b. b || is_placed lines part.Relocatable p) (not_covered end_assembled no_bytes part.Relocatable p) ∙ e
 
   entry_held : (before : Option Spot) → before ≡ None → entry_by before (end_outcome entered) ≡ option_map spot.Absolute entered
   entry_held before none = by entered
@@ -72,10 +72,10 @@ module _ (end : ℕ) (entered : Option ℕ) where
       by None = none
       by (Some number) = refl
 
-  pub end_held : (lines : List Settled) (held : List Piece) → Held lines held None → Held (end_settled ∷ lines) held (option_map spot.Absolute entered)
+  pub end_held : (lines : List AssembledLine) (held : List Piece) → Held lines held None → Held (end_assembled ∷ lines) held (option_map spot.Absolute entered)
   end_held lines held is = record {
     pieces_are =
-        ap (λ pieces. pieces ++ pieces_from (content_at [] (end_settled ∷ lines) part.Absolute) part.Absolute 0 part_words)
+        ap (λ pieces. pieces ++ pieces_from (content_at [] (end_assembled ∷ lines) part.Absolute) part.Absolute 0 part_words)
         (same_pieces _ _ part.Relocatable 0 part_words (λ p le lt. same_content lines part.Relocatable p))
         ∙ (ap (λ rest. pieces_from (content_at [] lines part.Relocatable) part.Relocatable 0 part_words ++ rest)
         (same_pieces _ _ part.Absolute 0 part_words (λ p le lt. same_content lines part.Absolute p))
@@ -84,13 +84,13 @@ module _ (end : ℕ) (entered : Option ℕ) where
     entry_is = entry_held (entry lines) is.entry_is;
   }
 
-  pub end_room : (lines : List Settled) (held : List Piece) → Held lines held None → with_room lines end_settled ≡ Ok end_settled
+  pub end_room : (lines : List AssembledLine) (held : List Piece) → Held lines held None → with_room lines end_assembled ≡ Ok end_assembled
   end_room lines held is =
-      let few = few_words (end_settled ∷ lines) (λ p. end_none lines p (is.none p)) in
-      let fits : nat_lt 32768 (word_count (end_settled ∷ lines)) ≡ false = grind (arith, nat_tests, few) in
-      room_by end_settled _ _ fits (ap (any_from (is_placed lines part.Absolute) end) no_bytes)
+      let few = few_words (end_assembled ∷ lines) (λ p. end_none lines p (is.none p)) in
+      let fits : nat_lt 32768 (word_count (end_assembled ∷ lines)) ≡ false = grind (arith, nat_tests, few) in
+      room_by end_assembled _ _ fits (ap (any_from (is_placed lines part.Absolute) end) no_bytes)
 
-pub words_held : (lines : List Settled) (half : ℕ) (words : List ℕ) → HoldWords [] lines (2 * half) words → entry lines ≡ None → half + length words ≤ 32768
+pub words_held : (lines : List AssembledLine) (half : ℕ) (words : List ℕ) → HoldWords [] lines (2 * half) words → entry lines ≡ None → half + length words ≤ 32768
     → Held lines (pieces_of (2 * half) words) None
 words_held lines half words hold none le = record { pieces_are = pieces_held lines half words hold le; none = hold.none; entry_is = none }
 
@@ -133,58 +133,58 @@ module _ (f : ℕ → Option Content) (a rest most : ℕ) (words : List ℕ) (by
       ∙ sym (pieces_append (2 * a) words (join byte 0) (2 * (a + length words)) (omega arith))))))))
 
 module _ (end byte : ℕ) where
-  abbrev pub byte_settled : Settled
-  byte_settled = record { at = absolute_at end; outcome = Bytes (byte ∷ []) }
+  abbrev pub byte_assembled : AssembledLine
+  byte_assembled = record { at = absolute_at end; outcome = Bytes (byte ∷ []) }
 
-  module _ (lines : List Settled) (half : ℕ) (words : List ℕ) (hold : HoldWords [] lines (2 * half) words) (there : end ≡ 2 * (half + length words)) where
-    covers_there : covers byte_settled part.Absolute end ≡ true
+  module _ (lines : List AssembledLine) (half : ℕ) (words : List ℕ) (hold : HoldWords [] lines (2 * half) words) (there : end ≡ 2 * (half + length words)) where
+    covers_there : covers byte_assembled part.Absolute end ≡ true
     covers_there = grind (arith, nat_tests)
 
-    covers_before : (p : ℕ) → p < end → covers byte_settled part.Absolute p ≡ false
+    covers_before : (p : ℕ) → p < end → covers byte_assembled part.Absolute p ≡ false
     covers_before p lt = let no : nat_le end p ≡ false = grind (arith, nat_tests, lt) in rw no refl
 
-    covers_behind : (p : ℕ) → end < p → covers byte_settled part.Absolute p ≡ false
+    covers_behind : (p : ℕ) → end < p → covers byte_assembled part.Absolute p ≡ false
     covers_behind p lt =
         let no : nat_lt p (end + 1) ≡ false = grind (arith, nat_tests, lt) in
         let yes : nat_le end p ≡ true = grind (arith, nat_tests, lt) in
         rw (no, yes) refl
 
-    byte_none : (p : ℕ) → is_placed (byte_settled ∷ lines) part.Relocatable p ≡ false
+    byte_none : (p : ℕ) → is_placed (byte_assembled ∷ lines) part.Relocatable p ≡ false
     byte_none p = hold.none p
 
-    content_there : content_at [] (byte_settled ∷ lines) part.Absolute end ≡ Some (content.Byte byte)
+    content_there : content_at [] (byte_assembled ∷ lines) part.Absolute end ≡ Some (content.Byte byte)
     content_there =
         let first : end - end ≡ 0 = omega arith in
-        chosen (covers byte_settled part.Absolute end) true _ _ covers_there ∙ ap (slice_get (content.Byte byte ∷ [])) first
+        chosen (covers byte_assembled part.Absolute end) true _ _ covers_there ∙ ap (slice_get (content.Byte byte ∷ [])) first
 
-    content_before : (p : ℕ) → p < end → content_at [] (byte_settled ∷ lines) part.Absolute p ≡ content_of (2 * half) words p
-    content_before p lt = chosen (covers byte_settled part.Absolute p) false _ _ (covers_before p lt) ∙ hold.absolute p
+    content_before : (p : ℕ) → p < end → content_at [] (byte_assembled ∷ lines) part.Absolute p ≡ content_of (2 * half) words p
+    content_before p lt = chosen (covers byte_assembled part.Absolute p) false _ _ (covers_before p lt) ∙ hold.absolute p
 
-    content_behind : (p : ℕ) → end < p → content_at [] (byte_settled ∷ lines) part.Absolute p ≡ None
+    content_behind : (p : ℕ) → end < p → content_at [] (byte_assembled ∷ lines) part.Absolute p ≡ None
     content_behind p lt =
-        chosen (covers byte_settled part.Absolute p) false _ _ (covers_behind p lt)
+        chosen (covers byte_assembled part.Absolute p) false _ _ (covers_behind p lt)
         ∙ (hold.absolute p ∙ content_none (2 * half) words p (omega (arith, there, lt)))
 
-    pub byte_held : entry lines ≡ None → half + length words < 32768 → Held (byte_settled ∷ lines) (pieces_of (2 * half) (words ++ join byte 0 ∷ [])) None
+    pub byte_held : entry lines ≡ None → half + length words < 32768 → Held (byte_assembled ∷ lines) (pieces_of (2 * half) (words ++ join byte 0 ∷ [])) None
     unfolding part_words
     byte_held none lt =
         let size : half + (length words + suc (32767 - (half + length words))) ≡ 32768 = omega (arith, lt) in
         record {
           pieces_are =
-              nothing_before _ _ (none_from (content_at [] (byte_settled ∷ lines) part.Relocatable) part.Relocatable 0 32768 (λ p from to. hold.relocatable p))
-              ∙ byte_pieces (content_at [] (byte_settled ∷ lines) part.Absolute) half (32767 - (half + length words)) 32768 words byte size
+              nothing_before _ _ (none_from (content_at [] (byte_assembled ∷ lines) part.Relocatable) part.Relocatable 0 32768 (λ p from to. hold.relocatable p))
+              ∙ byte_pieces (content_at [] (byte_assembled ∷ lines) part.Absolute) half (32767 - (half + length words)) 32768 words byte size
               (λ p lt. content_before p (omega (arith, lt, there)))
-              (subst (λ at. content_at [] (byte_settled ∷ lines) part.Absolute at ≡ Some (content.Byte byte)) there content_there)
+              (subst (λ at. content_at [] (byte_assembled ∷ lines) part.Absolute at ≡ Some (content.Byte byte)) there content_there)
               (λ p lt. content_behind p (omega (arith, lt, there)));
           none = byte_none;
           entry_is = none;
         }
 
-    pub byte_room : with_room lines byte_settled ≡ Ok byte_settled
+    pub byte_room : with_room lines byte_assembled ≡ Ok byte_assembled
     byte_room =
-        let few = few_words (byte_settled ∷ lines) byte_none in
-        let fits : nat_lt 32768 (word_count (byte_settled ∷ lines)) ≡ false = grind (arith, nat_tests, few) in
-        room_by byte_settled _ _ fits (ap (λ b. b || false) (hold.free end (omega (arith, there))))
+        let few = few_words (byte_assembled ∷ lines) byte_none in
+        let fits : nat_lt 32768 (word_count (byte_assembled ∷ lines)) ≡ false = grind (arith, nat_tests, few) in
+        room_by byte_assembled _ _ fits (ap (λ b. b || false) (hold.free end (omega (arith, there))))
 
 -- ---- the module
 
@@ -196,7 +196,7 @@ same_module n m s t p q d e r u x y a b c f g h = rw (a, b, c, f, g, h) refl
 abbrev pub module_with : List Piece → Option Spot → Module
 module_with held entered = record { name = padded 8 []; size = 0; pieces = held; defs = []; refs = []; entry = entered }
 
-module_is : (all : List Line) (at : ℕ) (lines : List Settled) (held : List Piece) (entered : Option Spot) → Stands all at → Held lines held entered
+module_is : (all : List Line) (at : ℕ) (lines : List AssembledLine) (held : List Piece) (entered : Option Spot) → Stands all at → Held lines held entered
     → module_by all lines ≡ module_with held entered
 module_is all at lines held entered stands is =
     same_module _ _ _ _ _ _ _ _ _ _ _ _ stands.title_is stands.reached_is
@@ -206,15 +206,15 @@ module_is all at lines held entered stands is =
 
 -- END behind lines that hold some pieces
 module _ (entered : Option ℕ) (is_entry : IsEntry entered) where
-  pub closes_end : (end : ℕ) (fits : end ≤ 65536) (before : List Line) (lines : List Settled) (number : ℕ) (held : List Piece) → Stands before end
-      → settled (settle predefined) before ≡ Ok lines → Held lines held None
+  pub closes_end : (end : ℕ) (fits : end ≤ 65536) (before : List Line) (lines : List AssembledLine) (number : ℕ) (held : List Piece) → Stands before end
+      → assembled_lines (assembled_line predefined) before ≡ Ok lines → Held lines held None
       → Ends before number (end_text entered ∷ []) (Ok (module_with held (option_map spot.Absolute entered)))
   closes_end end fits before lines number held stands are is =
       let line = taken end (end_text entered) 0 true _ (end_line end entered is_entry) (omega (arith, fits)) before stands number in
-      let now = settles_now before number (end_text entered) end (end + 0) true (end_outcome entered) lines line are (end_room end entered lines held is) in
+      let now = assembles_now before number (end_text entered) end (end + 0) true (end_outcome entered) lines line are (end_room end entered lines held is) in
       ends_last before number (end_text entered) end (end + 0) (Ok (end_outcome entered)) _ line
       (ap (λ answer. answer >>= λ found. Ok (module_by (line.line ∷ before) found)) now
-      ∙ ap Ok (module_is (line.line ∷ before) (end + 0) (end_settled end entered ∷ lines) held _ line.stands (end_held end entered lines held is)))
+      ∙ ap Ok (module_is (line.line ∷ before) (end + 0) (end_assembled end entered ∷ lines) held _ line.stands (end_held end entered lines held is)))
 
   pub breaks_end : (end : ℕ) (fits : end ≤ 65536) (before : List Line) (number : ℕ) (refusal : Refusal AsmCause) → Stands before end → Fails before refusal
       → Ends before number (end_text entered ∷ []) (Err refusal)
@@ -228,16 +228,16 @@ module _ (entered : Option ℕ) (is_entry : IsEntry entered) where
     abbrev byte_text : List ℕ
     byte_text = codes "BYTE " ++ hex_byte byte
 
-    pub closes_byte : (half : ℕ) (words : List ℕ) → end ≡ 2 * (half + length words) → (before : List Line) (lines : List Settled) (number : ℕ) → Stands before end
+    pub closes_byte : (half : ℕ) (words : List ℕ) → end ≡ 2 * (half + length words) → (before : List Line) (lines : List AssembledLine) (number : ℕ) → Stands before end
         → Holds before lines (2 * half) words
         → Ends before number (byte_text ∷ end_text entered ∷ [])
         (Ok (module_with (pieces_of (2 * half) (words ++ join byte 0 ∷ [])) (option_map spot.Absolute entered)))
     closes_byte half words there before lines number stands holds =
         let line = taken end byte_text 1 false _ (byte_line end byte small) (omega (arith, fits)) before stands number in
-        let now = settles_now before number byte_text end (end + 1) false (Bytes (byte ∷ [])) lines line holds.settled_are
+        let now = assembles_now before number byte_text end (end + 1) false (Bytes (byte ∷ [])) lines line holds.assembled_are
         (byte_room end byte lines half words holds.hold there) in
         ends_more before number _ _ _ _ _ _ line
-        (closes_end (end + 1) (omega (arith, fits)) (line.line ∷ before) (byte_settled end byte ∷ lines) (number + 1) _ line.stands now
+        (closes_end (end + 1) (omega (arith, fits)) (line.line ∷ before) (byte_assembled end byte ∷ lines) (number + 1) _ line.stands now
         (byte_held end byte lines half words holds.hold there holds.entry_is (omega (arith, there, fits))))
 
     pub breaks_byte : (before : List Line) (number : ℕ) (refusal : Refusal AsmCause) → Stands before end → Fails before refusal

@@ -10,7 +10,7 @@ use Rattle.source_defs.specs.Digits.{hex_word, hex_byte, word_digits}
 use Rattle.source_defs.specs.ListedLines.{listed, listing_line}
 use Rattle.source_defs.specs.Operands.{operand_texts}
 use Rattle.expression_defs.specs.Expression.{Relocatable}
-use Rattle.expression_defs.specs.Layout.{laid_behind, settled}
+use Rattle.expression_defs.specs.Layout.{laid_behind, assembled_lines}
 use Rattle.expression_defs.specs.Symbols.{predefined}
 use Rattle.tms_defs.specs.Words.{join}
 use Rattle.object_defs.specs.Digits.{padded}
@@ -23,7 +23,7 @@ use Rattle.asm_defs.specs.Statements.{Aorg, statement_in, Statement, operation_s
 use Rattle.asm_defs.specs.Locations.{Line, start}
 use Rattle.asm_defs.specs.FirstChecks.{Checked, parsed, moved, check, line_of, names, set_to, is_end}
 use Rattle.asm_defs.specs.SecondChecks.{Nothing, outcome, Outcome}
-use Rattle.asm_defs.specs.Modules.{settle, module_by, module_behind, module_of_source}
+use Rattle.asm_defs.specs.Modules.{assembled_line, module_by, module_behind, module_of_source}
 use Rattle.line_laws.proofs.PlacedWords.{HoldWords}
 use Rattle.line_laws.proofs.Whole.{none_by, room_still, hold_still}
 use Rattle.word_listings.specs.Listing.{memory_listing, words_in, lines_from, word_lines, odd_byte_lines}
@@ -104,7 +104,7 @@ module _ (at : ℕ) (inside : at < 65536) where
   aorg_holds : (half : ℕ) → Holds (aorg_line ∷ []) (record { at = start; outcome = Nothing } ∷ []) (2 * half) []
   unfolding outcome
   aorg_holds half = record {
-    settled_are = rw (room_still (record { at = start; outcome = Nothing }) refl [] (2 * half) [] (hold_none half)) refl;
+    assembled_are = rw (room_still (record { at = start; outcome = Nothing }) refl [] (2 * half) [] (hold_none half)) refl;
     hold = hold_still (record { at = start; outcome = Nothing }) refl [] (2 * half) [] (hold_none half);
     entry_is = refl;
   }
@@ -182,7 +182,7 @@ module _ (half : ℕ) (bytes : List ℕ) (entered : Option ℕ) (all : AllBytes 
       (unless_far (first_wrapping 2 (2 * half) words) (module_of_words (2 * half) found entered))) (sym padded)
       (all_go (end_text entered ∷ []) (module_of_words (2 * half) words entered) below
       (λ before number stands. (
-        λ earlier holds. closes_end entered is_entry (2 * half + 2 * length words) below before earlier number _ stands holds.settled_are
+        λ earlier holds. closes_end entered is_entry (2 * half + 2 * length words) below before earlier number _ stands holds.assembled_are
             (words_held earlier half words holds.hold holds.entry_is (omega (arith, below))),
         λ refusal fails. breaks_end entered is_entry (2 * half + 2 * length words) below before number refusal stands fails,
       ))))
@@ -268,9 +268,9 @@ listing_is at bytes end =
     ap (λ lines. listing_line (codes "AORG " ++ hex_word at) ∷ lines) body
 
 pub behind_laid : (all : List Line) (come : Result Module (Refusal AsmCause)) → names all ≡ predefined
-    → (settled (settle predefined) all >>= λ found. Ok (module_by all found)) ≡ come → module_behind all ≡ come
+    → (assembled_lines (assembled_line predefined) all >>= λ found. Ok (module_by all found)) ≡ come → module_behind all ≡ come
 behind_laid all come names is =
-    ap (λ known. settled (settle known) all >>= λ found. Ok (module_by all found)) names ∙ is
+    ap (λ known. assembled_lines (assembled_line known) all >>= λ found. Ok (module_by all found)) names ∙ is
 
 -- the module of a source whose lines are let through to the last
 source_is : (texts : List (List ℕ)) (answer : Result Module (Refusal AsmCause)) → Ends [] 1 texts answer → list_all (λ line. list_all in_line line) (map listed texts) ≡ true

@@ -31,4 +31,4 @@ returns-clause-gives c = λ lines is.
     (λ founds image. subst (λ (names : List (List ℕ)). IsOutput (map unused names) [] founds c.in_ok-output.output) is.refs
     (c.in_ok-output.ensures.output founds image))
     (model_of_module c.in_ok-module.module)
-    (λ settled knows. c.in_ok-module.ensures lines settled (record { names = knows.names; reached = knows.reached; title = knows.title; defs = knows.defs }))
+    (λ assembled_lines knows. c.in_ok-module.ensures lines assembled_lines (record { names = knows.names; reached = knows.reached; title = knows.title; defs = knows.defs }))

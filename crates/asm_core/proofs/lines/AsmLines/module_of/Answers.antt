@@ -17,15 +17,15 @@ unfolding part_words
 all_same f g at same = pieces_same f g at 0 32768 same
 
 pub returns : goal.returns
-returns c = λ lines settled is output.
+returns c = λ lines assembled_lines is output.
     let references = map unused (refs lines) in
     let image = c.args.output.now.image in
-    let relocatable = all_same _ (content_at references settled part.Relocatable) part.Relocatable output.bytes.image.relocatable in
-    let absolute = all_same _ (content_at references settled part.Absolute) part.Absolute output.bytes.image.absolute in
+    let relocatable = all_same _ (content_at references assembled_lines part.Relocatable) part.Relocatable output.bytes.image.relocatable in
+    let absolute = all_same _ (content_at references assembled_lines part.Absolute) part.Absolute output.bytes.image.absolute in
     let pieces =
     c.in_ok-pieces.ensures
     ∙ (ap (λ pieces. pieces ++ pieces_in (cell image.absolute.cells.items) part.Absolute) relocatable
-    ∙ ap (λ pieces. pieces_in (content_at references settled part.Relocatable) part.Relocatable ++ pieces) absolute) in
+    ∙ ap (λ pieces. pieces_in (content_at references assembled_lines part.Relocatable) part.Relocatable ++ pieces) absolute) in
     let listed : map model_of_def c.in_ok-defs.field-0 ≡ map (definition_in (names lines)) (defs lines) =
     c.in_ok-defs.ensures
     ∙ (ap (map (definition_in c.args.self.now.symbols)) (c.as_slice.ensures.value ∙ is.defs)

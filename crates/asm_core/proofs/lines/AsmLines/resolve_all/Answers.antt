@@ -1,11 +1,11 @@
 use Rattle.std.proofs.Common.{◌≡◌, ◌+◌, [], length, drop, sym, ap, subst, arith}
 use Rattle.std.proofs.lemmas.List.{drop_all}
 use Rattle.source_defs.specs.Orders.{onto}
-use Rattle.expression_defs.specs.Layout.{settled}
-use Rattle.asm_defs.specs.Modules.{settle}
+use Rattle.expression_defs.specs.Layout.{assembled_lines}
+use Rattle.asm_defs.specs.Modules.{assembled_line}
 use Rattle.asm_core.specs.declared.error.AsmError.{AsmError}
 use Rattle.asm_core.specs.Finishing.{RefusesAt}
-use Rattle.asm_core.proofs.ProgressLaws.{IsSoFar, first_so_far, next_so_far, so_far_refused, all_settled, first_waits}
+use Rattle.asm_core.proofs.ProgressLaws.{IsSoFar, first_so_far, next_so_far, so_far_refused, all_assembled, first_waits}
 use Rattle.asm_core.proofs.lines.AsmLines.resolve_all.Goals as goal
 
 pub loop-pending-init : goal.loop-pending-init
@@ -35,7 +35,7 @@ returns-in-Err c = λ unused order founds known stand.
     c.pending-item.is in
     let so_far = subst (λ waiting. IsSoFar unused names order founds waiting c.args.output.now c.loop-pending.output) front
     (c.loop-pending.invariant unused order founds known stand) in
-    subst (λ (error : AsmError). RefusesAt error (settled (settle names) (onto [] order))) (sym c.refusal.ensures)
+    subst (λ (error : AsmError). RefusesAt error (assembled_lines (assembled_line names) (onto [] order))) (sym c.refusal.ensures)
     (so_far_refused unused names order founds pending (drop (index + 1) items) c.args.output.now c.loop-pending.output c.resolve.new.self so_far
     c.in-Err.failure (c.in-Err.ensures unused))
 
@@ -44,6 +44,6 @@ returns c = λ unused order founds known stand.
     let items = c.args.self.now.waiting.items in
     let none : drop c.loop-pending.pending-index items ≡ [] =
     drop_all c.loop-pending.pending-index items (omega (arith, c.loop-pending-test.false, ap length c.as_slice-pending-items.ensures.value)) in
-    all_settled unused c.args.self.now.symbols order founds c.args.output.now c.loop-pending.output
+    all_assembled unused c.args.self.now.symbols order founds c.args.output.now c.loop-pending.output
     (subst (λ waiting. IsSoFar unused c.args.self.now.symbols order founds waiting c.args.output.now c.loop-pending.output) none
     (c.loop-pending.invariant unused order founds known stand))

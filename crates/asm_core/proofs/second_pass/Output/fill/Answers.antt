@@ -3,7 +3,7 @@ use Rattle.std.specs.Prelude.{map}
 use Rattle.source_defs.specs.Orders.{onto}
 use Rattle.object_tags.specs.Seen.{model_of_ref}
 use Rattle.object_tags.specs.declared.parts.Ref.{Ref}
-use Rattle.asm_defs.specs.Memory.{Settled}
+use Rattle.asm_defs.specs.Memory.{AssembledLine}
 use Rattle.asm_defs.specs.Modules.{entry_by}
 use Rattle.asm_checks.specs.Outcomes.{model_of_outcome}
 use Rattle.module_image.specs.Images.{IsImage}
@@ -13,7 +13,7 @@ use Rattle.asm_core.proofs.second_pass.Output.fill.Goals as goal
 pub returns : goal.returns
 returns c = λ unused done others held stand fills output.
     let found = model_of_outcome c.args.outcome.now in
-    let line : Settled = record { at = c.args.at; outcome = found } in
+    let line : AssembledLine = record { at = c.args.at; outcome = found } in
     let holds = c.in_ok-fill_bytes.ensures.filled unused done others held stand fills output.bytes in
     record {
       bytes = record {

@@ -5,7 +5,7 @@ use Rattle.asm_core.specs.Finishing.{GivesModule}
 use Rattle.shelf_defs.specs.Assembly.{texts}
 use Rattle.bench_shelf.specs.Runs.{places_of}
 use Rattle.bench_shelf.specs.Kept.{IsKept}
-use Rattle.bench_shelf.proofs.ListedLaws.{all_settled, refused_told}
+use Rattle.bench_shelf.proofs.ListedLaws.{all_assembled, refused_told}
 use Rattle.bench_shelf.proofs.copying.Copying.listed.Goals as goal
 
 pub returns-in-Ok : goal.returns-in-Ok
@@ -15,7 +15,7 @@ returns-in-Ok c = record {
         subst (IsKept done holds.taken.lines) c.unwrap-lines.ensures holds.kept,
         (
           c.finish_with_names-module.ensures.names (texts done) holds.taken,
-          all_settled done c.args.self.builder holds.taken (model_of_module c.in-Ok.field-0)
+          all_assembled done c.args.self.builder holds.taken (model_of_module c.in-Ok.field-0)
               (subst (λ answer. GivesModule answer (module_of_lines (texts done))) c.in-Ok.is gives),
         ),
       );

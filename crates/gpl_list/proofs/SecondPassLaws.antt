@@ -1,16 +1,16 @@
--- Lines that are settled one after the other.
+-- Lines that are assembled one after the other.
 use Rattle.std.proofs.Common.{◌≡◌, ℕ, ◌+◌, ◌≤◌, ◌<◌, List, [], ◌∷◌, ◌++◌, Bool, true, false, Ok, Err, length, map, refl, sym, ap, subst, ◌∙◌, arith}
 use Rattle.std.specs.Prelude.{⊤, Result, nat_lt, if◌then◌else◌}
 use Rattle.std.proofs.lemmas.Bool.Decides.{nat_tests}
 use Rattle.std.proofs.lemmas.List.{map-append}
 use Rattle.source_defs.specs.Refusals.{Refusal, ◌>>=◌, at_line}
 use Rattle.expression_defs.specs.Symbols.{Names}
-use Rattle.expression_defs.specs.Layout.{settled}
+use Rattle.expression_defs.specs.Layout.{assembled_lines}
 use Rattle.gpl_defs.specs.Image.{Image}
 use Rattle.gpl_source_defs.specs.declared.causes.GplCause.{GplCause}
 use Rattle.gpl_source_defs.specs.declared.location.Location.{Location}
 use Rattle.gpl_source_defs.specs.Locations.{Line, place}
-use Rattle.gpl_source_defs.specs.Programs.{Settled, settle, settle_at, image}
+use Rattle.gpl_source_defs.specs.Programs.{AssembledLine, assembled_line, assembled_at, image}
 use Rattle.gpl_lines.specs.declared.failure.Failure.{Failure}
 use Rattle.gpl_lines.specs.declared.failure.Failure.TheVariants as failure
 use Rattle.gpl_lines.specs.Answers.{Fails}
@@ -19,7 +19,7 @@ use Rattle.gpl_asm.specs.declared.error.GplError.{GplError}
 use Rattle.gpl_list_defs.specs.Rows as spec
 use Rattle.gpl_list.specs.declared.rows.Row.{Row}
 use Rattle.gpl_list.specs.Reading.{model_of_row, RowOf, Describes, onto}
-use Rattle.gpl_list.specs.Settling.{SettledAs, SettlesLine, SettlesLines}
+use Rattle.gpl_list.specs.SecondPass.{AssembledAs, AssemblesRow, AssemblesRows}
 
 pub none_left : (rows : List Row) → length rows ≡ 0 → rows ≡ []
 none_left [] e = refl
@@ -29,20 +29,20 @@ none_left (row ∷ rows) e = absurd (omega (arith, e))
 
 module _ (known : Names) where
   abbrev Answer : Type 0
-  Answer = Result (List Settled) (Refusal GplCause)
+  Answer = Result (List AssembledLine) (Refusal GplCause)
 
   abbrev one_more : List Line → Line → Answer → Answer
   one_more before line answer =
-      answer >>= λ earlier. at_line line.number (settle known before earlier line) >>= λ found. Ok (found ∷ earlier)
+      answer >>= λ earlier. at_line line.number (assembled_line known before earlier line) >>= λ found. Ok (found ∷ earlier)
 
-  one_settled : (before : List Line) (line : Line) (earlier : List Settled) (answer : Result Settled GplCause)
-      → settled (settle known) before ≡ Ok earlier → settle_at known (place before line) line.statement earlier ≡ answer
-      → settled (settle known) (line ∷ before) ≡ (at_line line.number answer >>= λ found. Ok (found ∷ earlier))
-  one_settled before line earlier answer e came =
+  one_assembled : (before : List Line) (line : Line) (earlier : List AssembledLine) (answer : Result AssembledLine GplCause)
+      → assembled_lines (assembled_line known) before ≡ Ok earlier → assembled_at known (place before line) line.statement earlier ≡ answer
+      → assembled_lines (assembled_line known) (line ∷ before) ≡ (at_line line.number answer >>= λ found. Ok (found ∷ earlier))
+  one_assembled before line earlier answer e came =
       ap (one_more before line) e ∙ ap (λ answer. at_line line.number answer >>= λ found. Ok (found ∷ earlier)) came
 
-  refused_on : (rest before : List Line) (refused : Refusal GplCause) → settled (settle known) before ≡ Err refused
-      → settled (settle known) (onto rest before) ≡ Err refused
+  refused_on : (rest before : List Line) (refused : Refusal GplCause) → assembled_lines (assembled_line known) before ≡ Err refused
+      → assembled_lines (assembled_line known) (onto rest before) ≡ Err refused
   refused_on [] before refused e = e
   refused_on (line ∷ rest) before refused e = refused_on rest (line ∷ before) refused (ap (one_more before line) e)
 
@@ -73,7 +73,7 @@ module _ (texts : List (ℕ × List ℕ)) (known : Names) where
       let not : nat_lt line.number number ≡ false = grind (arith, nat_tests, at, le) in
       none_behind number (line ∷ before) rest rows all.1 (omega (arith, le)) ∙ kept number line before false not
 
-  -- ---- some lines are settled, and others are left
+  -- ---- some lines are assembled, and others are left
 
   abbrev shown : List Line → List spec.Row
   shown lines = spec.rows (spec.placed_bytes known) texts lines
@@ -84,8 +84,8 @@ module _ (texts : List (ℕ × List ℕ)) (known : Names) where
     pub are : onto rest done ≡ lines
     pub describes : Describes texts known done rest left
     pub numbered : Numbered done
-    pub earlier : List Settled
-    pub settled_is : settled (settle known) done ≡ Ok earlier
+    pub earlier : List AssembledLine
+    pub assembled_is : assembled_lines (assembled_line known) done ≡ Ok earlier
     pub made_is : made ≡ image earlier
     pub rows_are : map model_of_row rows ≡ shown done
 
@@ -98,19 +98,19 @@ module _ (texts : List (ℕ × List ℕ)) (known : Names) where
     describes = describes;
     numbered = tt;
     earlier = [];
-    settled_is = refl;
+    assembled_is = refl;
     made_is = none;
     rows_are = ap (map model_of_row) empty;
   }
 
   pub going_end : {A : Type 0} (value : A) (lines : List Line) (made : Image) (rows : List Row) → Going lines [] made rows
-      → SettlesLines texts known lines (Ok value) rows
+      → AssemblesRows texts known lines (Ok value) rows
   going_end value lines made rows g = by g.rest g.are g.describes
     where
-      by : (rest : List Line) → onto rest g.done ≡ lines → Describes texts known g.done rest [] → SettlesLines texts known lines (Ok value) rows
+      by : (rest : List Line) → onto rest g.done ≡ lines → Describes texts known g.done rest [] → AssemblesRows texts known lines (Ok value) rows
       by [] are all = (
         g.earlier,
-        ap (settled (settle known)) (sym are) ∙ g.settled_is,
+        ap (assembled_lines (assembled_line known)) (sym are) ∙ g.assembled_is,
         g.rows_are ∙ ap shown are,
       )
       by (line ∷ rest) are all = absurd all
@@ -129,26 +129,26 @@ module _ (texts : List (ℕ × List ℕ)) (known : Names) where
     pub text : new.text.items ≡ row.text.items
     pub bytes_are : new.bytes.items ≡ bytes
 
-  -- what is asked of a line that is settled, by its row
+  -- what is asked of a line that is assembled, by its row
   module _ {A : Type 0} (see : A → List ℕ) (lines : List Line) (row : Row) (next : List Row) (made left : Image) (rows : List Row) where
     abbrev Asked : Result A Failure → Type 0
-    Asked result = SettlesLine see known row.at row.text.items made result left
+    Asked result = AssemblesRow see known row.at row.text.items made result left
 
     came : (g : Going lines (row ∷ next) made rows) (line : Line) (result : Result A Failure) → RowOf texts known g.done line row → Asked result
-        → SettledAs see known (place g.done line) line.statement g.earlier result left
-    came g line result is settles =
-        subst (λ (at : Location). SettledAs see known at line.statement g.earlier result left) is.at
-        (settles line.statement g.earlier is.parsed is.room g.made_is)
+        → AssembledAs see known (place g.done line) line.statement g.earlier result left
+    came g line result is assembles =
+        subst (λ (at : Location). AssembledAs see known at line.statement g.earlier result left) is.at
+        (assembles line.statement g.earlier is.parsed is.room g.made_is)
 
     pub going_more : (value : A) (new : Row) (after : List Row) → Going lines (row ∷ next) made rows → Asked (Ok value) → Given row new (see value)
         → after ≡ rows ++ new ∷ [] → Going lines next left after
-    going_more value new after g settles given more = by g.rest g.are g.describes
+    going_more value new after g assembles given more = by g.rest g.are g.describes
       where
         by : (rest : List Line) → onto rest g.done ≡ lines → Describes texts known g.done rest (row ∷ next) → Going lines next left after
         by [] are all = absurd all
         by (line ∷ rest) are all =
             let is = all.0 in
-            let c = came g line (Ok value) is settles in
+            let c = came g line (Ok value) is assembles in
             let same : model_of_row new ≡ spec.row (spec.placed_bytes known) texts g.done line =
             same_row (model_of_row new) (spec.row (spec.placed_bytes known) texts g.done line)
             (given.number ∙ is.number) (given.address ∙ is.address) (given.bytes_are ∙ c.3) (given.text ∙ is.text) in
@@ -159,7 +159,7 @@ module _ (texts : List (ℕ × List ℕ)) (known : Names) where
               describes = all.1;
               numbered = (is.numbered, g.numbered);
               earlier = c.0 ∷ g.earlier;
-              settled_is = one_settled known g.done line g.earlier (Ok c.0) g.settled_is c.1;
+              assembled_is = one_assembled known g.done line g.earlier (Ok c.0) g.assembled_is c.1;
               made_is = c.2;
               rows_are = ap (map model_of_row) more
                   ∙ (map-append model_of_row rows (new ∷ [])
@@ -167,24 +167,24 @@ module _ (texts : List (ℕ × List ℕ)) (known : Names) where
             }
 
     pub going_refused : (B : Type 0) (failed : Failure) → Going lines (row ∷ next) made rows → Asked (Err failed)
-        → SettlesLines {A = B} texts known lines (Err (refusal_at row.number failed)) rows
-    going_refused B failure.Memory g settles = tt
-    going_refused B (failure.Refused cause) g settles = by g.rest g.are g.describes
+        → AssemblesRows {A = B} texts known lines (Err (refusal_at row.number failed)) rows
+    going_refused B failure.Memory g assembles = tt
+    going_refused B (failure.Refused cause) g assembles = by g.rest g.are g.describes
       where
         by : (rest : List Line) → onto rest g.done ≡ lines → Describes texts known g.done rest (row ∷ next)
-            → SettlesLines {A = B} texts known lines (Err (refusal_at row.number (failure.Refused cause))) rows
+            → AssemblesRows {A = B} texts known lines (Err (refusal_at row.number (failure.Refused cause))) rows
         by [] are all = absurd all
         by (line ∷ rest) are all =
             let is = all.0 in
-            let c = came g line (Err (failure.Refused cause)) is settles in
-            let refused : settled (settle known) (line ∷ g.done) ≡ Err (record { line = line.number; cause = cause }) =
-            one_settled known g.done line g.earlier (Err cause) g.settled_is c.0 in
+            let c = came g line (Err (failure.Refused cause)) is assembles in
+            let refused : assembled_lines (assembled_line known) (line ∷ g.done) ≡ Err (record { line = line.number; cause = cause }) =
+            one_assembled known g.done line g.earlier (Err cause) g.assembled_is c.0 in
             let at : row.number ≡ length g.done + 1 = is.number ∙ is.numbered in
             let front : spec.lines_before row.number lines ≡ g.done =
             ap (spec.lines_before row.number) (sym are)
             ∙ (none_behind row.number g.done (line ∷ rest) (row ∷ next) all (omega (arith, at))
             ∙ all_before row.number g.done g.numbered (omega (arith, at))) in (
-              ap (settled (settle known)) (sym are)
+              ap (assembled_lines (assembled_line known)) (sym are)
                   ∙ (refused_on known rest (line ∷ g.done) (record { line = line.number; cause = cause }) refused
                   ∙ ap (λ number. Err (record { line = number; cause = cause })) (sym is.number)),
               g.rows_are ∙ ap shown (sym front),

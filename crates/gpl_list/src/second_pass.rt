@@ -6,7 +6,7 @@ ghost use Rattle.gpl_source_defs.specs.Programs.{bytes_in};
 ghost use Rattle.gpl_lines.specs.Defined.{model_of_outcome};
 ghost use Rattle.gpl_asm.specs.Errors.{refusal_at};
 ghost use Rattle.gpl_list.specs.Reading.{Describes, onto};
-ghost use Rattle.gpl_list.specs.Settling.{ComesTo, SettlesLine, SettlesLines};
+ghost use Rattle.gpl_list.specs.SecondPass.{ComesTo, AssemblesRow, AssemblesRows};
 
 use crate::rows::Row;
 use asm_text::Symbols;
@@ -18,20 +18,20 @@ use std::alloc::{AllocError, Global};
 
 /// Gives rows of lines their bytes by all names, one after the other, up to the first that the second checks refuse.
 /// Those before it are given.
-pub(crate) fn settle_rows(
+pub(crate) fn assemble_rows(
     alloc: Global,
     names: &Symbols,
     rows: Vec<Row>,
-    settled: &mut Vec<Row>,
+    assembled_lines: &mut Vec<Row>,
 ) -> Result<(), GplError>
-    requires { settled.old.items ≡ [] }
+    requires { assembled_lines.old.items ≡ [] }
     ensures { (texts : List (ℕ × List ℕ)) → (rest : List Line) → Describes texts names.now [] rest rows.items →
-        SettlesLines texts names.now (onto rest []) result settled.new.items }
+        AssemblesRows texts names.now (onto rest []) result assembled_lines.new.items }
 {
     let mut image = GromImage::new(alloc)?;
     for row in rows {
-        match settle_line(alloc, names, row.at, row.text.as_slice(), &mut image) {
-            Ok(bytes) => push_row(settled, with_bytes(row, bytes))?,
+        match assemble_row(alloc, names, row.at, row.text.as_slice(), &mut image) {
+            Ok(bytes) => push_row(assembled_lines, with_bytes(row, bytes))?,
             Err(failure) => return Err(refusal_at(row.number, failure)),
         }
     }
@@ -64,14 +64,14 @@ fn push_row(rows: &mut Vec<Row>, row: Row) -> Result<(), AllocError>
 }
 
 /// Places the bytes of a line after others, by all names, and gives them.
-fn settle_line(
+fn assemble_row(
     alloc: Global,
     names: &Symbols,
     at: Location,
     text: &[u8],
     image: &mut GromImage,
 ) -> Result<Vec<u8>, Failure>
-    ensures { SettlesLine (λ bytes. bytes.items) names.now at text.now image.old result image.new }
+    ensures { AssemblesRow (λ bytes. bytes.items) names.now at text.now image.old result image.new }
 {
     let outcome = outcome_of(alloc, names, at, text)?;
     match put(image, None, at, &outcome) {

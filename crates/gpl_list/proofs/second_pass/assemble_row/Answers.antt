@@ -1,7 +1,7 @@
 use Rattle.std.proofs.Common.{sym, ◌∙◌}
 use Rattle.gpl_lines.specs.Defined.{model_of_outcome}
 use Rattle.gpl_list.proofs.PlacedLines.{fits, placed_there, refused_there, bytes_there}
-use Rattle.gpl_list.proofs.settle.settle_line.Goals as goal
+use Rattle.gpl_list.proofs.second_pass.assemble_row.Goals as goal
 
 pub returns-in-Ok : goal.returns-in-Ok
 returns-in-Ok c = λ statement earlier parsed le same.

@@ -1,8 +1,8 @@
 use Rattle.std.proofs.Common.{ℕ, Vec, Global, List, [], ◌∷◌, sym, subst, ◌∙◌}
 use Rattle.gpl_list.specs.declared.rows.Row.{Row}
 use Rattle.gpl_list.specs.Reading.{onto}
-use Rattle.gpl_list.proofs.SettleLaws.{Going, Given, none_left, going_more, going_refused, going_end}
-use Rattle.gpl_list.proofs.settle.settle_rows.Goals as goal
+use Rattle.gpl_list.proofs.SecondPassLaws.{Going, Given, none_left, going_more, going_refused, going_end}
+use Rattle.gpl_list.proofs.second_pass.assemble_rows.Goals as goal
 
 pub loop-row-preserved : goal.loop-row-preserved
 loop-row-preserved c = λ texts rest describes.
@@ -10,7 +10,7 @@ loop-row-preserved c = λ texts rest describes.
     let lines = onto rest [] in
     let row = c.in-Some.row in
     let next = c.next.new.self.rest.items in
-    let going = subst (λ (left : List Row). Going texts known lines left c.loop-row.image c.loop-row.settled.items) c.in-Some.ensures.steps.0
+    let going = subst (λ (left : List Row). Going texts known lines left c.loop-row.image c.loop-row.assembled_lines.items) c.in-Some.ensures.steps.0
     (c.loop-row.invariant texts rest describes) in
     let asked = rw c.as_slice.ensures.value at c.in-Ok.ensures in
     let given : Given texts known row c.with_bytes.result c.in-Ok.bytes.items = record {
@@ -19,7 +19,7 @@ loop-row-preserved c = λ texts rest describes.
       text = c.with_bytes.ensures.text;
       bytes_are = c.with_bytes.ensures.bytes;
     } in
-    going_more texts known (λ bytes. bytes.items) lines row next c.loop-row.image c.settle_line.new.image c.loop-row.settled.items c.in-Ok.bytes
+    going_more texts known (λ bytes. bytes.items) lines row next c.loop-row.image c.assemble_row.new.image c.loop-row.assembled_lines.items c.in-Ok.bytes
     c.with_bytes.result c.push_row.new.rows.items going asked given c.in_ok-push_row-in-Ok.ensures
 
 pub returns-in-Err : goal.returns-in-Err
@@ -28,17 +28,17 @@ returns-in-Err c = λ texts rest describes.
     let lines = onto rest [] in
     let row = c.in-Some.row in
     let next = c.next.new.self.rest.items in
-    let going = subst (λ (left : List Row). Going texts known lines left c.loop-row.image c.loop-row.settled.items) c.in-Some.ensures.steps.0
+    let going = subst (λ (left : List Row). Going texts known lines left c.loop-row.image c.loop-row.assembled_lines.items) c.in-Some.ensures.steps.0
     (c.loop-row.invariant texts rest describes) in
     let asked = rw c.as_slice.ensures.value at c.in-Err.ensures in
     rw c.refusal_at.ensures
-    (going_refused texts known {A = Vec ℕ Global} (λ bytes. bytes.items) lines row next c.loop-row.image c.settle_line.new.image c.loop-row.settled.items (Unit {0}) c.in-Err.failure going asked)
+    (going_refused texts known {A = Vec ℕ Global} (λ bytes. bytes.items) lines row next c.loop-row.image c.assemble_row.new.image c.loop-row.assembled_lines.items (Unit {0}) c.in-Err.failure going asked)
 
 pub returns : goal.returns
 returns c = λ texts rest describes.
     let known = c.args.names.now in
     let lines = onto rest [] in
     let none = none_left c.loop-row.row-iterator.rest.items (sym c.loop-row.row-iterator.rest.ok.0 ∙ c.in-None.ensures.steps.0) in
-    let going = subst (λ (left : List Row). Going texts known lines left c.loop-row.image c.loop-row.settled.items) none
+    let going = subst (λ (left : List Row). Going texts known lines left c.loop-row.image c.loop-row.assembled_lines.items) none
     (c.loop-row.invariant texts rest describes) in
-    going_end texts known (tt {0}) lines c.loop-row.image c.loop-row.settled.items going
+    going_end texts known (tt {0}) lines c.loop-row.image c.loop-row.assembled_lines.items going

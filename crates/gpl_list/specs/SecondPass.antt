@@ -2,14 +2,14 @@
 use Rattle.std.specs.Prelude.{◌≡◌, ⊤, ℕ, ◌+◌, ◌≤◌, List, ◌∷◌, map, Result, Ok, Err}
 use Rattle.source_defs.specs.Refusals.{Refusal}
 use Rattle.expression_defs.specs.Symbols.{Names, look_up}
-use Rattle.expression_defs.specs.Layout.{settled}
+use Rattle.expression_defs.specs.Layout.{assembled_lines}
 use Rattle.gpl_defs.specs.Image.{Image}
 use Rattle.gpl_source_defs.specs.declared.location.Location.{Location}
 use Rattle.gpl_source_defs.specs.Statements.{Statement, declared_size}
 use Rattle.gpl_source_defs.specs.Locations.{Line}
 use Rattle.gpl_source_defs.specs.FirstChecks.{parsed}
 use Rattle.gpl_source_defs.specs.SecondChecks.{outcome}
-use Rattle.gpl_source_defs.specs.Programs.{Settled, settle, settle_at, image}
+use Rattle.gpl_source_defs.specs.Programs.{AssembledLine, assembled_line, assembled_at, image}
 use Rattle.gpl_lines.specs.Answers.{Fails, Gives}
 use Rattle.gpl_lines.specs.Defined.{model_of_outcome}
 use Rattle.gpl_lines.specs.declared.failure.Failure.{Failure}
@@ -26,26 +26,26 @@ ComesTo known at text result =
     (statement : Statement) → parsed known at text ≡ Ok statement
     → Gives model_of_outcome result (outcome (look_up known) at statement)
 
--- a line was settled after others, and its bytes were placed
-abbrev pub SettledAs : {A : Type 0} → (A → List ℕ) → Names → Location → Statement → List Settled → Result A Failure → Image → Type 0
-SettledAs bytes known at statement earlier (Ok value) left =
-    (found : Settled) × (settle_at known at statement earlier ≡ Ok found) × (left ≡ image (found ∷ earlier))
+-- a line was assembled after others, and its bytes were placed
+abbrev pub AssembledAs : {A : Type 0} → (A → List ℕ) → Names → Location → Statement → List AssembledLine → Result A Failure → Image → Type 0
+AssembledAs bytes known at statement earlier (Ok value) left =
+    (found : AssembledLine) × (assembled_at known at statement earlier ≡ Ok found) × (left ≡ image (found ∷ earlier))
     × (bytes value ≡ spec.placed_bytes known at statement)
-SettledAs bytes known at statement earlier (Err failure) left = Fails failure (settle_at known at statement earlier)
+AssembledAs bytes known at statement earlier (Err failure) left = Fails failure (assembled_at known at statement earlier)
 
-abbrev pub SettlesLine : {A : Type 0} → (A → List ℕ) → Names → Location → List ℕ → Image → Result A Failure → Image → Type 0
-SettlesLine bytes known at text old result left =
-    (statement : Statement) (earlier : List Settled)
+abbrev pub AssemblesRow : {A : Type 0} → (A → List ℕ) → Names → Location → List ℕ → Image → Result A Failure → Image → Type 0
+AssemblesRow bytes known at text old result left =
+    (statement : Statement) (earlier : List AssembledLine)
     → parsed known at text ≡ Ok statement → at.number + declared_size statement ≤ 65536
     → old ≡ image earlier
-    → SettledAs bytes known at statement earlier result left
+    → AssembledAs bytes known at statement earlier result left
 
 -- the rows of lines with their bytes, or of those before the first that the second checks refuse
-abbrev pub SettlesLines : {A : Type 0} → List (ℕ × List ℕ) → Names → List Line → Result A GplError → List Row → Type 0
-SettlesLines texts known lines (Ok done) rows =
-    (found : List Settled) × (settled (settle known) lines ≡ Ok found)
+abbrev pub AssemblesRows : {A : Type 0} → List (ℕ × List ℕ) → Names → List Line → Result A GplError → List Row → Type 0
+AssemblesRows texts known lines (Ok done) rows =
+    (found : List AssembledLine) × (assembled_lines (assembled_line known) lines ≡ Ok found)
     × (map model_of_row rows ≡ spec.rows (spec.placed_bytes known) texts lines)
-SettlesLines texts known lines (Err (At number cause)) rows =
-    (settled (settle known) lines ≡ Err (record { line = number; cause = cause }))
+AssemblesRows texts known lines (Err (At number cause)) rows =
+    (assembled_lines (assembled_line known) lines ≡ Err (record { line = number; cause = cause }))
     × (map model_of_row rows ≡ spec.rows (spec.placed_bytes known) texts (spec.lines_before number lines))
-SettlesLines texts known lines (Err Memory) rows = ⊤
+AssemblesRows texts known lines (Err Memory) rows = ⊤
