@@ -10,7 +10,7 @@ use Rattle.object_defs.specs.declared.spot.Spot.{Spot}
 use Rattle.asm_text.specs.declared.expressions.values.Value.{Value as CodeValue}
 use Rattle.asm_text.specs.GivenValues.{model_of_value}
 use Rattle.asm_defs.specs.Modules.{spot_of}
-use Rattle.asm_forms.specs.Placed.{model_of_words, words_in}
+use Rattle.asm_forms.specs.Placed.{model_of_words, placed_words}
 use Rattle.asm_defs.specs.declared.causes.AsmCause.{AsmCause}
 use Rattle.asm_defs.specs.declared.causes.AsmCause.TheVariants.{Form}
 use Rattle.asm_defs.specs.FirstChecks.{as_expr}
@@ -20,7 +20,7 @@ use Rattle.asm_checks.specs.declared.second_checks.Outcome.TheVariants.{Nothing,
 
 abbrev pub model_of_outcome : Outcome → spec.Outcome
 model_of_outcome Nothing = spec.Nothing
-model_of_outcome (Instruction placed) = spec.Words (words_in placed)
+model_of_outcome (Instruction placed) = spec.Words (placed_words placed)
 model_of_outcome (Words words) = spec.Words (model_of_words words.items)
 model_of_outcome (Bytes bytes) = spec.Bytes bytes.items
 model_of_outcome (Entry entry) = spec.Entry entry

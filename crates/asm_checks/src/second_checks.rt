@@ -5,7 +5,7 @@ ghost use Rattle.expression_defs.specs.Symbols.{look_up};
 ghost use Rattle.asm_text.specs.GivenValues.{model_of_value};
 ghost use Rattle.source_defs.specs.Operands.{operand_texts};
 ghost use Rattle.instruction_defs.specs.SecondChecks.{second_checks};
-ghost use Rattle.asm_forms.specs.Placed.{model_of_word, model_of_words, words_in};
+ghost use Rattle.asm_forms.specs.Placed.{model_of_word, model_of_words, placed_words};
 ghost use Rattle.asm_forms.specs.Skeletons.{model_of_skeleton, IsOfField};
 ghost use Rattle.asm_defs.specs.Locations as places;
 ghost use Rattle.asm_defs.specs.Statements as parsed;
@@ -157,7 +157,7 @@ impl Scope<'_> {
 
     /// Numbers as bytes.
     fn bytes_of(&self, numbers: &[u16]) -> Result<Vec<u8>, Failure>
-        ensures { Gives (λ bytes. bytes.items) result (spec.bytes_of numbers.now) }
+        ensures { Gives (λ bytes. bytes.items) result (spec.checked_bytes numbers.now) }
     {
         let mut bytes = Vec::new(self.alloc);
         let mut rest = numbers;
@@ -252,7 +252,7 @@ fn is_first(place: &Location) -> bool
 
 /// A number from -128 to 255 as a byte.
 fn byte_of(number: u16) -> Option<u8>
-    ensures { byte_answer result ≡ spec.byte_of number }
+    ensures { byte_answer result ≡ spec.checked_byte number }
 {
     if number <= 0xFF || number >= 0xFF80 {
         Some((number % 256) as u8)

@@ -4,7 +4,7 @@ use Rattle.std.specs.Prelude.{Option, is_some, if◌then◌else◌}
 use Rattle.std.specs.FinMap.{insert}
 use Rattle.expression_defs.specs.Expression.{Value}
 use Rattle.expression_defs.specs.Symbols.{Names}
-use Rattle.expression_defs.specs.Layout.{with_names, set_or, origin, since_origin, bytes_of}
+use Rattle.expression_defs.specs.Layout.{with_names, set_or, origin, since_origin, bytes_taken}
 use Rattle.asm_defs.specs.declared.location.Location.{Location}
 use Rattle.asm_defs.specs.Locations.{Line, start, behind, location}
 use Rattle.asm_defs.specs.FirstChecks.{Checked, names, known_of, line_of, location_behind, label_entry, external_entries, refs_in}
@@ -14,11 +14,11 @@ use Rattle.asm_core.specs.Building.{IsBehind}
 
 -- the location behind a line
 location_by : (set : Option Location) (from : Location) (lines : List Line) (more : ℕ)
-    → behind (set_or set from) (bytes_of (if is_some set then [] else since_origin lines) + more)
-    ≡ behind (set_or set (behind from (bytes_of (since_origin lines)))) more
+    → behind (set_or set from) (bytes_taken (if is_some set then [] else since_origin lines) + more)
+    ≡ behind (set_or set (behind from (bytes_taken (since_origin lines)))) more
 location_by (Some origin) from lines more = ap (λ number. record { part = origin.part; number = origin.number + number }) (omega arith)
 location_by None from lines more =
-    let bytes = bytes_of (since_origin lines) in
+    let bytes = bytes_taken (since_origin lines) in
     let same : from.number + (bytes + more) ≡ from.number + bytes + more = omega arith in
     ap (λ number. record { part = from.part; number = number }) same
 

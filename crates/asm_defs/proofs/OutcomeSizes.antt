@@ -11,7 +11,7 @@ use Rattle.asm_defs.specs.declared.location.Location.{Location}
 use Rattle.asm_defs.specs.Statements.{Statement, Instruction, Data, Byte, Text, Def, End, as_form}
 use Rattle.asm_defs.specs.Locations.{behind, value_of}
 use Rattle.asm_defs.specs.FirstChecks.{as_expr}
-use Rattle.asm_defs.specs.SecondChecks.{Outcome, Nothing, Words, Bytes, Entry, byte_of, bytes_of, word_in, data_values, absolute_in, byte_values, defs_known}
+use Rattle.asm_defs.specs.SecondChecks.{Outcome, Nothing, Words, Bytes, Entry, checked_byte, checked_bytes, word_in, data_values, absolute_in, byte_values, defs_known}
 use Rattle.asm_defs.specs.SecondChecks.{defined_here, entry_in, outcome}
 use Rattle.asm_defs.specs.Memory.{bytes_in}
 use Rattle.asm_defs.specs.Growing.{declared_size}
@@ -55,12 +55,12 @@ module _ (look : List ℕ → Option Value) (at : Location) where
       given length (length (text ∷ texts)) (byte_values look at texts) _ numbers f
       (λ others are g. is_ok length (length (text ∷ texts)) (number ∷ others) numbers g (omega (arith, values_size texts others are))))
 
-  bytes_size : (numbers bytes : List ℕ) → bytes_of numbers ≡ Ok bytes → length bytes ≡ length numbers
+  bytes_size : (numbers bytes : List ℕ) → checked_bytes numbers ≡ Ok bytes → length bytes ≡ length numbers
   bytes_size [] bytes e = is_ok length 0 _ bytes e refl
   bytes_size (number ∷ numbers) bytes e =
-      given length (length (number ∷ numbers)) (byte_of number) _ bytes e
+      given length (length (number ∷ numbers)) (checked_byte number) _ bytes e
       (λ byte is f.
-      given length (length (number ∷ numbers)) (bytes_of numbers) _ bytes f
+      given length (length (number ∷ numbers)) (checked_bytes numbers) _ bytes f
       (λ others are g. is_ok length (length (number ∷ numbers)) (byte ∷ others) bytes g (omega (arith, bytes_size numbers others are))))
 
   defs_size : (names : List (List ℕ)) (found : Outcome) → defs_known look at names ≡ Ok found → bytes_in found ≡ 0
@@ -81,7 +81,7 @@ module _ (look : List ℕ → Option Value) (at : Location) where
   outcome_size (Byte texts) found sized e =
       given bytes_in (length texts) (as_expr (byte_values look at texts)) _ found e
       (λ numbers is f.
-      given bytes_in (length texts) (bytes_of numbers) _ found f
+      given bytes_in (length texts) (checked_bytes numbers) _ found f
       (λ bytes are g. is_ok bytes_in (length texts) (Bytes bytes) found g
       (bytes_size numbers bytes are ∙ values_size texts numbers (expr_is _ numbers is))))
   outcome_size (Text quoted) found sized e = is_ok bytes_in (length (characters quoted)) (Bytes (characters quoted)) found e refl

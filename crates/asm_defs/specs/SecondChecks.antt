@@ -28,11 +28,11 @@ pub data Outcome : Type 0 where
   Bytes : List ℕ → Outcome
   Entry : Spot → Outcome
 
-abbrev pub byte_of : ℕ → Result ℕ AsmCause
-byte_of = number_as_byte (Form BadOperand)
+abbrev pub checked_byte : ℕ → Result ℕ AsmCause
+checked_byte = number_as_byte (Form BadOperand)
 
-abbrev pub bytes_of : List ℕ → Result (List ℕ) AsmCause
-bytes_of = numbers_as_bytes (Form BadOperand)
+abbrev pub checked_bytes : List ℕ → Result (List ℕ) AsmCause
+checked_bytes = numbers_as_bytes (Form BadOperand)
 
 -- absolute place 0
 abbrev pub is_first_by : Part → ℕ → Bool
@@ -111,7 +111,7 @@ module _ (look : List ℕ → Option Value) (at : Location) where
     Ok (Words words)
   outcome (Byte texts) = do
     numbers ← as_expr (byte_values texts)
-    bytes ← bytes_of numbers
+    bytes ← checked_bytes numbers
     Ok (Bytes bytes)
   outcome (Text quoted) = Ok (Bytes (characters quoted))
   outcome (Def names) = defs_known names

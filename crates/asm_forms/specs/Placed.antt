@@ -18,18 +18,18 @@ model_of_word (External name) = expression.External name
 abbrev pub model_of_words : List Word → List expression.Value
 model_of_words words = map model_of_word words
 
-abbrev pub words_in : Placed → List expression.Value
-words_in placed = model_of_words placed.words.items
+abbrev pub placed_words : Placed → List expression.Value
+placed_words placed = model_of_words placed.words.items
 
-abbrev pub words_of : Operation → List EncodedOperand → List expression.Value
-words_of operation readies = expression.Absolute (word_of (instruction_of operation readies)) ∷ all_following readies
+abbrev pub encoded_words : Operation → List EncodedOperand → List expression.Value
+encoded_words operation readies = expression.Absolute (word_of (instruction_of operation readies)) ∷ all_following readies
 
 -- the words of an operation with operands, where these are in their ranges
 abbrev pub placed_of : expression.Value → Operation → List Operand → Result (List expression.Value) FormError
 placed_of here operation operands = do
   readies ← all_ranged here operands
-  Ok (words_of operation readies)
+  Ok (encoded_words operation readies)
 
 abbrev pub placed_answer : Result Placed FormError → Result (List expression.Value) FormError
-placed_answer (Ok placed) = Ok (words_in placed)
+placed_answer (Ok placed) = Ok (placed_words placed)
 placed_answer (Err cause) = Err cause

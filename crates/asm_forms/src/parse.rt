@@ -9,7 +9,7 @@ ghost use Rattle.instruction_defs.specs.FirstChecks as first;
 ghost use Rattle.instruction_defs.specs.SecondChecks as second;
 ghost use Rattle.asm_forms.specs.Answers.{Gives};
 ghost use Rattle.asm_forms.specs.Lines.{operation_in, operands_in, line_words};
-ghost use Rattle.asm_forms.specs.Placed.{words_in};
+ghost use Rattle.asm_forms.specs.Placed.{placed_words};
 ghost use Rattle.asm_forms.specs.Skeletons.{model_of_skeleton, skeleton_answer, IsOfField};
 
 use crate::first_checks::{Skeleton, size_in, skeleton_of};
@@ -25,7 +25,7 @@ use std::alloc::Global;
 fn second_checks(scope: &Scope<'_>, skeleton: &Skeleton) -> Result<Placed, FormError>
     requires here { IsNotExternal scope.now.here }
     requires inside { IsOfField scope.now.field.now skeleton.now }
-    ensures { Gives words_in result
+    ensures { Gives placed_words result
         (second.second_checks (look_up scope.now.symbols.now) (model_of_value scope.now.here)
         (model_of_skeleton scope.now.field.now skeleton.now)) }
 {
@@ -70,7 +70,7 @@ pub fn parse_instr(
     requires operation { IsSome fields.now.operation }
     requires sized { IsOk (first.line_size (operation_in line.now fields.now) (operands_in line.now fields.now)) }
     requires here { IsNotExternal here }
-    ensures { Gives words_in result
+    ensures { Gives placed_words result
         (line_words (look_up symbols.now) (model_of_value here) (operation_in line.now fields.now)
         (operands_in line.now fields.now)) }
 {
@@ -91,7 +91,7 @@ pub fn words_of(
 ) -> Result<Placed, FormError>
     requires here { IsNotExternal here }
     requires inside { IsOfField field.now skeleton.now }
-    ensures { Gives words_in result
+    ensures { Gives placed_words result
         (second.second_checks (look_up symbols.now) (model_of_value here) (model_of_skeleton field.now skeleton.now)) }
 {
     let scope = Scope {

@@ -6,7 +6,7 @@ ghost use Rattle.tms_defs.specs.Instructions.{word_of as word_of_instr};
 ghost use Rattle.expression_defs.specs.Expression.{Absolute};
 ghost use Rattle.asm_text.specs.GivenValues.{model_of_value};
 ghost use Rattle.instruction_defs.specs.SecondChecks as spec;
-ghost use Rattle.asm_forms.specs.Placed.{model_of_word, model_of_words, words_in, words_of, placed_of, placed_answer};
+ghost use Rattle.asm_forms.specs.Placed.{model_of_word, model_of_words, placed_words, encoded_words, placed_of, placed_answer};
 ghost use Rattle.asm_forms.specs.UpToTwo.{items_of};
 ghost use Rattle.asm_forms.specs.Values.{model_of_operand, model_of_ready, AllReady};
 
@@ -49,7 +49,7 @@ pub struct Placed {
 
 /// A line of one word.
 pub(crate) fn one_word(word: u16) -> Placed
-    ensures { words_in result ≡ Absolute word ∷ [] }
+    ensures { placed_words result ≡ Absolute word ∷ [] }
 {
     let mut words = ArrayVec::new();
     words.push(Word::Plain(word));
@@ -73,7 +73,7 @@ pub(crate) fn in_range_words(
 #[tactic(auto, using(std::proofs::Common::append_assoc))]
 fn instruction_words(operation: Operation, readies: &UpToTwo<EncodedOperand>) -> Placed
     requires { AllReady readies.now }
-    ensures { words_in result ≡ words_of operation (items_of model_of_ready readies.now) }
+    ensures { placed_words result ≡ encoded_words operation (items_of model_of_ready readies.now) }
 {
     let instr = instruction_of(operation, readies);
     let mut words = ArrayVec::new();

@@ -3,12 +3,12 @@
 ghost use Rattle.std.specs.Prelude.{◌≡◌, ◌<◌, ◌≤◌, ◌+◌, [], length};
 ghost use Rattle.arrayvec.specs.ArrayString.{array_string_len};
 ghost use Rattle.tms_defs.specs.Instructions.{HasRoom};
-ghost use Rattle.instruction_defs.specs.Operands.{words_of};
+ghost use Rattle.instruction_defs.specs.Operands.{size_in_words};
 ghost use Rattle.instruction_defs.specs.Printed as spec;
 
 use crate::operands_text::push_operands;
 use crate::operations::{name_of, operation_of};
-use crate::sizes::words_of;
+use crate::sizes::size_in_words;
 use crate::text::{Text, push_word};
 use arrayvec::ArrayString;
 use tms_defs::Instr;
@@ -37,7 +37,7 @@ fn push_front(text: &mut Text, words: &[u16], at: u16) -> u8
     ensures count { result ≡ (spec.printed words.now at).count }
 {
     if let Some(instr) = decode(words[0]) {
-        let count = words_of(&instr);
+        let count = size_in_words(&instr);
         if usize::from(count) <= words.len() {
             push_instr(text, &instr, at, words);
             return count;

@@ -10,7 +10,7 @@ use Rattle.std.specs.Cmp.{ranks, nat_cmp_is, first_so, second_so, unsigned_ties}
 use Rattle.std.specs.Cmp.Lexicographic.{slice_cmp, pointwise, texts_ties}
 use Rattle.source_defs.specs.Names.{is_printed, all_printed, is_kept_name}
 use Rattle.std.proofs.lemmas.List.{drop-set-lt, drop-replicate, drop-drop, get_or-set_same, length-set, length-take-le, take-set-le}
-use Rattle.asm_text.specs.Padding.{key_behind, key_of, kept_bytes, IsPadded}
+use Rattle.asm_text.specs.Padding.{key_behind, name_key, kept_bytes, IsPadded}
 
 -- the zeros that fill a name up count as its end
 padded_behind : (key places count : ℕ) (others : List ℕ) → places ≤ count → key_behind key places (replicate count 0 ++ others) ≡ key_behind key places []
@@ -97,8 +97,8 @@ key_of_eight (a ∷ b ∷ c ∷ d ∷ e ∷ f ∷ g ∷ []) eight = absurd (omeg
 key_of_eight (a ∷ b ∷ c ∷ d ∷ e ∷ f ∷ g ∷ h ∷ i ∷ more) eight = absurd (omega (arith, eight))
 
 -- the bytes that are kept are the name's key
-pub key_lies : (bytes : List ℕ) → IsPadded bytes (get_or bytes 7 0) → from_be_bytes w64 bytes ≡ key_of (take (get_or bytes 7 0) bytes)
-unfolding key_of
+pub key_lies : (bytes : List ℕ) → IsPadded bytes (get_or bytes 7 0) → from_be_bytes w64 bytes ≡ name_key (take (get_or bytes 7 0) bytes)
+unfolding name_key
 key_lies bytes is =
     let len = get_or bytes 7 0 in
     let name = take len bytes in
@@ -178,12 +178,12 @@ same_length (x ∷ xs) (y ∷ ys) e = by (nat_cmp x y) e (same_length xs ys)
     by Greater e rest = cc e
 
 -- the comparison of two names is that of their keys
-pub keys_compare : (xs ys : List ℕ) → is_kept_name xs ≡ true → is_kept_name ys ≡ true → slice_cmp nat_cmp xs ys ≡ nat_cmp (key_of xs) (key_of ys)
-unfolding key_of
+pub keys_compare : (xs ys : List ℕ) → is_kept_name xs ≡ true → is_kept_name ys ≡ true → slice_cmp nat_cmp xs ys ≡ nat_cmp (name_key xs) (name_key ys)
+unfolding name_key
 keys_compare xs ys p q =
     let first = printed xs p in
     let second = printed ys q in
-    nat_cmp_is (key_of xs) (key_of ys) (slice_cmp nat_cmp xs ys)
+    nat_cmp_is (name_key xs) (name_key ys) (slice_cmp nat_cmp xs ys)
     (by (slice_cmp nat_cmp xs ys) refl first.0 second.0 (compared 7 0 xs ys (omega (arith, first.0)) (omega (arith, second.0)) first.1 second.1))
   where
     by : (r : Ordering) → slice_cmp nat_cmp xs ys ≡ r → length xs ≤ 6 → length ys ≤ 6
@@ -196,6 +196,6 @@ keys_compare xs ys p q =
     by Greater e m n gt = omega (arith, gt, m, n)
 
 -- two names are the same where their keys are
-pub keys_tell : (xs ys : List ℕ) → is_kept_name xs ≡ true → is_kept_name ys ≡ true → nat_eq (key_of xs) (key_of ys) ≡ pointwise nat_eq xs ys
+pub keys_tell : (xs ys : List ℕ) → is_kept_name xs ≡ true → is_kept_name ys ≡ true → nat_eq (name_key xs) (name_key ys) ≡ pointwise nat_eq xs ys
 keys_tell xs ys p q =
-    unsigned_ties (key_of xs) (key_of ys) ∙ (ap is_eq (sym (keys_compare xs ys p q)) ∙ sym (texts_ties xs ys))
+    unsigned_ties (name_key xs) (name_key ys) ∙ (ap is_eq (sym (keys_compare xs ys p q)) ∙ sym (texts_ties xs ys))

@@ -15,8 +15,8 @@ abbrev pub kept_bytes : List ℕ → List ℕ
 kept_bytes name = name ++ (replicate (7 - length name) 0 ++ (length name ∷ []))
 
 -- these bytes as one number, the first highest
-unfoldable pub key_of : List ℕ → ℕ
-key_of name = 256 * key_behind 0 7 name + length name
+unfoldable pub name_key : List ℕ → ℕ
+name_key name = 256 * key_behind 0 7 name + length name
 
 -- eight bytes are the bytes of the name that their first `len` are
 pub record IsPadded (bytes : List ℕ) (len : ℕ) : Type 0 where

@@ -7,7 +7,7 @@ ghost use Rattle.std.specs.Cmp.{partial_equiv_from_equiv};
 ghost use Rattle.std.specs.Cmp.Lexicographic.{pointwise, slice_cmp, nat_list_eq_equiv, nat_list_cmp_total, texts_ties};
 ghost use Rattle.std.specs.Cmp.Lexicographic.{texts_po};
 ghost use Rattle.source_defs.specs.Names.{is_kept_name, all_printed};
-ghost use Rattle.asm_text.specs.Padding.{key_of};
+ghost use Rattle.asm_text.specs.Padding.{name_key};
 
 use crate::characters::is_printed;
 use std::cmp::Ordering;
@@ -82,7 +82,7 @@ impl Name {
     #[tactic(auto, using(crate::proofs::Keys::key_lies))]
     #[inline(always)]
     fn key(&self) -> u64
-        ensures key { result ≡ key_of self.now }
+        ensures key { result ≡ name_key self.now }
         ensures kept { IsTrue (is_kept_name self.now) }
     {
         u64::from_be_bytes(self.bytes)

@@ -12,12 +12,12 @@ abbrev pub named : {B : Type 0} → (B → List ℕ) → List (List ℕ × B) �
 named see files = map (λ file. (file.0, see file.1)) files
 
 -- the bytes of the file of a name
-abbrev pub bytes_of : List (List ℕ × List ℕ) → List ℕ → Option (List ℕ)
-bytes_of files name = get (by_name files) name
+abbrev pub file_bytes : List (List ℕ × List ℕ) → List ℕ → Option (List ℕ)
+file_bytes files name = get (by_name files) name
 
 -- the bytes of the open file; no file may be open
 abbrev pub open_bytes : List (List ℕ × List ℕ) → Option (List ℕ) → Option (List ℕ)
-open_bytes files (Some name) = bytes_of files name
+open_bytes files (Some name) = file_bytes files name
 open_bytes files None = Some []
 
 -- what is left of the open file: a number of bytes at its end
@@ -43,11 +43,11 @@ asked before =
 -- a shelf whose next call opens a file of this name, or finds that it fails, or that the name is missing
 abbrev pub OpensIn : {A : Type 0} → Shelved → List ℕ → Result A OpenError → Shelved → Type 0
 OpensIn before name (Ok _) after =
-    (bytes : List ℕ) × (bytes_of before.files name ≡ Some bytes) × (Contains before.fails before.requests → ⊥)
+    (bytes : List ℕ) × (file_bytes before.files name ≡ Some bytes) × (Contains before.fails before.requests → ⊥)
     × (after ≡ record (asked before) { left = bytes })
 OpensIn before name (Err Failed) after =
     Contains before.fails before.requests × Rose before.faults after.faults
     × (after ≡ record (asked before) { faults = saturating_sum before.faults 1 })
 OpensIn before name (Err Missing) after =
-    (bytes_of before.files name ≡ None) × (Contains before.fails before.requests → ⊥) × Rose before.misses after.misses
+    (file_bytes before.files name ≡ None) × (Contains before.fails before.requests → ⊥) × Rose before.misses after.misses
     × (after ≡ record (asked before) { misses = saturating_sum before.misses 1 })

@@ -6,7 +6,7 @@ ghost use Rattle.std.specs.Option.{option_map, unwrap_or};
 ghost use Rattle.count_defs.specs.Counts.{saturating_sum, Rose};
 ghost use Rattle.bench_io.specs.Stream.{empty_calls};
 ghost use Rattle.bench_shelf.specs.States.{FixedPart, fixed_part, same_files, visible_state};
-ghost use Rattle.bench_shelf.specs.MemoryShelf.{named, bytes_of, OpensIn};
+ghost use Rattle.bench_shelf.specs.MemoryShelf.{named, file_bytes, OpensIn};
 
 use crate::error::OpenError;
 use crate::file_name::FileName;
@@ -133,12 +133,12 @@ impl MemShelf {
 
     /// Opens the file of a name and says whether there is one.
     fn open(&mut self, name: &FileName) -> bool
-        ensures there { result ≡ is_some (bytes_of self.old.files name.now) }
+        ensures there { result ≡ is_some (file_bytes self.old.files name.now) }
         ensures opened { IsTrue result →
-            self.new ≡ record self.old { left = unwrap_or (bytes_of self.old.files name.now) [] } }
+            self.new ≡ record self.old { left = unwrap_or (file_bytes self.old.files name.now) [] } }
         ensures missing { IsFalse result → self.new ≡ self.old }
     {
-        match bytes_of(self.files.as_slice(), name) {
+        match file_bytes(self.files.as_slice(), name) {
             Some(bytes) => {
                 self.rest = bytes.len();
                 self.current = Some(*name);
@@ -173,7 +173,7 @@ impl MemShelf {
         ensures { result.now ≡ self.now.left }
     {
         match &self.current {
-            Some(name) => match bytes_of(self.files.as_slice(), name) {
+            Some(name) => match file_bytes(self.files.as_slice(), name) {
                 Some(bytes) => &bytes[bytes.len() - self.rest..],
                 None => &[],
             },
@@ -250,8 +250,8 @@ impl Shelf for MemShelf {
 
 /// The bytes of the first file of a name.
 #[tactic(auto, using(crate::proofs::Names::name_here))]
-fn bytes_of<'a>(files: &'a [(FileName, Vec<u8>)], name: &FileName) -> Option<&'a [u8]>
-    ensures { option_map (λ bytes. bytes.now) result ≡ bytes_of (named (λ bytes. bytes.items) files.now) name.now }
+fn file_bytes<'a>(files: &'a [(FileName, Vec<u8>)], name: &FileName) -> Option<&'a [u8]>
+    ensures { option_map (λ bytes. bytes.now) result ≡ file_bytes (named (λ bytes. bytes.items) files.now) name.now }
 {
     let mut rest = files;
     while let [file, others @ ..] = rest {

@@ -9,7 +9,7 @@ use Rattle.tms_defs.specs.Operand.{Cpu}
 use Rattle.tms_defs.specs.Step.{step}
 use Rattle.console_defs.specs.Machine.{MachineState, IsMachine, new_machine, counted, machine_step, given_by, done_step}
 use Rattle.console_defs.specs.Machine.{steps}
-use Rattle.console_defs.specs.Runs.{is_reached, end_of_step, after, self_jumped, end_at, IsRun}
+use Rattle.console_defs.specs.Runs.{is_reached, end_of_step, after_steps, self_jumped, end_at, IsRun}
 use Rattle.tms_defs.specs.declared.step_end.StepEnd.{StepEnd}
 use Rattle.tms_defs.specs.declared.step_end.StepEnd.TheVariants.{Done, Refused, Port}
 use Rattle.console_defs.specs.declared.run_end.RunEnd.{RunEnd}
@@ -85,11 +85,11 @@ goes_on false false false (Refused address) left none = absurd (cc)
 goes_on false false false (Port address) left none = absurd (cc)
 
 all_executed : (stop : Option ℕ) (limit made : ℕ) (x : MachineState) →
-    ((before : ℕ) → before < made → end_at stop limit before x ≡ None) → steps made x ≡ Gives (after made x)
+    ((before : ℕ) → before < made → end_at stop limit before x ≡ None) → steps made x ≡ Gives (after_steps made x)
 all_executed stop limit zero x first = refl
 all_executed stop limit (suc made) x first =
     let led = all_executed stop limit made x (λ before lt. first before (omega arith)) in
-    let here = after made x in
+    let here = after_steps made x in
     let next : done_step here ≡ Gives (machine_step here).1 =
     goes_on (self_jumped made x) (is_reached stop here.cpu.pc) (eqb made limit) (machine_step here).0 (machine_step here).1
     (first made (omega arith)) in

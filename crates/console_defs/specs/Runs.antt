@@ -25,15 +25,15 @@ end_of_step (Done word) = None
 end_of_step (Refused address) = Some (run.Refused address)
 end_of_step (Port address) = Some (run.Port address)
 
--- The machine after a number of steps in a row.
-abbrev pub after : ℕ → MachineState → MachineState
-after zero x = x
-after (suc made) x = (machine_step (after made x)).1
+-- The machine after_steps a number of steps in a row.
+abbrev pub after_steps : ℕ → MachineState → MachineState
+after_steps zero x = x
+after_steps (suc made) x = (machine_step (after_steps made x)).1
 
 -- The last of a number of steps executed the jump to itself.
 abbrev pub self_jumped : ℕ → MachineState → Bool
 self_jumped zero x = false
-self_jumped (suc made) x = is_self_jump (machine_step (after made x)).0
+self_jumped (suc made) x = is_self_jump (machine_step (after_steps made x)).0
 
 -- What ends a run before a step from x, where a number of steps were made, or at that step.
 -- Profile: the end's address is looked at before the limit, and the limit before the step.
@@ -47,11 +47,11 @@ end_before stop limit made x =
 -- Profile: a jump to itself that was executed is tested before the limit.
 abbrev pub end_at : Option ℕ → ℕ → ℕ → MachineState → Option RunEnd
 end_at stop limit made x =
-    if self_jumped made x then Some run.SelfJump else end_before stop limit made (after made x)
+    if self_jumped made x then Some run.SelfJump else end_before stop limit made (after_steps made x)
 
 -- A run from x to y, over a number of executed instructions: the least number at which something ends it.
 pub record IsRun (stop : Option ℕ) (limit made : ℕ) (x : MachineState) (ending : RunEnd) (y : MachineState) :
     Type 0 where
   pub ends : end_at stop limit made x ≡ Some ending
   pub first : (before : ℕ) → before < made → end_at stop limit before x ≡ None
-  pub left : y ≡ after made x
+  pub left : y ≡ after_steps made x

@@ -11,7 +11,7 @@ use Rattle.console_defs.specs.Memory.{Memory, IsMemory, console, Port, VdpDataRe
 use Rattle.console_defs.specs.Memory.{GromAddressWrite, Region, Rom, LowExpansion, HighExpansion, Scratchpad, PortOf, Unmapped, region}
 use Rattle.console_defs.specs.Memory.{word_read_in, word_written_in, byte_read_in, byte_written_in, port_read, port_written}
 use Rattle.console_defs.specs.Machine.{MachineState, IsMachine}
-use Rattle.console_defs.specs.Runs.{after}
+use Rattle.console_defs.specs.Runs.{after_steps}
 use Rattle.gpl_step_defs.proofs.Kept.{set_keeps}
 use Rattle.machine_change_defs.proofs.Keeping.{Holds, holds}
 use Rattle.debug_report_defs.proofs.StepFits.{Fit, step_fits}
@@ -144,7 +144,7 @@ module _ (m : Memory) (is : IsMemory m) where
 abbrev pub MachineFits : MachineState → Type 0
 MachineFits x = Fit IsMemory x.cpu
 
-pub runs_fit : (x : MachineState) → IsMachine x → (made : ℕ) → MachineFits (after made x)
+pub runs_fit : (x : MachineState) → IsMachine x → (made : ℕ) → MachineFits (after_steps made x)
 runs_fit x is zero = record { memory = is.memory; pc = is.pc; wp = is.wp; status = is.status }
 runs_fit x is (suc made) =
     step_fits Memory console IsMemory
@@ -152,4 +152,4 @@ runs_fit x is (suc made) =
     (λ m a w lt h. written m h (region (even a)) (even a) w lt)
     (λ m a h. holds _ (byte_gave m h (region a)))
     (λ m a b lt h. holds _ (byte_took m h (region a) b lt))
-    (after made x).cpu (runs_fit x is made)
+    (after_steps made x).cpu (runs_fit x is made)

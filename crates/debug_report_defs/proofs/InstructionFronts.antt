@@ -23,7 +23,7 @@ use Rattle.tms_defs.specs.declared.instruction.BareOp.TheVariants.{LWPI}
 use Rattle.tms_defs.specs.declared.instruction.Instr.{Instr}
 use Rattle.tms_defs.specs.declared.instruction.Instr.TheVariants.{Two, Reg, Shift, One, Jump, Imm, Bare}
 use Rattle.instruction_defs.specs.Operations.{name_of}
-use Rattle.instruction_defs.specs.Operands.{following_words, has_immediate, has_value, words_of}
+use Rattle.instruction_defs.specs.Operands.{following_words, has_immediate, has_value, size_in_words}
 use Rattle.instruction_defs.specs.Printed.{register_text, signed_text, symbolic_text, operand_text, number_text}
 use Rattle.instruction_defs.specs.Printed.{target_text, instr_text, printed_word, printed_where, printed}
 use Rattle.debug_report_defs.proofs.Digits.{decimal_passes, word_digits_pass}
@@ -124,8 +124,8 @@ clean_printed words at = by (instr_at (slice_index words 0))
   where
     by : (found : Option Instr) → Clean (printed_where found at words).text
     by None = clean_word (slice_index words 0)
-    by (Some found) = whole (nat_le (words_of found) (length words))
+    by (Some found) = whole (nat_le (size_in_words found) (length words))
       where
-        whole : (b : Bool) → Clean (cond b (record { text = instr_text found at words; count = words_of found }) (printed_word (slice_index words 0))).text
+        whole : (b : Bool) → Clean (cond b (record { text = instr_text found at words; count = size_in_words found }) (printed_word (slice_index words 0))).text
         whole true = clean_instr found at words
         whole false = clean_word (slice_index words 0)

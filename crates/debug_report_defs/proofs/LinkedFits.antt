@@ -14,9 +14,9 @@ use Rattle.object_defs.specs.declared.causes.TagCause.{TagCause}
 use Rattle.object_defs.specs.Modules.{Module}
 use Rattle.object_defs.specs.Reading.{read}
 use Rattle.link_defs.specs.Causes.{LinkCause, DuplicateDef, OutOfMemoryRange, Overlap, Unresolved}
-use Rattle.link_defs.specs.First.{first, unless}
+use Rattle.link_defs.specs.First.{first, refused_by}
 use Rattle.link_defs.specs.Chains.{Uses, uses_of}
-use Rattle.link_defs.specs.Placing.{Section, sections, def_at, word_at, value_of, defs_of, words_of, refs_of, entries_of}
+use Rattle.link_defs.specs.Placing.{Section, sections, def_at, word_at, value_of, defs_of, section_words, refs_of, entries_of}
 use Rattle.link_defs.specs.LinkedMemory.{LinkedMemory, value_in, is_defined_again, is_outside, is_taken}
 use Rattle.link_defs.specs.LinkedMemory.{is_unresolved, first_entry, word_for, filled, linked_parts, linked}
 use Rattle.report_defs.specs.ObjectFaults.{link_line}
@@ -51,7 +51,7 @@ defs_fit all =
     all_flat (λ (definition : List ℕ × ℕ). definition.1 < 65536) _ all
     (λ section. all_map (λ (definition : List ℕ × ℕ). definition.1 < 65536) (def_at section.base) section.part.defs (λ d. omega arith))
 
-words_fit : (all : List Section) → AreWords (words_of all)
+words_fit : (all : List Section) → AreWords (section_words all)
 words_fit all =
     all_flat (λ (word : ℕ × ℕ). word.1 < 65536) _ all
     (λ section. all_map (λ (word : ℕ × ℕ). word.1 < 65536) (word_at section.base) section.part.pieces (λ p. omega arith))
@@ -113,8 +113,8 @@ entry_fits (first ∷ others) entry all e = let same : first ≡ entry = cc in s
 parts_fit : (defs : List (List ℕ × ℕ)) (words : List (ℕ × ℕ)) (refs : List (List ℕ × ℕ)) (found : List ℕ) (l : LinkedMemory)
     → AreValues defs → AreWords words → AllByRecursion (λ (n : ℕ). n < 65536) found → linked_parts defs words refs found ≡ Ok l → LinkedFits l
 parts_fit defs words refs found l values all fits e =
-    by (unless (λ definition. DuplicateDef definition.0) (first is_defined_again defs)) (unless (λ word. OutOfMemoryRange word.0) (first is_outside words))
-    (unless (λ word. Overlap word.0) (first is_taken words)) (uses_of words [] refs) (unless (λ ref. Unresolved ref.0) (first (is_unresolved defs) refs))
+    by (refused_by (λ definition. DuplicateDef definition.0) (first is_defined_again defs)) (refused_by (λ word. OutOfMemoryRange word.0) (first is_outside words))
+    (refused_by (λ word. Overlap word.0) (first is_taken words)) (uses_of words [] refs) (refused_by (λ ref. Unresolved ref.0) (first (is_unresolved defs) refs))
     (first_entry found)
     (λ entry is. entry_fits found entry fits is) e
   where
@@ -134,7 +134,7 @@ modules_fit : (modules : List Module) (l : LinkedMemory) → linked modules ≡ 
 unfolding linked
 modules_fit modules l e =
     let all = sections modules in
-    parts_fit (defs_of all) (words_of all) (refs_of all) (entries_of all) l (defs_fit all) (words_fit all) (entries_fit all) e
+    parts_fit (defs_of all) (section_words all) (refs_of all) (entries_of all) l (defs_fit all) (words_fit all) (entries_fit all) e
 
 pub linked_fits : (input : List ℕ) (l : LinkedMemory) → linked_input input ≡ Ok l → LinkedFits l
 linked_fits input l e = by (read input) e

@@ -9,7 +9,7 @@ use Rattle.console_defs.specs.Memory.{Memory, IsMemory}
 use Rattle.change_defs.specs.Changes.{changes}
 use Rattle.machine_change_defs.specs.declared.area.Area.{Area}
 use Rattle.machine_change_defs.specs.declared.area.Area.TheVariants.{Scratchpad, LowExpansion, HighExpansion, Video, Registers}
-use Rattle.machine_change_defs.specs.Seen.{SeenMemory, seen_memory, bytes_of, workspace_place, workspace_at}
+use Rattle.machine_change_defs.specs.Seen.{SeenMemory, seen_memory, area_bytes, workspace_place, workspace_at}
 use Rattle.machine_change_defs.specs.Changes.{RegisterChange, register_change, new_number, new_held, memory_changes}
 use Rattle.debug_report_defs.proofs.Fitting.{AllInside, changes_inside}
 use Rattle.debug_report_defs.proofs.MachineRead.{AllRegistersFit, FitsBelow, HeldFits, ChangesFit}
@@ -23,7 +23,7 @@ slice_fits : (bytes : List ℕ) (at : ℕ) → ((k : ℕ) → slice_index bytes 
 slice_fits bytes at fits k = let old = fits (at + k) in grind (arith, common_steps)
 
 module _ (m : Memory) (is : IsMemory m) where
-  area_fits : (area : Area) (k : ℕ) → slice_index (bytes_of area (seen_memory m)) k < 256
+  area_fits : (area : Area) (k : ℕ) → slice_index (area_bytes area (seen_memory m)) k < 256
   area_fits Scratchpad k = is.scratchpad.fits k
   area_fits LowExpansion k = is.low_expansion.fits k
   area_fits HighExpansion k = is.high_expansion.fits k
@@ -32,7 +32,7 @@ module _ (m : Memory) (is : IsMemory m) where
 
   workspace_fits : (place : Option (Area × ℕ)) (k : ℕ) → slice_index (workspace_at place (seen_memory m)) k < 256
   workspace_fits None k = omega arith
-  workspace_fits (Some (area, at)) k = slice_fits (bytes_of area (seen_memory m)) at (area_fits area) k
+  workspace_fits (Some (area, at)) k = slice_fits (area_bytes area (seen_memory m)) at (area_fits area) k
 
 registers_fit : (before after : List ℕ) → ((k : ℕ) → slice_index after k < 256) → (n count : ℕ) → n + count ≤ 16
     → AllRegistersFit (flat_map (register_change before after) (range_with_len n count))

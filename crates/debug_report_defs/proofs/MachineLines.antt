@@ -9,7 +9,7 @@ use Rattle.tms_defs.specs.declared.status.Status.{Status}
 use Rattle.tms_defs.proofs.StatusLaws.{status_at-status_word}
 use Rattle.console_defs.specs.Memory.{Memory}
 use Rattle.console_defs.specs.Machine.{MachineState, IsMachine}
-use Rattle.console_defs.specs.Runs.{after}
+use Rattle.console_defs.specs.Runs.{after_steps}
 use Rattle.report_defs.specs.Trace.{number_text}
 use Rattle.machine_change_defs.specs.Seen.{seen_memory}
 use Rattle.machine_change_defs.specs.Changes.{MemoryChanges, memory_applied}
@@ -77,22 +77,22 @@ front_of n p w s t = record { number = n; pc = p; wp = w; status = s; instructio
 
 module _ (x : MachineState) (is : IsMachine x) where
   abbrev changed : ℕ → MemoryChanges
-  changed made = step_changes (after made x) (after (suc made) x)
+  changed made = step_changes (after_steps made x) (after_steps (suc made) x)
 
   fit_changes : (made : ℕ) → ChangesFit (changed made)
-  fit_changes made = changes_fit (after made x).cpu.wp (seen_memory (after made x).cpu.memory) (after (suc made) x).cpu.memory (runs_fit x is (suc made)).memory
+  fit_changes made = changes_fit (after_steps made x).cpu.wp (seen_memory (after_steps made x).cpu.memory) (after_steps (suc made) x).cpu.memory (runs_fit x is (suc made)).memory
 
-  parts_are : (made : ℕ) → (front_part (line_after x made) ≡ step_front (made + 1) (after made x)) ×
+  parts_are : (made : ℕ) → (front_part (line_after x made) ≡ step_front (made + 1) (after_steps made x)) ×
       (changes_part (line_after x made) ≡ changes_text (changed made) ++ codes "\n")
   parts_are made =
-      split (step_front (made + 1) (after made x)) (changes_text (changed made) ++ codes "\n") (front_clean (made + 1) (after made x))
+      split (step_front (made + 1) (after_steps made x)) (changes_text (changed made) ++ codes "\n") (front_clean (made + 1) (after_steps made x))
       (changes_begin (changed made) (fit_changes made))
 
   changes_are : (made : ℕ) → machine_changes (line_after x made) ≡ changed made
   changes_are made = ap (λ l. (after_pieces (cut l).1 (reading no_changes None)).made) (parts_are made).1 ∙ changes_back (changed made) (fit_changes made)
 
-  read_front : (made : ℕ) → FrontRead (made + 1) (after made x) (front_part (line_after x made))
-  read_front made = subst (FrontRead (made + 1) (after made x)) (sym (parts_are made).0) (front_read (made + 1) (after made x) (runs_fit x is made))
+  read_front : (made : ℕ) → FrontRead (made + 1) (after_steps made x) (front_part (line_after x made))
+  read_front made = subst (FrontRead (made + 1) (after_steps made x)) (sym (parts_are made).0) (front_read (made + 1) (after_steps made x) (runs_fit x is made))
 
   fronts_are : (made : ℕ) → made + 1 < 2 ^ 64 → machine_front (line_after x made) ≡ front_after x made
   fronts_are made lt =
@@ -112,7 +112,7 @@ module _ (x : MachineState) (is : IsMachine x) where
       ∙ memory_from (from + 1) count
       ∙ ap (λ (n : ℕ). memory_by_changes x n) last
 
-  memory_is : (count : ℕ) → memory_of_lines (step_lines x count) (seen_memory x.cpu.memory) ≡ seen_memory (after count x).cpu.memory
+  memory_is : (count : ℕ) → memory_of_lines (step_lines x count) (seen_memory x.cpu.memory) ≡ seen_memory (after_steps count x).cpu.memory
   unfolding step_lines
   memory_is count =
       let all : 0 + count ≡ count = omega arith in

@@ -32,9 +32,9 @@ since_origin [] = []
 since_origin (line ∷ before) = line ∷ (if is_some line.origin then [] else since_origin before)
 
 -- the bytes that lines take, with those that are left free before them
-abbrev pub bytes_of : {P S : Type 0} → List (Laid P S) → ℕ
-bytes_of [] = 0
-bytes_of (line ∷ before) = bytes_of before + (line.gap + line.size)
+abbrev pub bytes_taken : {P S : Type 0} → List (Laid P S) → ℕ
+bytes_taken [] = 0
+bytes_taken (line ∷ before) = bytes_taken before + (line.gap + line.size)
 
 -- lines by the location at which their source starts, and the location some bytes after one
 module _ {P S : Type 0} (start : P) (behind : P → ℕ → P) where
@@ -45,7 +45,7 @@ module _ {P S : Type 0} (start : P) (behind : P → ℕ → P) where
 
   -- The location after the lines: the last origin, and the sizes of the lines from it on.
   abbrev pub location : List (Laid P S) → P
-  location before = behind (origin before) (bytes_of (since_origin before))
+  location before = behind (origin before) (bytes_taken (since_origin before))
 
   -- the place of a line after others
   abbrev pub place : List (Laid P S) → Laid P S → P

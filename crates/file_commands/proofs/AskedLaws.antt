@@ -9,13 +9,13 @@ use Rattle.shelf_defs.specs.Files.{Contents}
 use Rattle.bench_shelf.specs.States.{ShelfState}
 use Rattle.bench_shelf.proofs.AskedLaws.{some_contents}
 use Rattle.report_defs.specs.Report.{largest_input}
-use Rattle.report_defs.specs.LinkedFiles.{TooLarge, bytes_of, read_by}
+use Rattle.report_defs.specs.LinkedFiles.{TooLarge, taken_file, read_by}
 use Rattle.file_commands.specs.Reading.{Reads}
 
 abbrev Text : Type 0
 Text = List ℕ × List ℕ
 
-name_read : (name : List ℕ) (content : Option (List ℕ)) (text : Text) → bytes_of name content ≡ Ok text → text.0 ≡ name
+name_read : (name : List ℕ) (content : Option (List ℕ)) (text : Text) → taken_file name content ≡ Ok text → text.0 ≡ name
 name_read name None text e = absurd cc
 name_read name (Some bytes) text e = by (nat_lt largest_input (length bytes)) e
   where
@@ -27,7 +27,7 @@ pub names_read : (contents : Contents) (number : ℕ) (names : List (List ℕ)) 
     → map (λ text. text.0) texts ≡ names
 names_read contents number [] texts e = let none : [] ≡ texts = cc e in ap (map (λ (text : Text). text.0)) (sym none)
 names_read contents number (name ∷ names) texts e =
-    let a = bound (bytes_of name (contents number name)) (λ (first : Text). read_by contents (number + 1) names >>= λ others. Ok (first ∷ others)) texts e in
+    let a = bound (taken_file name (contents number name)) (λ (first : Text). read_by contents (number + 1) names >>= λ others. Ok (first ∷ others)) texts e in
     let b = bound (read_by contents (number + 1) names) (λ (others : List Text). Ok (a.0 ∷ others)) texts a.2 in
     let is : a.0 ∷ b.0 ≡ texts = cc b.2 in
     let first : a.0.0 ≡ name = name_read name (contents number name) a.0 a.1 in

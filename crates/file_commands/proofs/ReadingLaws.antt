@@ -18,7 +18,7 @@ use Rattle.bench_shelf.proofs.UnchangedParts.{within_then}
 use Rattle.bench_shelf.proofs.AskingLaws.{agrees_front, agrees_back, shown_then, shown_one, shown_none, reads_none, reads_then, none_follow, turns_then}
 use Rattle.report_defs.specs.Report.{largest_input}
 use Rattle.report_defs.specs.LinkedFiles as spec
-use Rattle.report_defs.specs.LinkedFiles.{FilesRefusal, TooLarge, bytes_of, read_by}
+use Rattle.report_defs.specs.LinkedFiles.{FilesRefusal, TooLarge, taken_file, read_by}
 use Rattle.file_commands.specs.declared.file_text.FileText.{FileText}
 use Rattle.file_commands.specs.Reading.{model_of_text, model_of_texts, Refuses, LinkDialogue, EndsReading, Reads}
 
@@ -43,7 +43,7 @@ with_others rest first = rest >>= λ others. Ok (first ∷ others)
 
 -- ---- what is read by some contents
 
-text_read : (text : FileText) (content : Option (List ℕ)) → content ≡ Some text.bytes.items → bytes_of text.name content ≡ Ok (model_of_text text)
+text_read : (text : FileText) (content : Option (List ℕ)) → content ≡ Some text.bytes.items → taken_file text.name content ≡ Ok (model_of_text text)
 text_read text content is =
     let le = text.within in
     let fits : nat_lt largest_input (length text.bytes.items) ≡ false = grind (arith, nat_tests, le) in
@@ -65,21 +65,21 @@ module _ (contents : Contents) where
 
   -- the next file is not read
   read_stops : (number : ℕ) (texts : List FileText) (rest : List (List ℕ)) (name : List ℕ) (refusal : FilesRefusal)
-      → Agrees largest_input contents number (questions_of texts) → bytes_of name (contents (number + length texts) name) ≡ Err refusal
+      → Agrees largest_input contents number (questions_of texts) → taken_file name (contents (number + length texts) name) ≡ Err refusal
       → read_by contents number (names_in texts ++ name ∷ rest) ≡ Err refusal
   read_stops number [] rest name refusal agrees is =
       let here : number + length {A = FileText} [] ≡ number = omega arith in
       ap (λ (answer : Result Text FilesRefusal). answer >>= with_others (read_by contents (number + 1) rest))
-      (subst (λ n. bytes_of name (contents n name) ≡ Err refusal) here is)
+      (subst (λ n. taken_file name (contents n name) ≡ Err refusal) here is)
   read_stops number (text ∷ texts) rest name refusal agrees is =
       let here : number + length (text ∷ texts) ≡ number + 1 + length texts = omega arith in
       read_first number text (names_in texts ++ name ∷ rest) (Err refusal) agrees.0
-      (read_stops (number + 1) texts rest name refusal agrees.1 (subst (λ n. bytes_of name (contents n name) ≡ Err refusal) here is))
+      (read_stops (number + 1) texts rest name refusal agrees.1 (subst (λ n. taken_file name (contents n name) ≡ Err refusal) here is))
 
 -- a file that is not read
 refuses_one : (error : FileError) (name : List ℕ) (content : Option (List ℕ)) → IsOfName name error → Fits largest_input (answer_by error) content
-    → Refuses error (bytes_of name content)
-refuses_one (unread.Missing other) name content is none = ap (bytes_of name) none ∙ ap (λ n. Err (spec.Missing n)) (sym is)
+    → Refuses error (taken_file name content)
+refuses_one (unread.Missing other) name content is none = ap (taken_file name) none ∙ ap (λ n. Err (spec.Missing n)) (sym is)
 refuses_one unread.TooLarge name content is more =
     let size : largest_input < length more.0 = more.2 in
     let large : nat_lt largest_input (length more.0) ≡ true = grind (arith, nat_tests, size) in
@@ -183,7 +183,7 @@ module _ (texts : List FileText) (s t u : ShelfState) (so_far : ReadSoFar texts 
       gives = λ contents agrees.
           let fits = agrees_back largest_input contents 0 (questions_of texts) (last ∷ []) agrees in
           let here : 0 + length (questions_of texts) ≡ 0 + length texts = omega (arith, length-map texts question_of) in
-          refused_by error (bytes_of name (contents (0 + length texts) name)) (read_by contents 0 names)
+          refused_by error (taken_file name (contents (0 + length texts) name)) (read_by contents 0 names)
           (λ refusal e. ap (read_by contents 0) are
           ∙ read_stops contents 0 texts rest name refusal (agrees_front largest_input contents 0 (questions_of texts) (last ∷ []) agrees) e)
           (refuses_one error name (contents (0 + length texts) name) is (subst (λ n. Fits largest_input (answer_by error) (contents n name)) here fits.0));

@@ -3,7 +3,7 @@
 ghost use Rattle.std.specs.Prelude.{◌≡◌, ◌≤◌, length, Err, IfOk};
 ghost use Rattle.source_defs.specs.Refusals.{map_ok};
 ghost use Rattle.object_defs.specs.Writing.{written_lines};
-ghost use Rattle.object_tags.specs.Lines.{bytes_of};
+ghost use Rattle.object_tags.specs.Lines.{line_bytes};
 ghost use Rattle.object_tags.specs.Seen.{model_of_module};
 ghost use Rattle.bench_shelf.specs.Causes.{CountsGrew};
 ghost use Rattle.bench_shelf.specs.Answered.{IsOfLines};
@@ -60,7 +60,7 @@ fn refused(error: CopyError) -> CommandError
 /// The lines of the object text of a module of some lines.
 fn lines_of(alloc: Global, module: &Module) -> Result<Vec<ObjectLine>, AllocError>
     requires { IsOfLines (model_of_module «module».now) }
-    ensures { IfOk result (λ lines. bytes_of lines.items ≡ written_lines (model_of_module «module».now)) }
+    ensures { IfOk result (λ lines. line_bytes lines.items ≡ written_lines (model_of_module «module».now)) }
 {
     write_lines(alloc, module)
 }

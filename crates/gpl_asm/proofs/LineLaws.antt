@@ -3,7 +3,7 @@ use Rattle.std.proofs.Common.{◌≡◌, ℕ, ◌+◌, Bool, true, false, List, 
 use Rattle.std.specs.Prelude.{Option, Result, is_some, if◌then◌else◌}
 use Rattle.source_defs.specs.Refusals.{Refusal, ◌>>=◌, at_line}
 use Rattle.expression_defs.specs.Symbols.{Names, look_up}
-use Rattle.expression_defs.specs.Layout.{assembled_lines, set_or, origin, since_origin, bytes_of}
+use Rattle.expression_defs.specs.Layout.{assembled_lines, set_or, origin, since_origin, bytes_taken}
 use Rattle.gpl_source_defs.specs.declared.causes.GplCause.{GplCause}
 use Rattle.gpl_source_defs.specs.declared.causes.GplCause.TheVariants.{Overlap}
 use Rattle.gpl_source_defs.specs.declared.location.Location.{Location}
@@ -22,11 +22,11 @@ use Rattle.gpl_asm.proofs.ReplayLaws.{replay_more}
 
 -- the location behind a line
 location_by : (set : Option Location) (from : Location) (lines : List Line) (more : ℕ)
-    → behind (set_or set from) (bytes_of (if is_some set then [] else since_origin lines) + more)
-    ≡ behind (set_or set (behind from (bytes_of (since_origin lines)))) more
+    → behind (set_or set from) (bytes_taken (if is_some set then [] else since_origin lines) + more)
+    ≡ behind (set_or set (behind from (bytes_taken (since_origin lines)))) more
 location_by (Some origin) from lines more = ap (λ number. record { grom = origin.grom; number = origin.number + number }) (omega arith)
 location_by None from lines more =
-    let bytes = bytes_of (since_origin lines) in
+    let bytes = bytes_taken (since_origin lines) in
     let same : from.number + (bytes + more) ≡ from.number + bytes + more = omega arith in
     ap (λ number. record { grom = from.grom; number = number }) same
 

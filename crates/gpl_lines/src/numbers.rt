@@ -38,7 +38,7 @@ pub(crate) fn index_of(number: u16) -> Result<u8, GplCause>
 
 /// A number from -128 to 255 as a byte.
 pub(crate) fn byte_of(number: u16) -> Result<u8, GplCause>
-    ensures value { result ≡ spec.byte_of number }
+    ensures value { result ≡ spec.checked_byte number }
     ensures cause { IfErr result (λ cause. cause ≡ BadOperand) }
 {
     if number <= 0xFF || number >= 0xFF80 {

@@ -207,7 +207,7 @@ fn bytes_of_words(alloc: Global, words: &[u16]) -> Result<Vec<u8>, AllocError>
 
 /// Numbers as bytes.
 fn bytes_of(alloc: Global, numbers: &[u16]) -> Result<Vec<u8>, Failure>
-    ensures { Gives (λ bytes. bytes.items) result (values.bytes_of numbers.now) }
+    ensures { Gives (λ bytes. bytes.items) result (values.checked_bytes numbers.now) }
 {
     let mut bytes = Vec::new(alloc);
     let mut rest = numbers;

@@ -71,7 +71,7 @@ module _ (known : Names) (at : Location) (statement : Statement) (earlier : List
       assembled_by ∙ put_err full cause (ap (λ (to : Image). put at found (empty_built to)) (sym same) ∙ e)
 
   pub bytes_there : spec.placed_bytes known at statement ≡ bytes_in found
-  bytes_there = ap spec.bytes_of came
+  bytes_there = ap spec.outcome_bytes came
 
 -- a line that fails before it is placed
 pub fails_before : (known : Names) (at : Location) (statement : Statement) (earlier : List AssembledLine) (failed : Failure)

@@ -18,7 +18,7 @@ use Rattle.gpl_source_defs.specs.Locations.{Line, place}
 use Rattle.gpl_source_defs.specs.FirstChecks.{check, names}
 use Rattle.gpl_source_defs.specs.SecondChecks.{Outcome, outcome}
 use Rattle.gpl_source_defs.specs.Programs.{AssembledLine, assembled_line, assembled_at, overlaps, image, bytes_in, program_by, program_behind}
-use Rattle.gpl_list_defs.specs.Rows.{Row, NameRow, address, bytes_of, placed_bytes, row, rows, names_in, name_rows}
+use Rattle.gpl_list_defs.specs.Rows.{Row, NameRow, address, outcome_bytes, placed_bytes, row, rows, names_in, name_rows}
 use Rattle.gpl_list_defs.specs.Listing.{assembled_listing, laid_listing}
 use Rattle.gpl_list_defs.specs.Laws.{with_rows, with_names, ListsOf, ListingsGivePrograms}
 
@@ -89,7 +89,7 @@ module _ (known : Names) (texts : List (ℕ × List ℕ)) where
       → Came known (place before line) line.statement found → with_rows empty (shown (line ∷ before)) ≡ image (found ∷ earlier)
   one_more before line earlier found is came =
       let at = place before line in
-      let bytes : placed_bytes known at line.statement ≡ bytes_in found.outcome = ap bytes_of came.came in
+      let bytes : placed_bytes known at line.statement ≡ bytes_in found.outcome = ap outcome_bytes came.came in
       with_rows_append empty (shown before) (row (placed_bytes known) texts before line ∷ [])
       ∙ (ap (λ (to : Image). placed to (address at line.statement) (placed_bytes known at line.statement)) is
       ∙ (ap (λ bytes. placed (image earlier) (address at line.statement) bytes) bytes

@@ -36,12 +36,12 @@ abbrev pub no_bytes : ListsBytes
 no_bytes at statement = []
 
 -- the bytes that it places, by all names
-abbrev pub bytes_of : Result Outcome GplCause → List ℕ
-bytes_of (Ok found) = bytes_in found
-bytes_of (Err cause) = []
+abbrev pub outcome_bytes : Result Outcome GplCause → List ℕ
+outcome_bytes (Ok found) = bytes_in found
+outcome_bytes (Err cause) = []
 
 abbrev pub placed_bytes : Names → ListsBytes
-placed_bytes known at statement = bytes_of (outcome (look_up known) at statement)
+placed_bytes known at statement = outcome_bytes (outcome (look_up known) at statement)
 
 -- the text of the line with a number
 abbrev pub text_of : List (ℕ × List ℕ) → ℕ → List ℕ

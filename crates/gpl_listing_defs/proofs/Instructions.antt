@@ -39,7 +39,7 @@ use Rattle.gpl_source_defs.specs.Mnemonics.{name_of, mnemonic}
 use Rattle.gpl_source_defs.specs.SecondChecks.{instruction, source_value, length_value, moved, register_of}
 use Rattle.gpl_source_defs.specs.Skeletons.{Source, At, Immediate, Route, Within, ToMemory, ToRegisters, Skeleton, Plain, Byte, Jump, Branch, One, Two, Move}
 use Rattle.gpl_source_defs.specs.Skeletons.{source_in, route_in, skeleton, source_by_zero, length_by_zero, move_by_zero, size_of}
-use Rattle.gpl_source_defs.specs.Values.{byte_of}
+use Rattle.gpl_source_defs.specs.Values.{checked_byte}
 use Rattle.gpl_listing_defs.specs.Texts.{mnemonic_of, value_text}
 use Rattle.listed_lines.proofs.LineTexts.{plain_byte, field_of}
 use Rattle.gpl_listing_defs.proofs.Operands.{OperandFits, InMemory, Word, Byte as OneByte, form, token_back, written_back, shown}
@@ -252,7 +252,7 @@ size_back _ at valid = refl
 
 -- ---- the second checks
 
-byte_number : (value : ℕ) → value < 256 → byte_of value ≡ Ok value
+byte_number : (value : ℕ) → value < 256 → checked_byte value ≡ Ok value
 byte_number value lt = let few : nat_le value 0xFF ≡ true = grind (arith, nat_tests) in rw few refl
 
 -- a place lies in the GROM that was set last

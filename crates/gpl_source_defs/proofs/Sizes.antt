@@ -13,7 +13,7 @@ use Rattle.gpl_defs.specs.declared.instruction.MoveLength.TheVariants as counted
 use Rattle.gpl_defs.specs.Bytes as gpl
 use Rattle.gpl_source_defs.specs.declared.causes.GplCause.{GplCause}
 use Rattle.gpl_source_defs.specs.declared.location.Location.{Location}
-use Rattle.gpl_source_defs.specs.Values.{number, numbers, byte_of, bytes_of, index_of}
+use Rattle.gpl_source_defs.specs.Values.{number, numbers, checked_byte, checked_bytes, index_of}
 use Rattle.gpl_source_defs.specs.Skeletons.{Source, At, Immediate, Route, Within, ToMemory, ToRegisters, Skeleton, Plain, Jump, Branch, One, Two, Move}
 use Rattle.gpl_source_defs.specs.Skeletons.{source_by_zero, length_by_zero, move_by_zero, instr_by_zero, size_of}
 use Rattle.gpl_source_defs.specs.Skeletons as skeletons
@@ -33,13 +33,13 @@ numbers_length look here (text ∷ texts) found e =
     let same : a.0 ∷ b.0 ≡ found = cc b.2 in
     omega (arith, ap length same, numbers_length look here texts b.0 b.1)
 
-bytes_length : (numbers found : List ℕ) → bytes_of numbers ≡ Ok found → length found ≡ length numbers
+bytes_length : (numbers found : List ℕ) → checked_bytes numbers ≡ Ok found → length found ≡ length numbers
 bytes_length [] found e =
     let same : [] ≡ found = cc e in
     sym (ap length same)
 bytes_length (number ∷ numbers) found e =
-    let a = bound (byte_of number) _ found e in
-    let b = bound (bytes_of numbers) _ found a.2 in
+    let a = bound (checked_byte number) _ found e in
+    let b = bound (checked_bytes numbers) _ found a.2 in
     let same : a.0 ∷ b.0 ≡ found = cc b.2 in
     omega (arith, ap length same, bytes_length numbers b.0 b.1)
 
@@ -119,7 +119,7 @@ module _ (look : List ℕ → Option Value) (at : Location) where
   instr_length (Plain op) found e = made_length _ found (instr_by_zero (Plain op)) e refl
   instr_length (skeletons.Byte op text) found e =
       let a = bound (value look at text) _ found e in
-      let b = bound (byte_of a.0) _ found a.2 in
+      let b = bound (checked_byte a.0) _ found a.2 in
       made_length _ found (instr_by_zero (skeletons.Byte op text)) b.2 refl
   instr_length (Jump op text) found e =
       let a = bound (value look at text) _ found e in
@@ -164,7 +164,7 @@ module _ (look : List ℕ → Option Value) (at : Location) where
       (words_length a.0 ∙ ap (λ n. 2 * n) (numbers_length look (address_of at) texts a.0 a.1))
   outcome_size (statements.Byte texts) found e =
       let a = bound (numbers look (address_of at) texts) _ found e in
-      let b = bound (bytes_of a.0) _ found a.2 in
+      let b = bound (checked_bytes a.0) _ found a.2 in
       placed_length b.0 found (length texts) b.2 (bytes_length a.0 b.0 b.1 ∙ numbers_length look (address_of at) texts a.0 a.1)
   outcome_size (Text quoted) found e = placed_length (characters quoted) found (length (characters quoted)) e refl
   outcome_size (End None) found e = none_placed found _ e

@@ -17,7 +17,7 @@ use Rattle.gpl_defs.specs.Bytes as gpl
 use Rattle.gpl_source_defs.specs.declared.causes.GplCause.{GplCause}
 use Rattle.gpl_source_defs.specs.declared.causes.GplCause.TheVariants.{BadOperand}
 use Rattle.gpl_source_defs.specs.declared.location.Location.{Location}
-use Rattle.gpl_source_defs.specs.Values.{number, numbers, byte_of, bytes_of, index_of}
+use Rattle.gpl_source_defs.specs.Values.{number, numbers, checked_byte, checked_bytes, index_of}
 use Rattle.gpl_source_defs.specs.Skeletons.{Source, At, Immediate, Route, Within, ToMemory, ToRegisters}
 use Rattle.gpl_source_defs.specs.Skeletons.{Skeleton, Plain}
 use Rattle.gpl_source_defs.specs.Skeletons.{Byte as OneByte, Jump, Branch, One, Two, Move}
@@ -32,7 +32,7 @@ pub data Outcome : Type 0 where
 -- an immediate source, which is a word or a byte
 abbrev pub immediate_of : Bool → ℕ → Result ℕ GplCause
 immediate_of true number = Ok number
-immediate_of false number = byte_of number
+immediate_of false number = checked_byte number
 
 -- Profile: the number of a register has one byte, without a sign.
 abbrev pub register_of : ℕ → Result ℕ GplCause
@@ -78,7 +78,7 @@ module _ (look : List ℕ → Option Value) (at : Location) where
   instruction (Plain op) = Ok (instr.Plain op)
   instruction (OneByte op text) = do
     number ← value text
-    byte ← byte_of number
+    byte ← checked_byte number
     Ok (instr.Byte op byte)
   instruction (Jump op text) = do
     address ← value text
@@ -106,7 +106,7 @@ module _ (look : List ℕ → Option Value) (at : Location) where
     Ok (Bytes (flat_map gpl.word_bytes words))
   outcome (Byte texts) = do
     numbers ← numbers look (address_of at) texts
-    bytes ← bytes_of numbers
+    bytes ← checked_bytes numbers
     Ok (Bytes bytes)
   outcome (Text quoted) = Ok (Bytes (characters quoted))
   outcome (End (Some text)) = do

@@ -30,11 +30,11 @@ abbrev pub index_of : ℕ → Result ℕ GplCause
 index_of number =
     if nat_le SCRATCHPAD number && nat_le number (SCRATCHPAD + 255) then Ok (number - SCRATCHPAD) else Err BadOperand
 
-abbrev pub byte_of : ℕ → Result ℕ GplCause
-byte_of = number_as_byte BadOperand
+abbrev pub checked_byte : ℕ → Result ℕ GplCause
+checked_byte = number_as_byte BadOperand
 
-abbrev pub bytes_of : List ℕ → Result (List ℕ) GplCause
-bytes_of = numbers_as_bytes BadOperand
+abbrev pub checked_bytes : List ℕ → Result (List ℕ) GplCause
+checked_bytes = numbers_as_bytes BadOperand
 
 -- by what each name stands for, and the address that $ stands for
 module _ (look : List ℕ → Option Value) (here : ℕ) where

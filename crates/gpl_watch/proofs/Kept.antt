@@ -10,7 +10,7 @@ use Rattle.list_defs.specs.Lists.{common_length, first_difference}
 use Rattle.gpl_step_defs.specs.State.{GplState}
 use Rattle.watch_defs.specs.declared.item.Item.{Item}
 use Rattle.watch_defs.specs.declared.item.Item.TheVariants.{Range, Pc}
-use Rattle.watch_defs.specs.Items.{base_of, bytes_of, holds_since, holds, change_since, change}
+use Rattle.watch_defs.specs.Items.{base_of, item_bytes, holds_since, holds, change_since, change}
 use Rattle.watch_defs.specs.Hits.{first_item, change_at}
 use Rattle.watch_defs.proofs.Places.{position_mapped, Nowhere, nowhere}
 use Rattle.gpl_watch.specs.Watches.{WatchedItem, watched_in, watching, items_of, Keeps, first_kept}
@@ -92,9 +92,9 @@ no_difference a b = by (nat_eq (common_length a b) (length a) && nat_eq (common_
     by false is e = absurd (cc)
 
 -- an item that does not hold has the same bytes
-same_bytes : (item : Item) (s t : GplState) → holds item s t ≡ false → bytes_of item t ≡ bytes_of item s
+same_bytes : (item : Item) (s t : GplState) → holds item s t ≡ false → item_bytes item t ≡ item_bytes item s
 same_bytes (Range space at len) s t e =
-    sym (no_difference (bytes_of (Range space at len) s) (bytes_of (Range space at len) t) e)
+    sym (no_difference (item_bytes (Range space at len) s) (item_bytes (Range space at len) t) e)
 same_bytes (Pc at) s t e = refl
 
 all_same : (items : List Item) (s t : GplState) → Nowhere (λ item. holds item s t) items
@@ -114,7 +114,7 @@ pub still_kept : (items : List Item) (s t : GplState) (watched : List WatchedIte
 still_kept items s t watched is none = is ∙ sym (all_same items s t (nowhere (λ item. holds item s t) items none))
 
 -- states with the same cells and the same video memory show the same
-same_range : (item : Item) (a b : GplState) → a.cells ≡ b.cells → a.vdp ≡ b.vdp → bytes_of item a ≡ bytes_of item b
+same_range : (item : Item) (a b : GplState) → a.cells ≡ b.cells → a.vdp ≡ b.vdp → item_bytes item a ≡ item_bytes item b
 same_range (Range Cpu at len) a b cells vdp =
     ap (λ (bytes : List ℕ). slice_range bytes (at - base_of Cpu) (at - base_of Cpu + len)) cells
 same_range (Range Vdp at len) a b cells vdp =

@@ -8,7 +8,7 @@ use Rattle.watch_defs.specs.declared.item.Item.{Item}
 use Rattle.watch_defs.specs.declared.item.Item.TheVariants.{Range, Pc}
 use Rattle.watch_defs.specs.declared.found.Found.{Found}
 use Rattle.watch_defs.specs.declared.found.Found.TheVariants as found
-use Rattle.watch_defs.specs.Items.{IsItem, bytes_of, holds_since}
+use Rattle.watch_defs.specs.Items.{IsItem, item_bytes, holds_since}
 
 -- An item that is watched, and the bytes of its range that are kept.
 pub record WatchedItem : Type 0 where
@@ -26,7 +26,7 @@ pub record IsWatched (item : Item) (kept : List ℕ) : Type 0 where
 
 -- The item with the bytes that a state shows.
 abbrev pub watched_in : GplState → Item → WatchedItem
-watched_in s item = record { item = item; kept = bytes_of item s }
+watched_in s item = record { item = item; kept = item_bytes item s }
 
 abbrev pub watching : List Item → GplState → List WatchedItem
 watching items s = map (watched_in s) items

@@ -2,7 +2,7 @@
 
 ghost use Rattle.std.specs.Prelude.{◌≡◌, ◌↔◌, length, IsTrue};
 ghost use Rattle.gpl_run.specs.Sessions.{gpl_state_of};
-ghost use Rattle.watch_defs.specs.Items.{IsItem, IsRange, base_of, bytes_in, bytes_of, size_of};
+ghost use Rattle.watch_defs.specs.Items.{IsItem, IsRange, base_of, bytes_in, item_bytes, size_of};
 ghost use Rattle.watch_defs.specs.declared.item.Item.TheVariants.{Range};
 ghost use Rattle.gpl_watch.specs.Watches.{count_of};
 
@@ -46,7 +46,7 @@ fn size_of(space: Space) -> u16
 /// The bytes of a range that a program shows.
 pub(crate) fn range_bytes(session: &Session, space: Space, at: u16, len: u16) -> &[u8]
     requires { IsRange space at len }
-    ensures bytes { result.now ≡ bytes_of (Range space at len) (gpl_state_of session.now) }
+    ensures bytes { result.now ≡ item_bytes (Range space at len) (gpl_state_of session.now) }
     ensures size { length result.now ≡ len }
 {
     let start = (at - base_of(space)) as usize;
@@ -56,7 +56,7 @@ pub(crate) fn range_bytes(session: &Session, space: Space, at: u16, len: u16) ->
 /// The bytes of an item's range that a program shows. An address has none.
 pub(crate) fn item_bytes(session: &Session, item: Item) -> &[u8]
     requires { IsItem item }
-    ensures bytes { result.now ≡ bytes_of item (gpl_state_of session.now) }
+    ensures bytes { result.now ≡ item_bytes item (gpl_state_of session.now) }
     ensures size { length result.now ≡ count_of item }
 {
     match item {

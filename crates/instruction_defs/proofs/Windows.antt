@@ -7,7 +7,7 @@ use Rattle.tms_defs.specs.declared.instruction.Place.{Place}
 use Rattle.tms_defs.specs.declared.instruction.Instr.{Instr}
 use Rattle.tms_defs.specs.declared.instruction.Instr.TheVariants.{Two, Reg, One, Imm, Bare}
 use Rattle.instruction_defs.specs.Operations.{name_of}
-use Rattle.instruction_defs.specs.Operands.{following_words, has_immediate, has_value, words_of}
+use Rattle.instruction_defs.specs.Operands.{following_words, has_immediate, has_value, size_in_words}
 use Rattle.instruction_defs.specs.Printed.{printed, printed_where, operands_text, operand_text, two_texts, with_operands}
 use Rattle.count_defs.specs.Counts.{one_if}
 
@@ -23,7 +23,7 @@ one_if_few true = omega arith
 one_if_few false = omega arith
 
 -- an instruction has one to three words
-pub words_few : (instr : Instr) → words_of instr ≤ 3
+pub words_few : (instr : Instr) → size_in_words instr ≤ 3
 words_few (Two op byte dst src) = omega (arith, following_few src, following_few dst)
 words_few (Reg op number src) = omega (arith, following_few src)
 words_few (One op place) = omega (arith, following_few place)
@@ -31,7 +31,7 @@ words_few (Imm op number) = omega (arith, one_if_few (has_immediate op))
 words_few (Bare op) = omega (arith, one_if_few (has_value op))
 words_few _ = omega arith
 
-pub words_some : (instr : Instr) → 1 ≤ words_of instr
+pub words_some : (instr : Instr) → 1 ≤ size_in_words instr
 words_some (Two op byte dst src) = omega arith
 words_some _ = omega arith
 
@@ -51,10 +51,10 @@ module _ (a b c : ℕ) (rest : List ℕ) where
   same_where None at = refl
   same_where (Some instr) at =
       let few = words_few instr in
-      let short : nat_le (words_of instr) (length (a ∷ b ∷ c ∷ [])) ≡ true = grind (arith, nat_tests) in
-      let long : nat_le (words_of instr) (length (a ∷ b ∷ c ∷ rest)) ≡ true = grind (arith, nat_tests) in
+      let short : nat_le (size_in_words instr) (length (a ∷ b ∷ c ∷ [])) ≡ true = grind (arith, nat_tests) in
+      let long : nat_le (size_in_words instr) (length (a ∷ b ∷ c ∷ rest)) ≡ true = grind (arith, nat_tests) in
       rw (short, long)
-      (ap (λ operands. record { text = with_operands (name_of (operation_of instr)) operands; count = words_of instr }) (same_operands instr at))
+      (ap (λ operands. record { text = with_operands (name_of (operation_of instr)) operands; count = size_in_words instr }) (same_operands instr at))
 
 -- three words give what all of them give
 pub printed_window : (words : List ℕ) (at : ℕ) → printed (take 3 words) at ≡ printed words at
@@ -66,9 +66,9 @@ printed_window (a ∷ b ∷ c ∷ rest) at = same_where a b c rest (instr_at a) 
 
 count_where : (found : Option Instr) (at : ℕ) (word : ℕ) (words : List ℕ) → 1 ≤ (printed_where found at (word ∷ words)).count × (printed_where found at (word ∷ words)).count ≤ length (word ∷ words)
 count_where None at word words = (omega arith, omega arith)
-count_where (Some instr) at word words = by (nat_le (words_of instr) (length (word ∷ words))) refl
+count_where (Some instr) at word words = by (nat_le (size_in_words instr) (length (word ∷ words))) refl
   where
-    by : (whole : Bool) → nat_le (words_of instr) (length (word ∷ words)) ≡ whole → 1 ≤ (printed_where (Some instr) at (word ∷ words)).count × (printed_where (Some instr) at (word ∷ words)).count ≤ length (word ∷ words)
+    by : (whole : Bool) → nat_le (size_in_words instr) (length (word ∷ words)) ≡ whole → 1 ≤ (printed_where (Some instr) at (word ∷ words)).count × (printed_where (Some instr) at (word ∷ words)).count ≤ length (word ∷ words)
     by true is = rw is (words_some instr, grind (arith, nat_tests))
     by false is = rw is (omega arith, omega arith)
 

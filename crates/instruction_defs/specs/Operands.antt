@@ -37,14 +37,14 @@ abbrev pub following_words : Place → ℕ
 following_words place = if place.mode == 2 then 1 else 0
 
 -- How many words an instruction has: its first, and the words of its operands.
-abbrev pub words_of : Instr → ℕ
-words_of (Two op byte dst src) = 1 + following_words src + following_words dst
-words_of (Reg op number src) = 1 + following_words src
-words_of (Shift op count number) = 1
-words_of (One op at) = 1 + following_words at
-words_of (Jump op disp) = 1
-words_of (Imm op number) = 1 + one_if (has_immediate op)
-words_of (Bare op) = 1 + one_if (has_value op)
+abbrev pub size_in_words : Instr → ℕ
+size_in_words (Two op byte dst src) = 1 + following_words src + following_words dst
+size_in_words (Reg op number src) = 1 + following_words src
+size_in_words (Shift op count number) = 1
+size_in_words (One op at) = 1 + following_words at
+size_in_words (Jump op disp) = 1
+size_in_words (Imm op number) = 1 + one_if (has_immediate op)
+size_in_words (Bare op) = 1 + one_if (has_value op)
 
 -- The operands of an operation, in the order of the operand field.
 -- Editor/Assembler manual, "Assembly Language Instructions".

@@ -18,7 +18,7 @@ use Rattle.tms_defs.specs.declared.instruction.JumpOp.TheVariants.{SBO, SBZ, TB}
 use Rattle.tms_defs.specs.declared.instruction.Instr.{Instr}
 use Rattle.tms_defs.specs.declared.instruction.Instr.TheVariants.{Two, Reg, Shift, One, Jump, Imm, Bare}
 use Rattle.instruction_defs.specs.Operations.{name_of}
-use Rattle.instruction_defs.specs.Operands.{following_words, has_immediate, has_value, words_of}
+use Rattle.instruction_defs.specs.Operands.{following_words, has_immediate, has_value, size_in_words}
 
 abbrev pub register_text : ℕ → List ℕ
 register_text number = 0x52 ∷ decimal number
@@ -89,8 +89,8 @@ printed_word word = record { text = codes "DATA " ++ hex_word word; count = 1 }
 abbrev pub printed_where : Option Instr → ℕ → List ℕ → Printed
 printed_where None at words = printed_word (slice_index words 0)
 printed_where (Some instr) at words =
-    if nat_le (words_of instr) (length words)
-    then record { text = instr_text instr at words; count = words_of instr }
+    if nat_le (size_in_words instr) (length words)
+    then record { text = instr_text instr at words; count = size_in_words instr }
     else printed_word (slice_index words 0)
 
 -- Profile: the text of the whole instruction at the front of some words, of which the first stands at an address; or

@@ -7,7 +7,7 @@ use Rattle.console_defs.specs.Machine.{MachineState, steps}
 use Rattle.native_interp.specs.declared.addresses.TheConstants.{GSTEP}
 use Rattle.gpl_step_defs.specs.State.{start}
 use Rattle.gpl_step_defs.specs.Run.{turns}
-use Rattle.interp_defs.specs.Runs.{is_end}
+use Rattle.interp_defs.specs.Runs.{is_turn_end}
 use Rattle.interp_defs.specs.Turns.{Boots, IsTurn}
 use Rattle.interp_defs.specs.Programs.{RunsProgram, OneMachineIsLeft}
 use Rattle.interp_defs.proofs.OneBoot.{one_boot}
@@ -48,8 +48,8 @@ one_turn : (m n : ℕ) (x y z : MachineState) → IsTurn m x y → IsTurn n x z 
 one_turn m n x y z p q =
     let same : m ≡ n =
     one_number m n
-    (λ earlier. both (is_end y.cpu.pc) p.there (q.runs.clear m p.some earlier y p.runs.leads))
-    (λ earlier. both (is_end z.cpu.pc) q.there (p.runs.clear n q.some earlier z q.runs.leads)) in
+    (λ earlier. both (is_turn_end y.cpu.pc) p.there (q.runs.clear m p.some earlier y p.runs.leads))
+    (λ earlier. both (is_turn_end z.cpu.pc) q.there (p.runs.clear n q.some earlier z q.runs.leads)) in
     one_given m n x y z same p.runs.leads q.runs.leads
 
 -- Two runs of one program have the same machines.

@@ -5,12 +5,12 @@ use Rattle.console_defs.specs.Machine.{MachineState, steps}
 use Rattle.native_interp.specs.declared.addresses.TheConstants.{GSTEP, GSTOP, GEXIT}
 
 -- where a step begins, where a program stops, and where it leaves
-abbrev pub is_end : ℕ → Bool
-is_end pc = pc == GSTEP || (pc == GSTOP || pc == GEXIT)
+abbrev pub is_turn_end : ℕ → Bool
+is_turn_end pc = pc == GSTEP || (pc == GSTOP || pc == GEXIT)
 
 -- So many executed instructions lead from x to y, and the program counter is at none of the three ends
 -- after any of them but the last.
 pub record Runs (count : ℕ) (x y : MachineState) : Type 0 where
   pub leads : steps count x ≡ Gives y
   pub clear : (before : ℕ) → 0 < before → before < count → (z : MachineState) → steps before x ≡ Gives z
-      → IsFalse (is_end z.cpu.pc)
+      → IsFalse (is_turn_end z.cpu.pc)

@@ -3,7 +3,7 @@ use Rattle.std.specs.Prelude.{◌≡◌, ◌<◌, ℕ, ◌==◌, IsTrue, IsFalse
 use Rattle.tms_defs.specs.Accesses.{Gives}
 use Rattle.console_defs.specs.Machine.{MachineState, steps}
 use Rattle.native_interp.specs.declared.addresses.TheConstants.{GSTEP}
-use Rattle.interp_defs.specs.Runs.{Runs, is_end}
+use Rattle.interp_defs.specs.Runs.{Runs, is_turn_end}
 
 -- From its start the interpreter comes to its first step: `count` instructions are the least after which the program
 -- counter is there.
@@ -17,4 +17,4 @@ pub record Boots (count : ℕ) (x y : MachineState) : Type 0 where
 pub record IsTurn (count : ℕ) (x y : MachineState) : Type 0 where
   pub some : 0 < count
   pub runs : Runs count x y
-  pub there : IsTrue (is_end y.cpu.pc)
+  pub there : IsTrue (is_turn_end y.cpu.pc)

@@ -9,7 +9,7 @@ use Rattle.source_defs.specs.Fields.{Fields, fields}
 use Rattle.expression_defs.specs.Symbols.{Names, look_up}
 use Rattle.expression_defs.specs.Expression.{Value}
 use Rattle.source_defs.specs.Lines.{numbered}
-use Rattle.expression_defs.specs.Layout.{laid_behind, with_names, has_ended, set_or, since_origin, bytes_of}
+use Rattle.expression_defs.specs.Layout.{laid_behind, with_names, has_ended, set_or, since_origin, bytes_taken}
 use Rattle.asm_defs.specs.declared.causes.AsmCause.{AsmCause}
 use Rattle.asm_defs.specs.declared.location.Location.{Location}
 use Rattle.asm_defs.specs.Statements.{Statement, as_text, statement_in, Nothing, Instruction, Aorg, Equ, Data}
@@ -91,13 +91,13 @@ module _ (look : List ℕ → Option Value) (text : List ℕ) (line : KnownLine)
 
 -- the location behind one line more
 location_by : (origin : Option Location) (here : Location) (before : List Line) (gap size : ℕ)
-    → behind (set_or origin here) (bytes_of (if is_some origin then [] else since_origin before) + (gap + size))
-    ≡ behind (set_or origin (behind here (bytes_of (since_origin before)))) (gap + size)
+    → behind (set_or origin here) (bytes_taken (if is_some origin then [] else since_origin before) + (gap + size))
+    ≡ behind (set_or origin (behind here (bytes_taken (since_origin before)))) (gap + size)
 location_by (Some location) here before gap size =
     let sum : 0 + (gap + size) ≡ gap + size = omega arith in
     ap (behind location) sum
 location_by None here before gap size =
-    let since = bytes_of (since_origin before) in
+    let since = bytes_taken (since_origin before) in
     let sum : here.number + (since + (gap + size)) ≡ here.number + since + (gap + size) = omega arith in
     ap (λ number. record { part = here.part; number = number }) sum
 

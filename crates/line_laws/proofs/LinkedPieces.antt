@@ -18,7 +18,7 @@ use Rattle.asm_defs.specs.declared.content.Content.{Content}
 use Rattle.asm_defs.specs.declared.location.Part.{Part}
 use Rattle.asm_defs.specs.declared.location.Part.TheVariants as part
 use Rattle.asm_defs.specs.Memory.{AssembledLine, content_at, spot_by, joined, pieces, pieces_at, pieces_from, part_words}
-use Rattle.link_defs.specs.Placing.{sections, first_base, word_at, words_of, value_of}
+use Rattle.link_defs.specs.Placing.{sections, first_base, word_at, section_words, value_of}
 use Rattle.link_defs.specs.First.{first, first_behind}
 use Rattle.link_defs.specs.LinkedMemory.{LinkedMemory, linked, linked_parts, filled, is_outside, is_taken, is_loadable}
 use Rattle.line_laws.specs.KnownLines.{pieces_of}
@@ -184,7 +184,7 @@ pub module_linked : (m : Module) (a : ℕ) (words : List ℕ) (entry : Spot) →
     → linked (m ∷ []) ≡ Ok (memory_of (2 * a) words (value_of first_base entry))
 unfolding linked
 module_linked m a words entry pieces defs refs entered fit from to =
-    let own : words_of (sections (m ∷ [])) ≡ pairs_of (2 * a) words =
+    let own : section_words (sections (m ∷ [])) ≡ pairs_of (2 * a) words =
     append_empty (map (word_at first_base) m.pieces) ∙ (ap (map (word_at first_base)) pieces ∙ pairs_there first_base (2 * a) words fit) in
     rw (defs, refs, entered, own) (parts_linked a words (value_of first_base entry) from to)
 

@@ -17,7 +17,7 @@ use Rattle.asm_defs.specs.SecondChecks.{Outcome, Nothing, Words}
 use Rattle.asm_defs.specs.Memory.{AssembledLine, covers, same_part, is_placed, bytes_in, contents_by}
 use Rattle.asm_defs.proofs.PlacedWords.{word_contents}
 use Rattle.asm_defs.specs.Memory.{content_at, any_from, count_from, has_word, words_in, word_count, part_words}
-use Rattle.line_laws.specs.KnownLines.{numbers_of, words_of, is_at, is_absolute}
+use Rattle.line_laws.specs.KnownLines.{numbers_of, outcome_words, is_at, is_absolute}
 use Rattle.source_defs.specs.OperandLists.{is_empty}
 use Rattle.line_laws.proofs.Small.{both, chosen, map_length, get_past}
 use Rattle.count_defs.specs.Counts.{one_if}
@@ -57,7 +57,7 @@ contents_of_numbers references at (number ∷ numbers) =
     ap (λ rest. content.First (spot.Absolute number) ∷ content.Second ∷ rest) (contents_of_numbers references (at + 2) numbers)
 
 -- how many bytes such an outcome places
-pub placed_size : (outcome : Outcome) (words : List ℕ) → words_of outcome ≡ Some words → bytes_in outcome ≡ 2 * length words
+pub placed_size : (outcome : Outcome) (words : List ℕ) → outcome_words outcome ≡ Some words → bytes_in outcome ≡ 2 * length words
 placed_size Nothing words e = let same : ◌≡◌ {A = List ℕ} [] words = cc e in ap (λ words. 2 * length words) same
 placed_size (Words values) words e =
     let are = are_numbers values words e in
@@ -65,7 +65,7 @@ placed_size (Words values) words e =
 placed_size _ words e = cc e
 
 -- and which
-pub placed_contents : (references : List Reference) (at : Location) (outcome : Outcome) (words : List ℕ) → words_of outcome ≡ Some words → at.part ≡ part.Absolute
+pub placed_contents : (references : List Reference) (at : Location) (outcome : Outcome) (words : List ℕ) → outcome_words outcome ≡ Some words → at.part ≡ part.Absolute
     → contents_by at references outcome ≡ cells words
 placed_contents references at Nothing words e absolute = let same : ◌≡◌ {A = List ℕ} [] words = cc e in ap cells same
 placed_contents references at (Words values) words e absolute =
@@ -133,7 +133,7 @@ pub record HoldWords (references : List Reference) (lines : List AssembledLine) 
 
 -- A line that places some words where the last words end, or none.
 pub record ComesNext (line : AssembledLine) (at : ℕ) (more : List ℕ) : Type 0 where
-  pub words : words_of line.outcome ≡ Some more
+  pub words : outcome_words line.outcome ≡ Some more
   pub place : (is_empty more || is_at at line.at) ≡ true
 
 -- it has no words, or stands there

@@ -20,7 +20,7 @@ use Rattle.asm_defs.specs.SecondChecks.{Outcome, Bytes, Entry, outcome}
 use Rattle.asm_defs.specs.Memory.{AssembledLine, is_placed, any_from, bytes_in, word_count, overlaps}
 use Rattle.asm_defs.specs.Modules.{assembled_line, assembled_at, with_room, entry, entry_by}
 use Rattle.line_laws.specs.KnownLines.{KnownLine, known_line, known_lines, are_plain, is_plain, is_plain_statement}
-use Rattle.line_laws.specs.KnownLines.{words_of, words_in, all_words, are_close, is_at}
+use Rattle.line_laws.specs.KnownLines.{outcome_words, line_words, all_words, are_close, is_at}
 use Rattle.source_defs.specs.OperandLists.{is_empty}
 use Rattle.line_laws.proofs.LaidLines.{laid_list, location_more, parts_of, first_of, First}
 use Rattle.line_laws.proofs.PlacedWords.{HoldWords, ComesNext, hold_more, few_words, any_none, stands, size, Stands}
@@ -58,7 +58,7 @@ known_words : (found : Option (List ℕ)) → is_some found ≡ true → found �
 known_words (Some words) e = refl
 known_words None e = cc e
 
-kept_entry : (before : Option Spot) (found : Outcome) → is_some (words_of found) ≡ true → entry_by before found ≡ before
+kept_entry : (before : Option Spot) (found : Outcome) → is_some (outcome_words found) ≡ true → entry_by before found ≡ before
 kept_entry before (Bytes bytes) e = cc e
 kept_entry before (Entry spot) e = cc e
 kept_entry before _ e = refl
@@ -96,20 +96,20 @@ module _ (look : List ℕ → Option Value) (known : Names) (same : look ≡ loo
         → HoldWords [] earlier from words → AreAssembled (line ∷ others) before number earlier words
     first_assembled first plain close is hold =
         let fair = both (is_plain line) (are_plain others) plain in
-        let near = both (is_empty (words_in line) || is_at (from + 2 * length words) line.at) _ close in
+        let near = both (is_empty (line_words line) || is_at (from + 2 * length words) line.at) _ close in
         let some = (both (is_plain_statement line.found.statement) _ fair.0).1 in
-        let next : ComesNext (as_assembled line) (from + 2 * length words) (words_in line) = record { words = known_words (words_of line.outcome) some; place = near.0 } in
-        let room = has_room earlier (as_assembled line) from words (words_in line) hold next in
-        let behind = hold_more (as_assembled line) (from + 2 * length words) (words_in line) next [] earlier from words refl hold in
+        let next : ComesNext (as_assembled line) (from + 2 * length words) (line_words line) = record { words = known_words (outcome_words line.outcome) some; place = near.0 } in
+        let room = has_room earlier (as_assembled line) from words (line_words line) hold next in
+        let behind = hold_more (as_assembled line) (from + 2 * length words) (line_words line) next [] earlier from words refl hold in
         let there = location_more before number line.found in
-        let total : from + 2 * length words + 2 * length (words_in line) ≡ from + 2 * length (words ++ words_in line) = omega (arith, length-append words (words_in line)) in
+        let total : from + 2 * length words + 2 * length (line_words line) ≡ from + 2 * length (words ++ line_words line) = omega (arith, length-append words (line_words line)) in
         let now = assembled_step known before earlier number line.found (as_assembled line) (assembled_lines (assembled_line known) before) is
         (assemble_is text line before number earlier first.is room) in
-        let rest = assembles (line_of number line.found ∷ before) (number + 1) (as_assembled line ∷ earlier) (words ++ words_in line)
+        let rest = assembles (line_of number line.found ∷ before) (number + 1) (as_assembled line ∷ earlier) (words ++ line_words line)
         (ap (λ at. known_lines look at texts) there ∙ first.others) fair.1 (ap (λ n. are_close n others) (sym total) ∙ near.1) now behind in
         record {
           assembled_lines = rest.assembled_lines;
-          hold = subst (λ words. HoldWords [] (assembled_list (as_assembled line ∷ earlier) others) from words) (append_assoc words (words_in line) (all_words others)) rest.hold;
+          hold = subst (λ words. HoldWords [] (assembled_list (as_assembled line ∷ earlier) others) from words) (append_assoc words (line_words line) (all_words others)) rest.hold;
           entry = rest.entry ∙ kept_entry (entry earlier) line.outcome some;
         }
 

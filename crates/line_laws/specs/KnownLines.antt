@@ -83,17 +83,17 @@ numbers_of (Relocatable number ∷ values) = None
 numbers_of (External name ∷ values) = None
 
 -- the words of an outcome that is words, or nothing
-abbrev pub words_of : Outcome → Option (List ℕ)
-words_of outcome.Nothing = Some []
-words_of (outcome.Words values) = numbers_of values
-words_of (outcome.Bytes bytes) = None
-words_of (outcome.Entry entry) = None
+abbrev pub outcome_words : Outcome → Option (List ℕ)
+outcome_words outcome.Nothing = Some []
+outcome_words (outcome.Words values) = numbers_of values
+outcome_words (outcome.Bytes bytes) = None
+outcome_words (outcome.Entry entry) = None
 
-abbrev pub words_in : KnownLine → List ℕ
-words_in line = unwrap_or (words_of line.outcome) []
+abbrev pub line_words : KnownLine → List ℕ
+line_words line = unwrap_or (outcome_words line.outcome) []
 
 abbrev pub all_words : List KnownLine → List ℕ
-all_words lines = flat_map words_in lines
+all_words lines = flat_map line_words lines
 
 -- the statements whose meaning takes nothing of the lines before but the location and the values of names
 abbrev pub is_plain_statement : Statement → Bool
@@ -106,7 +106,7 @@ is_plain_statement _ = false
 
 -- such a line that places absolute words, or nothing
 abbrev pub is_plain : KnownLine → Bool
-is_plain line = is_plain_statement line.found.statement && is_some (words_of line.outcome)
+is_plain line = is_plain_statement line.found.statement && is_some (outcome_words line.outcome)
 
 abbrev pub are_plain : List KnownLine → Bool
 are_plain lines = list_all is_plain lines
@@ -124,7 +124,7 @@ is_at number place = is_absolute place.part && place.number == number
 abbrev pub are_close : ℕ → List KnownLine → Bool
 are_close number [] = true
 are_close number (line ∷ lines) =
-    (is_empty (words_in line) || is_at number line.at) && are_close (number + 2 * length (words_in line)) lines
+    (is_empty (line_words line) || is_at number line.at) && are_close (number + 2 * length (line_words line)) lines
 
 -- the pieces of words that stand one after the other from an absolute place on
 abbrev pub pieces_of : ℕ → List ℕ → List Piece

@@ -9,7 +9,7 @@ use Rattle.std.proofs.lemmas.Bool.Decides.{nat_tests}
 use Rattle.object_defs.specs.declared.spot.Spot.TheVariants as spot
 use Rattle.asm_defs.specs.SecondChecks.{Outcome, Nothing, Words, Bytes, Entry}
 use Rattle.line_laws.specs.KnownLines as known
-use Rattle.line_laws.specs.KnownLines.{KnownLine, words_in, is_plain, are_plain, is_plain_statement}
+use Rattle.line_laws.specs.KnownLines.{KnownLine, line_words, is_plain, are_plain, is_plain_statement}
 use Rattle.line_laws.specs.Laws.{StandsIn}
 use Rattle.line_laws.proofs.PlacedWords.{are_numbers}
 use Rattle.line_laws.proofs.Locations.{known_lines_stand}
@@ -22,7 +22,7 @@ use Rattle.line_table.specs.declared.rows.routines.TheConstants.{ROUTINE_ROWS}
 use Rattle.line_table.specs.declared.rows.operations.TheConstants.{OPERATION_ROWS}
 use Rattle.line_table.specs.declared.rows.flow.TheConstants.{FLOW_ROWS}
 use Rattle.line_table.specs.declared.rows.copy.TheConstants.{COPY_ROWS}
-use Rattle.line_table.specs.Table.{Row, defined, nothing, words_of}
+use Rattle.line_table.specs.Table.{Row, defined, nothing, row_words}
 use Rattle.line_table.proofs.AllRows.{table, as_row, rows, no_row, location_of}
 use Rattle.line_table.specs.Rows.{Places, IsRow}
 use Rattle.line_table.proofs.RowLines.{Shown, shown, row_shown}
@@ -31,24 +31,24 @@ use Rattle.line_table.proofs.Known.{last, ending, front_texts, front_lines, are_
 use Rattle.line_table.proofs.Chain.{to_last}
 use Rattle.line_laws.proofs.Small.{append_map, map_length}
 
-some_words : (come : Outcome) (found : List ℕ) → known.words_of come ≡ Some found → Places come found
+some_words : (come : Outcome) (found : List ℕ) → known.outcome_words come ≡ Some found → Places come found
 some_words Nothing found e = let same : ◌≡◌ {A = List ℕ} [] found = cc e in sym same
 some_words (Words values) found e = are_numbers values found e
 some_words (Bytes bytes) found e = cc e
 some_words (Entry entry) found e = cc e
 
-plain_places : (line : KnownLine) → is_plain line ≡ true → Places line.outcome (words_in line)
-plain_places line e = by (is_plain_statement line.found.statement) (known.words_of line.outcome) refl e
+plain_places : (line : KnownLine) → is_plain line ≡ true → Places line.outcome (line_words line)
+plain_places line e = by (is_plain_statement line.found.statement) (known.outcome_words line.outcome) refl e
   where
-    by : (b : Bool) (found : Option (List ℕ)) → known.words_of line.outcome ≡ found → (b && is_some found) ≡ true → Places line.outcome (unwrap_or found [])
+    by : (b : Bool) (found : Option (List ℕ)) → known.outcome_words line.outcome ≡ found → (b && is_some found) ≡ true → Places line.outcome (unwrap_or found [])
     by true (Some found) is e = some_words line.outcome found is
     by true None is e = cc e
     by false found is e = cc e
 
 -- a fact of each line, at a number
 module _ (d : KnownLine) where
-  at_index : (some : List KnownLine) (final : KnownLine) (index : ℕ) → are_plain some ≡ true → Places final.outcome (words_in final) → index < length (some ++ final ∷ [])
-      → let line = slice_index_or (some ++ final ∷ []) index d in Places line.outcome (words_in line)
+  at_index : (some : List KnownLine) (final : KnownLine) (index : ℕ) → are_plain some ≡ true → Places final.outcome (line_words final) → index < length (some ++ final ∷ [])
+      → let line = slice_index_or (some ++ final ∷ []) index d in Places line.outcome (line_words line)
   at_index [] final zero plain places lt = places
   at_index [] final (suc index) plain places lt = absurd (omega (arith, lt))
   at_index (line ∷ some) final zero plain places lt = plain_places line (front (is_plain line) (are_plain some) plain)
@@ -82,10 +82,10 @@ place_number row = by (nat_eq row.place 0) refl
 
 -- what the tests find of each row
 abbrev has_words : LineRow → Bool
-has_words row = nat_eq (length (words_of row)) row.count
+has_words row = nat_eq (length (row_words row)) row.count
 
 abbrev is_shipped : List ℕ → LineRow → Bool
-is_shipped held row = pointwise nat_eq (words_of row) (take row.count (drop ((row.place - origin) / 2) held))
+is_shipped held row = pointwise nat_eq (row_words row) (take row.count (drop ((row.place - origin) / 2) held))
 
 rows_have_words : list_all has_words rows ≡ true
 rows_have_words = refl
@@ -155,7 +155,7 @@ module _ (some : List KnownLine) (table : List LineRow) (held : List ℕ) (texts
   alike_there : shown line_there ≡ row_shown row_there
   alike_there = shown_alike some table same index ending no_row inside there
 
-  pub row_stands : StandsIn texts index line_there.at line_there.outcome → Places line_there.outcome (words_in line_there)
+  pub row_stands : StandsIn texts index line_there.at line_there.outcome → Places line_there.outcome (line_words line_there)
       → list_all has_words table ≡ true → list_all (is_shipped held) table ≡ true
       → texts ≡ lines → held ≡ words → IsRow index row_there
   row_stands stands places counted shipped are hold = record {
@@ -165,8 +165,8 @@ module _ (some : List KnownLine) (table : List LineRow) (held : List ℕ) (texts
     place = place_number row_there ∙ ap (λ (s : Shown). s.at.number) (sym alike_there);
     count = grind (arith, nat_tests, tested has_words table index no_row counted there);
     placed = subst (Places line_there.outcome) (ap (λ (s : Shown). s.words) alike_there) places;
-    shipped = subst (λ held. words_of row_there ≡ take row_there.count (drop ((row_there.place - origin) / 2) held)) hold
-        (alike (words_of row_there) (take row_there.count (drop ((row_there.place - origin) / 2) held))
+    shipped = subst (λ held. row_words row_there ≡ take row_there.count (drop ((row_there.place - origin) / 2) held)) hold
+        (alike (row_words row_there) (take row_there.count (drop ((row_there.place - origin) / 2) held))
         (tested (is_shipped held) table index no_row shipped there));
   }
 

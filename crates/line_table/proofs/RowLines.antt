@@ -9,12 +9,12 @@ use Rattle.asm_defs.specs.declared.causes.AsmCause.{AsmCause}
 use Rattle.asm_defs.specs.declared.location.Location.{Location}
 use Rattle.asm_defs.specs.FirstChecks.{location_behind}
 use Rattle.asm_defs.proofs.CheckLaws.{bound}
-use Rattle.line_laws.specs.KnownLines.{KnownLine, known_line, known_lines, words_in, names_in, all_names, all_words}
+use Rattle.line_laws.specs.KnownLines.{KnownLine, known_line, known_lines, line_words, names_in, all_names, all_words}
 use Rattle.line_laws.specs.KnownLines.{end_of, is_plain, are_plain, are_close, is_at}
 use Rattle.source_defs.specs.OperandLists.{is_empty}
 use Rattle.native_interp.specs.Source.{lines}
 use Rattle.line_table.specs.declared.line_row.LineRow.{LineRow}
-use Rattle.line_table.specs.Table.{words_of}
+use Rattle.line_table.specs.Table.{row_words}
 use Rattle.line_table.proofs.AllRows.{rows, location_of}
 use Rattle.line_laws.proofs.Small.{append_map}
 
@@ -24,10 +24,10 @@ pub record Shown : Type 0 where
   pub words : List ℕ
 
 abbrev pub shown : KnownLine → Shown
-shown line = record { at = line.at; words = words_in line }
+shown line = record { at = line.at; words = line_words line }
 
 abbrev pub row_shown : LineRow → Shown
-row_shown row = record { at = location_of row; words = words_of row }
+row_shown row = record { at = location_of row; words = row_words row }
 
 -- what is said of some lines by their rows, the names that they define, and the location behind them
 pub record Summary : Type 0 where
@@ -138,11 +138,11 @@ close_rows number (row ∷ rows) = (is_empty row.words || is_at number row.at) &
 pub close_shown : (number : ℕ) (lines : List KnownLine) → are_close number lines ≡ close_rows number (map shown lines)
 close_shown number [] = refl
 close_shown number (line ∷ lines) =
-    ap (λ rest. (is_empty (words_in line) || is_at number line.at) && rest) (close_shown (number + 2 * length (words_in line)) lines)
+    ap (λ rest. (is_empty (line_words line) || is_at number line.at) && rest) (close_shown (number + 2 * length (line_words line)) lines)
 
 abbrev pub words_shown : List Shown → List ℕ
 words_shown rows = flat_map (λ (row : Shown). row.words) rows
 
 pub shown_words : (lines : List KnownLine) → all_words lines ≡ words_shown (map shown lines)
 shown_words [] = refl
-shown_words (line ∷ lines) = ap (λ rest. words_in line ++ rest) (shown_words lines)
+shown_words (line ∷ lines) = ap (λ rest. line_words line ++ rest) (shown_words lines)

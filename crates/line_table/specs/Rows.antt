@@ -16,7 +16,7 @@ use Rattle.native_interp.specs.Words.{words}
 use Rattle.native_interp.specs.Words.{origin}
 use Rattle.line_table.specs.declared.line_row.LineRow.{LineRow}
 use Rattle.line_table.specs.declared.line_row.NameRow.{NameRow}
-use Rattle.line_table.specs.Table.{defined, words_of}
+use Rattle.line_table.specs.Table.{defined, row_words}
 
 -- a line that comes to this places these words
 abbrev pub Places : Outcome → List ℕ → Type 0
@@ -32,9 +32,9 @@ pub record IsRow (index : ℕ) (row : LineRow) : Type 0 where
   pub come : Outcome
   pub stands : StandsIn lines index at come
   pub place : row.place ≡ at.number
-  pub count : length (words_of row) ≡ row.count
-  pub placed : Places come (words_of row)
-  pub shipped : words_of row ≡ take row.count (drop ((row.place - origin) / 2) words)
+  pub count : length (row_words row) ≡ row.count
+  pub placed : Places come (row_words row)
+  pub shipped : row_words row ≡ take row.count (drop ((row.place - origin) / 2) words)
 
 -- the names that lines define, in the order of the lines, of which the last stands first
 abbrev pub names_of_lines : List Line → List (List ℕ × Value)

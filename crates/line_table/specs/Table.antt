@@ -17,5 +17,5 @@ abbrev pub defined : List (List ℕ × Value)
 defined = map (λ name. (name.0.now, Absolute name.1)) NAMES
 
 -- the words of a row
-abbrev pub words_of : LineRow → List ℕ
-words_of row = take row.count row.words
+abbrev pub row_words : LineRow → List ℕ
+row_words row = take row.count row.words

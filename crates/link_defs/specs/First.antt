@@ -12,6 +12,6 @@ abbrev pub first : {X : Type 0} → (List X → X → Bool) → List X → Optio
 first test items = first_behind test [] items
 
 -- An item is refused where there is one.
-abbrev pub unless : {X : Type 0} → (X → LinkCause) → Option X → Result (Option X) LinkCause
-unless cause (Some item) = Err (cause item)
-unless cause None = Ok None
+abbrev pub refused_by : {X : Type 0} → (X → LinkCause) → Option X → Result (Option X) LinkCause
+refused_by cause (Some item) = Err (cause item)
+refused_by cause None = Ok None

@@ -8,20 +8,20 @@ use Rattle.std.specs.FinMap.{find, get}
 use Rattle.object_defs.specs.Modules.{Module}
 use Rattle.link_defs.specs.Causes.{LinkCause, DuplicateDef, OutOfMemoryRange, Overlap, ChainOutside, ChainCycle}
 use Rattle.link_defs.specs.Causes.{Unresolved, NoEntry}
-use Rattle.link_defs.specs.Placing.{sections, defs_of, words_of, refs_of}
+use Rattle.link_defs.specs.Placing.{sections, defs_of, section_words, refs_of}
 use Rattle.link_defs.specs.Chains.{Uses, most_places, uses_from, uses_of}
 use Rattle.link_defs.specs.LinkedMemory.{LinkedMemory, word_for, linked}
 
 -- linked memory has a word exactly where one is placed: that word, but at a use of a name the name's value
 pub record HoldsPlacedWords (modules : List Module) (memory : LinkedMemory) : Type 0 where
   pub uses : Uses
-  pub are_uses : uses_of (words_of (sections modules)) [] (refs_of (sections modules)) ≡ Ok uses
+  pub are_uses : uses_of (section_words (sections modules)) [] (refs_of (sections modules)) ≡ Ok uses
   pub words : (at : ℕ) → get memory.words at
       ≡ option_map (λ word. word_for (defs_of (sections modules)) word (find nat_cmp at uses))
-      (find nat_cmp at (words_of (sections modules)))
-  pub alone : (k : ℕ) (d : ℕ × ℕ) → k < length (words_of (sections modules))
-      → let word = slice_index_or (words_of (sections modules)) k d in
-      find nat_cmp word.0 (words_of (sections modules)) ≡ Some word.1
+      (find nat_cmp at (section_words (sections modules)))
+  pub alone : (k : ℕ) (d : ℕ × ℕ) → k < length (section_words (sections modules))
+      → let word = slice_index_or (section_words (sections modules)) k d in
+      find nat_cmp word.0 (section_words (sections modules)) ≡ Some word.1
 
 -- the law, which is proved: what is linked holds exactly the words that the modules place
 abbrev pub PlacedWordsAreHeld : Type 0

@@ -10,8 +10,8 @@ use Rattle.std.specs.FinMap.{FinMap, find, from_entries}
 use Rattle.source_defs.specs.Refusals.{◌>>=◌}
 use Rattle.object_defs.specs.Modules.{Module}
 use Rattle.link_defs.specs.Causes.{LinkCause, DuplicateDef, OutOfMemoryRange, Overlap, Unresolved, NoEntry}
-use Rattle.link_defs.specs.Placing.{Section, sections, defs_of, words_of, refs_of, entries_of}
-use Rattle.link_defs.specs.First.{first, unless}
+use Rattle.link_defs.specs.Placing.{Section, sections, defs_of, section_words, refs_of, entries_of}
+use Rattle.link_defs.specs.First.{first, refused_by}
 use Rattle.link_defs.specs.Chains.{Uses, uses_of}
 
 pub record LinkedMemory : Type 0 where
@@ -65,16 +65,16 @@ filled defs uses word = (word.0, word_for defs word.1 (find nat_cmp word.0 uses)
 -- refused. Chains are read from the words as they are loaded, and filled when all are read.
 abbrev pub linked_parts : List (List ℕ × ℕ) → List (ℕ × ℕ) → List (List ℕ × ℕ) → List ℕ → Result LinkedMemory LinkCause
 linked_parts defs words refs entries = do
-  apart ← unless (λ definition. DuplicateDef definition.0) (first is_defined_again defs)
-  inside ← unless (λ word. OutOfMemoryRange word.0) (first is_outside words)
-  alone ← unless (λ word. Overlap word.0) (first is_taken words)
+  apart ← refused_by (λ definition. DuplicateDef definition.0) (first is_defined_again defs)
+  inside ← refused_by (λ word. OutOfMemoryRange word.0) (first is_outside words)
+  alone ← refused_by (λ word. Overlap word.0) (first is_taken words)
   uses ← uses_of words [] refs
-  known ← unless (λ ref. Unresolved ref.0) (first (is_unresolved defs) refs)
+  known ← refused_by (λ ref. Unresolved ref.0) (first (is_unresolved defs) refs)
   entry ← first_entry entries
   Ok (record { words = from_entries (map (filled defs uses) words); names = defs; entry = entry })
 
 abbrev pub linked_sections : List Section → Result LinkedMemory LinkCause
-linked_sections sections = linked_parts (defs_of sections) (words_of sections) (refs_of sections) (entries_of sections)
+linked_sections sections = linked_parts (defs_of sections) (section_words sections) (refs_of sections) (entries_of sections)
 
 -- the linked memory of modules, or why they are not linked
 unfoldable pub linked : List Module → Result LinkedMemory LinkCause

@@ -59,8 +59,8 @@ ref_at base reference = (reference.name, value_of base reference.last)
 abbrev pub defs_of : List Section → List (List ℕ × ℕ)
 defs_of sections = flat_map (λ section. map (def_at section.base) section.part.defs) sections
 
-abbrev pub words_of : List Section → List (ℕ × ℕ)
-words_of sections = flat_map (λ section. map (word_at section.base) section.part.pieces) sections
+abbrev pub section_words : List Section → List (ℕ × ℕ)
+section_words sections = flat_map (λ section. map (word_at section.base) section.part.pieces) sections
 
 abbrev pub refs_of : List Section → List (List ℕ × ℕ)
 refs_of sections = flat_map (λ section. map (ref_at section.base) section.part.refs) sections

@@ -7,8 +7,8 @@ use Rattle.std.specs.Cmp.{nat_cmp_total}
 use Rattle.std.specs.FinMap.{find, get, get-from_entries}
 use Rattle.source_defs.proofs.RefusalLaws.{bound}
 use Rattle.link_defs.specs.Causes.{LinkCause, DuplicateDef, OutOfMemoryRange, Overlap, Unresolved}
-use Rattle.link_defs.specs.Placing.{sections, defs_of, words_of, refs_of, entries_of}
-use Rattle.link_defs.specs.First.{first, first_behind, unless}
+use Rattle.link_defs.specs.Placing.{sections, defs_of, section_words, refs_of, entries_of}
+use Rattle.link_defs.specs.First.{first, first_behind, refused_by}
 use Rattle.link_defs.specs.Chains.{uses_of}
 use Rattle.link_defs.specs.LinkedMemory.{LinkedMemory, is_defined_again, is_outside, is_taken, is_unresolved, first_entry, filled, linked}
 use Rattle.link_defs.specs.Laws.{PlacedWordsAreHeld}
@@ -36,7 +36,7 @@ each_found before (word ∷ words) k d none lt =
     by zero lt rest is none = found_behind word.0 before (word ∷ words) (none_found (find nat_cmp word.0 before) is) ∙ found_here word words
     by (suc k) lt rest is none = rw append_assoc at (rest k d none (omega (arith, lt)))
 
-none_taken : (found value : Option (ℕ × ℕ)) → unless (λ (word : ℕ × ℕ). Overlap word.0) found ≡ Ok value → found ≡ None
+none_taken : (found value : Option (ℕ × ℕ)) → refused_by (λ (word : ℕ × ℕ). Overlap word.0) found ≡ Ok value → found ≡ None
 none_taken (Some word) value e = absurd cc
 none_taken None value e = refl
 
@@ -47,13 +47,13 @@ pub placed_words_are_held : PlacedWordsAreHeld
 unfolding linked
 placed_words_are_held modules memory e =
     let defs = defs_of (sections modules) in
-    let words = words_of (sections modules) in
+    let words = section_words (sections modules) in
     let refs = refs_of (sections modules) in
-    let apart = bound (unless (λ (definition : List ℕ × ℕ). DuplicateDef definition.0) (first is_defined_again defs)) _ memory e in
-    let inside = bound (unless (λ (word : ℕ × ℕ). OutOfMemoryRange word.0) (first is_outside words)) _ memory apart.2 in
-    let alone = bound (unless (λ (word : ℕ × ℕ). Overlap word.0) (first is_taken words)) _ memory inside.2 in
+    let apart = bound (refused_by (λ (definition : List ℕ × ℕ). DuplicateDef definition.0) (first is_defined_again defs)) _ memory e in
+    let inside = bound (refused_by (λ (word : ℕ × ℕ). OutOfMemoryRange word.0) (first is_outside words)) _ memory apart.2 in
+    let alone = bound (refused_by (λ (word : ℕ × ℕ). Overlap word.0) (first is_taken words)) _ memory inside.2 in
     let uses = bound (uses_of words [] refs) _ memory alone.2 in
-    let known = bound (unless (λ (ref : List ℕ × ℕ). Unresolved ref.0) (first (is_unresolved defs) refs)) _ memory uses.2 in
+    let known = bound (refused_by (λ (ref : List ℕ × ℕ). Unresolved ref.0) (first (is_unresolved defs) refs)) _ memory uses.2 in
     let entry = bound (first_entry (entries_of (sections modules))) _ memory known.2 in
     let is = same_memory _ _ entry.2 in
     record {

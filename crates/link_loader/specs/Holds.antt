@@ -7,7 +7,7 @@ use Rattle.std.specs.FinMap.{find}
 use Rattle.std.specs.BTreeMap.{BTreeMap}
 use Rattle.std.specs.BTreeMap as tree
 use Rattle.link_defs.specs.Causes.{LinkCause, DuplicateDef, Overlap}
-use Rattle.link_defs.specs.First.{first, unless}
+use Rattle.link_defs.specs.First.{first, refused_by}
 use Rattle.link_defs.specs.Chains.{Uses}
 use Rattle.link_defs.specs.LinkedMemory.{value_in, is_defined_again, is_taken}
 use Rattle.link_loader.specs.declared.error.LinkError.{LinkError}
@@ -39,12 +39,12 @@ HoldsUses defs table uses = (at : ℕ) → cell table at ≡ option_map (value_o
 abbrev pub Defines : Result (BTreeMap (List ℕ) ℕ) LinkError → List (List ℕ × ℕ) → Type 0
 Defines (Ok names) defs = (first is_defined_again defs ≡ None) × KeepsNames names defs
 Defines (Err error) defs =
-    Refuses error (unless (λ definition. DuplicateDef definition.0) (first is_defined_again defs))
+    Refuses error (refused_by (λ definition. DuplicateDef definition.0) (first is_defined_again defs))
 
 -- each word has an address of its own, and a table holds them; or the first that has not is refused
 abbrev pub Loads : Result Table LinkError → List (ℕ × ℕ) → Type 0
 Loads (Ok table) words = (first is_taken words ≡ None) × HoldsWords table words
-Loads (Err error) words = Refuses error (unless (λ word. Overlap word.0) (first is_taken words))
+Loads (Err error) words = Refuses error (refused_by (λ word. Overlap word.0) (first is_taken words))
 
 -- a table has the value of its name at each of the uses that are defined; or the first cause is given
 abbrev pub Follows : {T : Type 0} → Result T LinkError → List (List ℕ × ℕ) → Table → Result Uses LinkCause → Type 0

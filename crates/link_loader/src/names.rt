@@ -5,7 +5,7 @@ ghost use Rattle.std.specs.BTreeMap as tree;
 ghost use Rattle.std.specs.Ordering.{nat_cmp};
 ghost use Rattle.std.specs.Cmp.Lexicographic.{slice_cmp};
 ghost use Rattle.link_defs.specs.Causes as causes;
-ghost use Rattle.link_defs.specs.First.{first, unless};
+ghost use Rattle.link_defs.specs.First.{first, refused_by};
 ghost use Rattle.link_defs.specs.LinkedMemory as spec;
 ghost use Rattle.link_loader.specs.Answers.{Checks};
 ghost use Rattle.link_loader.specs.Holds.{Defines, KeepsNames};
@@ -34,7 +34,7 @@ pub(crate) fn check_names(
     refs: &[(Name, u16)],
 ) -> Result<(), LinkError>
     ensures { (defs : List (List ℕ × ℕ)) → KeepsNames names.now defs → Checks result
-        (unless (λ ref. causes.Unresolved ref.0) (first (spec.is_unresolved defs) refs.now)) }
+        (refused_by (λ ref. causes.Unresolved ref.0) (first (spec.is_unresolved defs) refs.now)) }
 {
     for reference in refs {
         if !is_defined(names, &reference.0) {

@@ -34,7 +34,7 @@ impl Parts {
         ensures defs { IfOk result (λ parts.
             parts.defs.items ≡ placing.defs_of (placing.sections (model_of_modules modules.now.items))) }
         ensures words { IfOk result (λ parts.
-            parts.words.items ≡ placing.words_of (placing.sections (model_of_modules modules.now.items))) }
+            parts.words.items ≡ placing.section_words (placing.sections (model_of_modules modules.now.items))) }
         ensures refs { IfOk result (λ parts.
             parts.refs.items ≡ placing.refs_of (placing.sections (model_of_modules modules.now.items))) }
         ensures entries { IfOk result (λ parts.

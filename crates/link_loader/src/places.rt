@@ -2,7 +2,7 @@
 
 ghost use Rattle.std.specs.Prelude.{◌≡◌, ◌<◌, None};
 ghost use Rattle.link_defs.specs.Causes as causes;
-ghost use Rattle.link_defs.specs.First.{first, unless};
+ghost use Rattle.link_defs.specs.First.{first, refused_by};
 ghost use Rattle.link_defs.specs.LinkedMemory as spec;
 ghost use Rattle.link_loader.specs.Answers.{Checks};
 ghost use Rattle.link_loader.specs.Holds.{Loads};
@@ -14,7 +14,7 @@ use std::alloc::Global;
 /// Looks for the first word that stands where no word may be loaded.
 pub(crate) fn check_places(words: &[(u32, u16)]) -> Result<(), LinkError>
     ensures { Checks result
-        (unless (λ word. causes.OutOfMemoryRange word.0) (first spec.is_outside words.now)) }
+        (refused_by (λ word. causes.OutOfMemoryRange word.0) (first spec.is_outside words.now)) }
 {
     for word in words {
         if !is_loadable(word.0) {

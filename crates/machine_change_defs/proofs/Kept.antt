@@ -10,7 +10,7 @@ use Rattle.console_defs.specs.Memory.{Memory, console, Port, VdpDataRead, VdpSta
 use Rattle.console_defs.specs.Memory.{GromAddressWrite, Region, LowExpansion, HighExpansion, Scratchpad, PortOf, region}
 use Rattle.console_defs.specs.Memory.{word_written_in, byte_read_in, byte_written_in, port_read, port_written}
 use Rattle.console_defs.specs.Machine.{MachineState, machine_step}
-use Rattle.console_defs.specs.Runs.{after}
+use Rattle.console_defs.specs.Runs.{after_steps}
 use Rattle.machine_change_defs.specs.Laws.{Keeps}
 use Rattle.machine_change_defs.proofs.Keeping.{Holds, holds, step_keeps, all_allowed}
 
@@ -88,6 +88,6 @@ step_leaves first x k =
     (λ any m a b h. holds _ (byte_took first m h (region a) b))
     x.cpu k (λ word done. all_allowed (instr_at word))
 
-pub steps_leave : (x : MachineState) (made : ℕ) → Keeps x.cpu.memory (after made x).cpu.memory
+pub steps_leave : (x : MachineState) (made : ℕ) → Keeps x.cpu.memory (after_steps made x).cpu.memory
 steps_leave x zero = same x.cpu.memory
-steps_leave x (suc made) = step_leaves x.cpu.memory (after made x) (steps_leave x made)
+steps_leave x (suc made) = step_leaves x.cpu.memory (after_steps made x) (steps_leave x made)

@@ -10,11 +10,11 @@ use Rattle.std.specs.Option.{option_map}
 use Rattle.change_defs.proofs.Lead.{changes_lead}
 use Rattle.console_defs.specs.Memory.{IsMemory}
 use Rattle.console_defs.specs.Machine.{MachineState}
-use Rattle.console_defs.specs.Runs.{after}
+use Rattle.console_defs.specs.Runs.{after_steps}
 use Rattle.machine_change_defs.specs.declared.area.Area.{Area}
 use Rattle.machine_change_defs.specs.declared.area.Area.TheVariants.{Scratchpad, LowExpansion, HighExpansion, Video, Registers}
 use Rattle.machine_change_defs.specs.declared.latches.Latches.{Latches}
-use Rattle.machine_change_defs.specs.Seen.{SeenMemory, seen_memory, size_of, bytes_of, with_bytes, workspace_place, workspace_at, replaced, with_workspace}
+use Rattle.machine_change_defs.specs.Seen.{SeenMemory, seen_memory, size_of, area_bytes, with_bytes, workspace_place, workspace_at, replaced, with_workspace}
 use Rattle.machine_change_defs.specs.Changes.{RegisterChange, register_change, register_changes, registers_applied, new_number, new_held, new_mark, renewed}
 use Rattle.machine_change_defs.specs.Changes.{latch_changes, latches_applied, other_changes, others_applied, changes_at, changes_applied}
 use Rattle.machine_change_defs.specs.Laws.{ChangesGiveMemory, memory_by_changes}
@@ -146,7 +146,7 @@ abbrev Within : Option (Area × ℕ) → Type 0
 Within None = Unit {0}
 Within (Some (area, at)) = at + 32 ≤ size_of area
 
-area_size : (area : Area) (m : SeenMemory) → Sized m → length (bytes_of area m) ≡ size_of area
+area_size : (area : Area) (m : SeenMemory) → Sized m → length (area_bytes area m) ≡ size_of area
 area_size Scratchpad m p = p.scratchpad
 area_size LowExpansion m p = p.low_expansion
 area_size HighExpansion m p = p.high_expansion
@@ -164,11 +164,11 @@ changes_lead_at : (place : Option (Area × ℕ)) (m n : SeenMemory) → Within p
 changes_lead_at None m n within p q = others_lead m n p q
 changes_lead_at (Some (area, at)) m n within p q =
     let ws = workspace_at (Some (area, at)) n in
-    let old = slice_size (bytes_of area m) at (size_of area) (area_size area m p) within in
-    let new = slice_size (bytes_of area n) at (size_of area) (area_size area n q) within in
+    let old = slice_size (area_bytes area m) at (size_of area) (area_size area m p) within in
+    let new = slice_size (area_bytes area n) at (size_of area) (area_size area n q) within in
     let made = with_workspace (Some (area, at)) ws m in
-    let sized = with_size area (replaced at ws (bytes_of area m)) m p
-    (replaced_size (bytes_of area m) ws at (size_of area) (area_size area m p) within new) in
+    let sized = with_size area (replaced at ws (area_bytes area m)) m p
+    (replaced_size (area_bytes area m) ws at (size_of area) (area_size area m p) within new) in
     ap (λ w. others_applied (other_changes made n) (with_workspace (Some (area, at)) w m))
     (registers_lead (workspace_at (Some (area, at)) m) ws old new)
     ∙ others_lead made n sized q
@@ -185,7 +185,7 @@ place_within wp =
     by false false false e f g = tt
 
 module _ (x : MachineState) (is : IsMemory x.cpu.memory) where
-  sized : (made : ℕ) → Sized (seen_memory (after made x).cpu.memory)
+  sized : (made : ℕ) → Sized (seen_memory (after_steps made x).cpu.memory)
   sized made =
       let k = steps_leave x made in
       record {
@@ -196,12 +196,12 @@ module _ (x : MachineState) (is : IsMemory x.cpu.memory) where
         registers = k.registers ∙ is.vdp.registers.size;
       }
 
-  seen_is : (made : ℕ) → memory_by_changes x made ≡ seen_memory (after made x).cpu.memory
+  seen_is : (made : ℕ) → memory_by_changes x made ≡ seen_memory (after_steps made x).cpu.memory
   seen_is zero = refl
   seen_is (suc earlier) =
-      let y = after earlier x in
+      let y = after_steps earlier x in
       let place = workspace_place y.cpu.wp in
-      let z = after (suc earlier) x in
+      let z = after_steps (suc earlier) x in
       ap (changes_applied place (changes_at place (seen_memory y.cpu.memory) (seen_memory z.cpu.memory))) (seen_is earlier)
       ∙ changes_lead_at place (seen_memory y.cpu.memory) (seen_memory z.cpu.memory) (place_within y.cpu.wp) (sized earlier) (sized (suc earlier))
 

@@ -2,7 +2,7 @@
 use Rattle.std.specs.Prelude.{◌≡◌, ℕ, zero, suc, List, length}
 use Rattle.console_defs.specs.Memory.{Memory, IsMemory}
 use Rattle.console_defs.specs.Machine.{MachineState}
-use Rattle.console_defs.specs.Runs.{after}
+use Rattle.console_defs.specs.Runs.{after_steps}
 use Rattle.report_defs.specs.ObjectInput.{linked_input}
 use Rattle.report_defs.specs.Report.{Report}
 use Rattle.report_defs.specs.Laws.{Begins}
@@ -21,19 +21,19 @@ pub record Keeps (first m : Memory) : Type 0 where
   pub rom : m.rom ≡ first.rom
   pub image : m.grom.image ≡ first.grom.image
 
--- the first memory of a run, with the changes of this number of its instructions made, one after the other
+-- the first memory of a run, with the changes of this number of its instructions made, one after_steps the other
 abbrev pub memory_by_changes : MachineState → ℕ → SeenMemory
 memory_by_changes x zero = seen_memory x.cpu.memory
 memory_by_changes x (suc earlier) =
-    memory_applied (after earlier x).cpu.wp (step_changes (after earlier x) (after (suc earlier) x))
+    memory_applied (after_steps earlier x).cpu.wp (step_changes (after_steps earlier x) (after_steps (suc earlier) x))
     (memory_by_changes x earlier)
 
--- The law, which is proved: this is the memory after these instructions, but for the ROM and the bytes of the GROMs,
+-- The law, which is proved: this is the memory after_steps these instructions, but for the ROM and the bytes of the GROMs,
 -- which are the bytes of the first.
 pub record ChangesGiveMemory : Type 0 where
   pub seen : (x : MachineState) → IsMemory x.cpu.memory → (made : ℕ)
-      → memory_by_changes x made ≡ seen_memory (after made x).cpu.memory
-  pub kept : (x : MachineState) (made : ℕ) → Keeps x.cpu.memory (after made x).cpu.memory
+      → memory_by_changes x made ≡ seen_memory (after_steps made x).cpu.memory
+  pub kept : (x : MachineState) (made : ℕ) → Keeps x.cpu.memory (after_steps made x).cpu.memory
 
 -- the law, which is proved: there is at most one report on each limit and input
 abbrev pub OneStepsReport : Type 0

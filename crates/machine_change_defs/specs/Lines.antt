@@ -1,4 +1,4 @@
--- The lines of a run of the machine: a line for each instruction, and the expansion memory after it.
+-- The lines of a run of the machine: a line for each instruction, and the expansion memory after_steps it.
 use Rattle.std.specs.Prelude.{ℕ, suc, ◌+◌, List, [], ◌∷◌, ◌++◌, codes, map}
 use Rattle.std.specs.List.{range_with_len}
 use Rattle.source_defs.specs.Digits.{word_digits, hex_word}
@@ -9,7 +9,7 @@ use Rattle.tms_defs.specs.Words.{plus}
 use Rattle.instruction_defs.specs.Printed.{printed}
 use Rattle.console_defs.specs.Memory.{Memory, word_read}
 use Rattle.console_defs.specs.Machine.{MachineState}
-use Rattle.console_defs.specs.Runs.{after}
+use Rattle.console_defs.specs.Runs.{after_steps}
 use Rattle.report_defs.specs.Rows.{rows_lines}
 use Rattle.report_defs.specs.Trace.{number_text}
 use Rattle.machine_change_defs.specs.Seen.{seen_memory}
@@ -42,17 +42,17 @@ unfoldable pub step_front : ℕ → MachineState → List ℕ
 step_front number x =
     number_text number ++ (codes " " ++ (processor_text x.cpu ++ (codes " " ++ instruction_text x.cpu)))
 
--- what an instruction changed, by the machines before and after it
+-- what an instruction changed, by the machines before and after_steps it
 abbrev pub step_changes : MachineState → MachineState → MemoryChanges
 step_changes x next = memory_changes x.cpu.wp (seen_memory x.cpu.memory) (seen_memory next.cpu.memory)
 
--- the line of an instruction, by the machines before and after it
+-- the line of an instruction, by the machines before and after_steps it
 abbrev pub step_line : ℕ → MachineState → MachineState → List ℕ
 step_line number x next = step_front number x ++ (changes_text (step_changes x next) ++ codes "\n")
 
--- the line of the instruction after a number of instructions
+-- the line of the instruction after_steps a number of instructions
 abbrev pub line_after : MachineState → ℕ → List ℕ
-line_after x made = step_line (made + 1) (after made x) (after (suc made) x)
+line_after x made = step_line (made + 1) (after_steps made x) (after_steps (suc made) x)
 
 -- the lines of a number of instructions, numbered from 1
 unfoldable pub step_lines : MachineState → ℕ → List (List ℕ)

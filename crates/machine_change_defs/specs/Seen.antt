@@ -45,12 +45,12 @@ size_of HighExpansion = 24576
 size_of Video = 16384
 size_of Registers = 8
 
-abbrev pub bytes_of : Area → SeenMemory → List ℕ
-bytes_of Scratchpad m = m.scratchpad
-bytes_of LowExpansion m = m.low_expansion
-bytes_of HighExpansion m = m.high_expansion
-bytes_of Video m = m.video
-bytes_of Registers m = m.registers
+abbrev pub area_bytes : Area → SeenMemory → List ℕ
+area_bytes Scratchpad m = m.scratchpad
+area_bytes LowExpansion m = m.low_expansion
+area_bytes HighExpansion m = m.high_expansion
+area_bytes Video m = m.video
+area_bytes Registers m = m.registers
 
 abbrev pub with_bytes : Area → List ℕ → SeenMemory → SeenMemory
 with_bytes Scratchpad bytes m = record m { scratchpad = bytes }
@@ -70,7 +70,7 @@ workspace_place wp =
 
 abbrev pub workspace_at : Option (Area × ℕ) → SeenMemory → List ℕ
 workspace_at None m = []
-workspace_at (Some (area, at)) m = slice_range (bytes_of area m) at (at + 32)
+workspace_at (Some (area, at)) m = slice_range (area_bytes area m) at (at + 32)
 
 -- a list in which 32 bytes from a place on are other ones
 abbrev pub replaced : ℕ → List ℕ → List ℕ → List ℕ
@@ -79,4 +79,4 @@ replaced at workspace bytes = take at bytes ++ (workspace ++ drop (at + 32) byte
 -- a memory in which the bytes of a workspace are other ones
 abbrev pub with_workspace : Option (Area × ℕ) → List ℕ → SeenMemory → SeenMemory
 with_workspace None workspace m = m
-with_workspace (Some (area, at)) workspace m = with_bytes area (replaced at workspace (bytes_of area m)) m
+with_workspace (Some (area, at)) workspace m = with_bytes area (replaced at workspace (area_bytes area m)) m

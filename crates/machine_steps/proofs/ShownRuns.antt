@@ -5,7 +5,7 @@ use Rattle.std.specs.Prelude.{◌==◌, codes, nat_lt, if◌then◌else◌}
 use Rattle.std.proofs.lemmas.Bool.{eq-eqb, ne_eqb}
 use Rattle.std.proofs.lemmas.Bool.Decides.{nat_tests}
 use Rattle.console_defs.specs.Machine.{MachineState, machine_step}
-use Rattle.console_defs.specs.Runs.{after, self_jumped, is_self_jump, end_of_step, end_before, end_at}
+use Rattle.console_defs.specs.Runs.{after_steps, self_jumped, is_self_jump, end_of_step, end_before, end_at}
 use Rattle.console_defs.specs.declared.run_end.RunEnd.{RunEnd}
 use Rattle.console_defs.specs.declared.run_end.RunEnd.TheVariants as run
 use Rattle.tms_defs.specs.declared.step_end.StepEnd.{StepEnd}
@@ -20,14 +20,14 @@ use Rattle.machine_change_defs.specs.Text.{changes_text}
 use Rattle.machine_change_defs.specs.Lines.{step_front, step_line, line_after, step_lines}
 use Rattle.machine_steps.specs.Shown.{ShowsWhole, BreaksOff}
 
--- the lines of instructions, and the one after them
+-- the lines of instructions, and the one after_steps them
 pub one_more_line : (x : MachineState) (made : ℕ) → step_lines x (made + 1) ≡ step_lines x made ++ line_after x made ∷ []
 unfolding step_lines
 one_more_line x made = mapped_split (line_after x) made 1
 
 -- So many instructions were executed and shown, and nothing ended the run.
 pub record Showing (limit : ℕ) (x y : MachineState) (made : ℕ) (o o' : SinkState) (kept : SeenMemory) : Type 0 where
-  pub is : y ≡ after made x
+  pub is : y ≡ after_steps made x
   pub goes : self_jumped made x ≡ false
   pub runs : (before : ℕ) → before < made → end_at None limit before x ≡ None
   pub kept_is : kept ≡ seen_memory y.cpu.memory
@@ -47,7 +47,7 @@ module _ (limit : ℕ) (x y : MachineState) (made : ℕ) (o o' : SinkState) (kep
   -- what ends the run here is the limit or the next step
   end_here : end_at None limit made x ≡ (if made == limit then Some run.Limit else end_of_step (machine_step y).0)
   end_here =
-      ap (λ (j : Bool). if j then Some run.SelfJump else (if made == limit then Some run.Limit else end_of_step (machine_step (after made x)).0)) p.goes
+      ap (λ (j : Bool). if j then Some run.SelfJump else (if made == limit then Some run.Limit else end_of_step (machine_step (after_steps made x)).0)) p.goes
       ∙ ap (λ (z : MachineState). if made == limit then Some run.Limit else end_of_step (machine_step z).0) (sym p.is)
 
   end_below : made < limit → end_at None limit made x ≡ end_of_step (machine_step y).0
@@ -70,7 +70,7 @@ module _ (limit : ℕ) (x y : MachineState) (made : ℕ) (o o' : SinkState) (kep
     end_is : (machine_step y).0 ≡ end
     end_is = sym (ap (λ (s : StepEnd × MachineState). s.0) stepped)
 
-    next_is : z ≡ after (suc made) x
+    next_is : z ≡ after_steps (suc made) x
     next_is = ap (λ (s : StepEnd × MachineState). s.1) stepped ∙ ap (λ (w : MachineState). (machine_step w).1) p.is
 
     -- a step that executes nothing ends it
@@ -109,7 +109,7 @@ module _ (limit : ℕ) (x y : MachineState) (made : ℕ) (o o' : SinkState) (kep
           ∙ ap (λ (n : ℕ). step_front n y ++ (changes_text (memory_changes y.cpu.wp kept (seen_memory z.cpu.memory)) ++ codes "\n")) numbered
           ∙ ap (λ (k : SeenMemory). step_front (made + 1) y ++ (changes_text (memory_changes y.cpu.wp k (seen_memory z.cpu.memory)) ++ codes "\n")) p.kept_is
           ∙ ap (λ (w : MachineState). step_line (made + 1) w z) p.is
-          ∙ ap (λ (w : MachineState). step_line (made + 1) (after made x) w) next_is
+          ∙ ap (λ (w : MachineState). step_line (made + 1) (after_steps made x) w) next_is
 
       jumped_is : self_jumped (suc made) x ≡ is_self_jump (Done word)
       jumped_is = ap (λ (w : MachineState). is_self_jump (machine_step w).0) (sym p.is) ∙ ap is_self_jump (end_is ∙ done)
@@ -135,9 +135,9 @@ module _ (limit : ℕ) (x y : MachineState) (made : ℕ) (o o' : SinkState) (kep
         made = made + 1;
         run = record {
           ends = ap (λ (n : ℕ). end_at None limit n x) (sym next_number)
-              ∙ ap (λ (j : Bool). if j then Some run.SelfJump else end_before None limit (suc made) (after (suc made) x)) (jumped_is ∙ eq-eqb word 0x10FF self);
+              ∙ ap (λ (j : Bool). if j then Some run.SelfJump else end_before None limit (suc made) (after_steps (suc made) x)) (jumped_is ∙ eq-eqb word 0x10FF self);
           first = runs_on;
-          left = next_is ∙ ap (λ (n : ℕ). after n x) next_number;
+          left = next_is ∙ ap (λ (n : ℕ). after_steps n x) next_number;
         };
         wrote = all_lines o2 wrote;
       }
@@ -145,7 +145,7 @@ module _ (limit : ℕ) (x y : MachineState) (made : ℕ) (o o' : SinkState) (kep
       pub shown : (o2 : SinkState) (kept2 : SeenMemory) → Wrote o' o2 (line ∷ []) → (word ≡ 0x10FF → ⊥) → kept2 ≡ seen_memory z.cpu.memory
           → Showing limit x z (made + 1) o o2 kept2
       shown o2 kept2 wrote other k = record {
-        is = next_is ∙ ap (λ (n : ℕ). after n x) next_number;
+        is = next_is ∙ ap (λ (n : ℕ). after_steps n x) next_number;
         goes = ap (λ (n : ℕ). self_jumped n x) (sym next_number) ∙ jumped_is ∙ ne_eqb word 0x10FF other;
         runs = runs_on;
         kept_is = k;

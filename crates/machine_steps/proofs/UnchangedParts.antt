@@ -20,7 +20,7 @@ use Rattle.change_defs.specs.Changes.{changes}
 use Rattle.machine_change_defs.specs.declared.area.Area.{Area}
 use Rattle.machine_change_defs.specs.declared.area.Area.TheVariants.{Scratchpad, LowExpansion, HighExpansion, Video, Registers}
 use Rattle.machine_change_defs.specs.declared.latches.Latches.{Latches}
-use Rattle.machine_change_defs.specs.Seen.{SeenMemory, seen_memory, bytes_of, with_bytes, workspace_place, workspace_at, replaced, with_workspace}
+use Rattle.machine_change_defs.specs.Seen.{SeenMemory, seen_memory, area_bytes, with_bytes, workspace_place, workspace_at, replaced, with_workspace}
 use Rattle.machine_change_defs.specs.Changes.{RegisterChange, register_change, new_held, new_mark, latch_changes, other_changes, changes_at, memory_changes}
 use Rattle.machine_change_defs.specs.Text.{area_text, latches_text, bytes_text, ports_text, changes_text}
 use Rattle.machine_change_defs.proofs.Leaves.{SamePorts, words_leave, jumps_leave}
@@ -82,7 +82,7 @@ replaced_same : (at : ℕ) (bytes : List ℕ) → replaced at (slice_range bytes
 replaced_same at bytes =
     ap (λ rest. take at bytes ++ rest) (sym (drop_split bytes at (at + 32) (omega arith))) ∙ take-append-drop at bytes
 
-with_same : (area : Area) (m : SeenMemory) → with_bytes area (bytes_of area m) m ≡ m
+with_same : (area : Area) (m : SeenMemory) → with_bytes area (area_bytes area m) m ≡ m
 with_same Scratchpad m = refl
 with_same LowExpansion m = refl
 with_same HighExpansion m = refl
@@ -92,7 +92,7 @@ with_same Registers m = refl
 workspace_same : (place : Option (Area × ℕ)) (m : SeenMemory) → with_workspace place (workspace_at place m) m ≡ m
 workspace_same None m = refl
 workspace_same (Some (area, at)) m =
-    ap (λ bytes. with_bytes area bytes m) (replaced_same at (bytes_of area m)) ∙ with_same area m
+    ap (λ bytes. with_bytes area bytes m) (replaced_same at (area_bytes area m)) ∙ with_same area m
 
 -- nothing is shown of a memory that is the same
 same_text : (place : Option (Area × ℕ)) (m : SeenMemory) → changes_text (changes_at place m m) ≡ []

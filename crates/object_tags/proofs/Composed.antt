@@ -3,7 +3,7 @@ use Rattle.std.proofs.Common.{◌≡◌, ℕ, List, [], ◌∷◌, ◌++◌, map
 use Rattle.std.specs.List.{AllByRecursion}
 use Rattle.object_defs.specs.Writing.{Item, Line, lines_from, empty_line}
 use Rattle.object_tags.specs.declared.writer.Writer.{Writer}
-use Rattle.object_tags.specs.Lines.{bytes_of, whole, line_of, Wrote}
+use Rattle.object_tags.specs.Lines.{line_bytes, whole, line_of, Wrote}
 
 map-map : {A B C : Type 0} (f : B → C) (g : A → B) (xs : List A) → map f (map g xs) ≡ map (λ (x : A). f (g x)) xs
 map-map f g [] = refl
@@ -24,7 +24,7 @@ in_two_steps f g xs before after wrote items = ap (λ (ys : List Item). whole be
 pub begins : (writer : Writer) (items : List Item) → writer.lines.items ≡ [] → line_of writer ≡ empty_line → writer.number ≡ 1
     → whole writer items ≡ lines_from 1 empty_line items
 begins writer items lines line number =
-    ap (λ front. bytes_of front ++ lines_from writer.number (line_of writer) items) lines
+    ap (λ front. line_bytes front ++ lines_from writer.number (line_of writer) items) lines
     ∙ (ap (λ (n : ℕ). lines_from n (line_of writer) items) number ∙ ap (λ (l : Line). lines_from 1 l items) line)
 
 -- a fact about what the elements of a list are made to

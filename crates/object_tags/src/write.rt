@@ -8,7 +8,7 @@ ghost use Rattle.object_defs.specs.Writing.{written, written_lines};
 ghost use Rattle.object_defs.specs.Reading.{read};
 ghost use Rattle.object_defs.specs.Laws.{FitsSpot, FitsPiece, FitsDefinition, FitsReference};
 ghost use Rattle.object_tags.specs.Seen.{model_of_def, model_of_ref, model_of_module};
-ghost use Rattle.object_tags.specs.Lines.{Wrote, bytes_of};
+ghost use Rattle.object_tags.specs.Lines.{Wrote, line_bytes};
 
 use crate::group_text;
 use crate::parts::{Def, Module, Ref};
@@ -45,9 +45,9 @@ pub fn write_module(alloc: Global, module: &Module) -> Result<Vec<u8>, AllocErro
 /// `AllocError` means that memory ran out.
 pub fn write_lines(alloc: Global, module: &Module) -> Result<Vec<ObjectLine>, AllocError>
     requires { HasText (model_of_module «module».now) }
-    ensures lines { IfOk result (λ lines. bytes_of lines.items ≡ written_lines (model_of_module «module».now)) }
+    ensures lines { IfOk result (λ lines. line_bytes lines.items ≡ written_lines (model_of_module «module».now)) }
     ensures read_again { IfOk result
-        (λ lines. read (concat (bytes_of lines.items)) ≡ Ok (model_of_module «module».now ∷ [])) }
+        (λ lines. read (concat (line_bytes lines.items)) ≡ Ok (model_of_module «module».now ∷ [])) }
 {
     let mut writer = Writer::new(alloc);
     writer.put_group(&group_text::header_text(module.size, &module.name))?;

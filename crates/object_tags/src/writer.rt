@@ -4,7 +4,7 @@ ghost use Rattle.std.specs.Prelude.{◌≡◌, ◌≤◌, ◌<◌, ◌^◌, ◌+
 ghost use Rattle.object_defs.specs.Digits as digits;
 ghost use Rattle.object_defs.specs.Writing as writing;
 ghost use Rattle.object_defs.specs.Laws.{FitsSpot, FitsPiece};
-ghost use Rattle.object_tags.specs.Lines.{Wrote, bytes_of, whole, line_of};
+ghost use Rattle.object_tags.specs.Lines.{Wrote, line_bytes, whole, line_of};
 
 use crate::checksum::checksum;
 use crate::group_text::{GroupText, address_text, group, put_blanks, word_text};
@@ -89,8 +89,8 @@ impl Writer {
 
     /// Ends the line, and begins the next one.
     fn end_line(&mut self) -> Result<(), AllocError>
-        ensures lines { OnOk result (bytes_of self.new.lines.items
-            ≡ bytes_of self.old.lines.items ++ writing.line_text self.old.number self.old.line.items ∷ []) }
+        ensures lines { OnOk result (line_bytes self.new.lines.items
+            ≡ line_bytes self.old.lines.items ++ writing.line_text self.old.number self.old.line.items ∷ []) }
         ensures line { OnOk result (line_of self.new ≡ writing.empty_line) }
         ensures number { OnOk result (self.new.number ≡ writing.number_after self.old.number) }
     {
@@ -104,7 +104,7 @@ impl Writer {
     /// Ends the last line, and writes the line that ends the module.
     #[tactic(auto, using(std::proofs::lemmas::List::append_assoc), unfolding(object_defs::specs::Writing::lines_from))]
     pub(crate) fn finish(mut self) -> Result<Vec<ObjectLine>, AllocError>
-        ensures { IfOk result (λ lines. bytes_of lines.items ≡ whole self []) }
+        ensures { IfOk result (λ lines. line_bytes lines.items ≡ whole self []) }
     {
         self.end_line()?;
         let mut end = ArrayVec::new();
@@ -115,8 +115,8 @@ impl Writer {
 
     /// Writes a line with its number, and counts it.
     fn put_numbered(&mut self, line: &ArrayVec<u8, PADDED_COLUMNS>) -> Result<(), AllocError>
-        ensures lines { OnOk result (bytes_of self.new.lines.items
-            ≡ bytes_of self.old.lines.items ++ writing.numbered self.old.number line.now.items ∷ []) }
+        ensures lines { OnOk result (line_bytes self.new.lines.items
+            ≡ line_bytes self.old.lines.items ++ writing.numbered self.old.number line.now.items ∷ []) }
         ensures number { OnOk result (self.new.number ≡ writing.number_after self.old.number) }
         ensures line { self.new.line ≡ self.old.line }
     {

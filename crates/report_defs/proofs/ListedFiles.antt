@@ -21,7 +21,7 @@ use Rattle.shelf_defs.specs.CopyLines.{Itself, asked, ends_source}
 use Rattle.shelf_defs.specs.Copied.{Place, PlacedLine, Ended, Copied, lines_in, copy_line, deepest, copied}
 use Rattle.shelf_defs.specs.Assembly.{texts, places, place_of, in_place, module_of_copied, module_of_files}
 use Rattle.listed_lines.proofs.LineTexts.{lines_joined, clean_lines, text_of}
-use Rattle.word_listings.specs.Listing.{memory_listing, words_in}
+use Rattle.word_listings.specs.Listing.{memory_listing}
 use Rattle.word_listings.specs.Modules.{wraps, wrapping_from, first_wrapping, unless_far}
 use Rattle.word_listings.specs.Law.{StandEven, listed_module}
 use Rattle.word_listings.proofs.ListingLaw.{AllBytes, aorg_text, are_words, words_fit, listing_texts, listing_ends, clean_all, listing_is, behind_laid, odd_texts}
@@ -33,6 +33,7 @@ use Rattle.report_defs.specs.FileReports.{copy_report}
 use Rattle.report_defs.specs.ProgramCommands.{AsmFiles, OverFiles}
 use Rattle.report_defs.specs.FileReports.{ReportWith}
 use Rattle.report_defs.specs.Laws.{ListedWordsComeBackWith}
+use Rattle.tms_defs.specs.Words.{words_of_bytes}
 
 -- ---- a line that stands for itself
 
@@ -118,14 +119,14 @@ module _ (half : ℕ) (bytes : List ℕ) (files : Files) (stands : StandEven (2 
 
   texts_are : found_texts ≡ found_front ++ codes "END" ∷ []
   texts_are =
-      ap (λ texts. aorg_text (2 * half) stands.below ∷ texts) (sym (append_assoc (texts_from (length (words_in bytes)) (2 * half) (words_in bytes)) (odd_texts bytes) (codes "END" ∷ [])))
+      ap (λ texts. aorg_text (2 * half) stands.below ∷ texts) (sym (append_assoc (texts_from (length (words_of_bytes bytes)) (2 * half) (words_of_bytes bytes)) (odd_texts bytes) (codes "END" ∷ [])))
 
   copied_all : copied files (concat (memory_listing (2 * half) bytes)) ≡ whole 1 0 (map listed found_texts)
   unfolding memory_listing
   copied_all =
       let fit = words_fit bytes in
       let within = stands.within in
-      let below : 2 * half + 2 * length (words_in bytes) ≤ 65536 = omega (arith, fit, within) in
+      let below : 2 * half + 2 * length (words_of_bytes bytes) ≤ 65536 = omega (arith, fit, within) in
       ap (λ lines. copied files (concat lines)) (listing_is (2 * half) bytes (codes "END"))
       ∙ (ap (copied files) (text_of found_texts)
       ∙ (ap (lines_in (copy_line (of_files files) deepest) None 0) (lines_joined (map listed found_texts) (clean_lines found_texts (clean_all half bytes None all stands.below stands.within tt)))
@@ -143,8 +144,8 @@ module _ (half : ℕ) (bytes : List ℕ) (files : Files) (stands : StandEven (2 
   report_is =
       sym (
       ap copy_report module_is
-      ∙ same_report (map listed found_texts) _ (first_wrapping 2 (2 * half) (words_in bytes))
-      (λ number e. let le = first_from (length (words_in bytes)) (words_in bytes) 2 (2 * half) number e in omega (arith, le))
+      ∙ same_report (map listed found_texts) _ (first_wrapping 2 (2 * half) (words_of_bytes bytes))
+      (λ number e. let le = first_from (length (words_of_bytes bytes)) (words_of_bytes bytes) 2 (2 * half) number e in omega (arith, le))
       )
 
 report_at : (at : ℕ) (input : List ℕ) (files : Files) → StandEven at input

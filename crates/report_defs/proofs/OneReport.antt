@@ -10,7 +10,7 @@ use Rattle.link_defs.specs.LinkedMemory.{LinkedMemory}
 use Rattle.load_defs.specs.Loaded.{IsLoaded, with_words, with_first_word}
 use Rattle.report_defs.specs.ObjectInput.{linked_input}
 use Rattle.console_defs.specs.Machine.{MachineState, new_machine}
-use Rattle.console_defs.specs.Runs.{IsRun, end_at, after}
+use Rattle.console_defs.specs.Runs.{IsRun, end_at, after_steps}
 use Rattle.console_defs.specs.declared.run_end.RunEnd.{RunEnd}
 use Rattle.report_defs.specs.declared.command.Command.{Command}
 use Rattle.report_defs.specs.declared.command.Command.TheVariants.{Exec, Interp, Run, Trace, Demo}
@@ -82,7 +82,7 @@ one_number stop limit m n x y z e f p q = by (nat_lt m n) refl (nat_lt n m) refl
 pub same_run : (stop : Option ℕ) (limit m n : ℕ) (x y z : MachineState) (e f : RunEnd) → m ≡ n → IsRun stop limit m x e y → IsRun stop limit n x f z → (e ≡ f) × (y ≡ z)
 same_run stop limit m n x y z e f same p q =
     let is : Some e ≡ Some f = sym p.ends ∙ ap (λ made. end_at stop limit made x) same ∙ q.ends in
-    (cc is, p.left ∙ ap (λ made. after made x) same ∙ sym q.left)
+    (cc is, p.left ∙ ap (λ made. after_steps made x) same ∙ sym q.left)
 
 -- one end and one machine come of a program
 one_execution : (limit : ℕ) (linked : LinkedMemory) (e f : RunEnd) (left right : MachineState) → Executes limit linked e left → Executes limit linked f right → (e ≡ f) × (left ≡ right)

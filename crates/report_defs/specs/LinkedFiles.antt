@@ -22,15 +22,15 @@ pub data FilesRefusal : Type 0 where
   Unlinked : LinkCause → FilesRefusal
 
 -- a file's bytes with its name. Profile: a file has at most 1,048,576 bytes, as an input has.
-abbrev pub bytes_of : List ℕ → Option (List ℕ) → Result (List ℕ × List ℕ) FilesRefusal
-bytes_of name None = Err (Missing name)
-bytes_of name (Some bytes) = if nat_lt largest_input (length bytes) then Err TooLarge else Ok (name, bytes)
+abbrev pub taken_file : List ℕ → Option (List ℕ) → Result (List ℕ × List ℕ) FilesRefusal
+taken_file name None = Err (Missing name)
+taken_file name (Some bytes) = if nat_lt largest_input (length bytes) then Err TooLarge else Ok (name, bytes)
 
 -- the files of some names, by the number of files that were asked for before
 abbrev pub read_by : Contents → ℕ → List (List ℕ) → Result (List (List ℕ × List ℕ)) FilesRefusal
 read_by contents number [] = Ok []
 read_by contents number (name ∷ names) = do
-  first ← bytes_of name (contents number name)
+  first ← taken_file name (contents number name)
   others ← read_by contents (number + 1) names
   Ok (first ∷ others)
 

@@ -6,10 +6,10 @@ use Rattle.bench_io.specs.Stream.{SinkState}
 use Rattle.bench_io.specs.Written.{Wrote, Missed}
 use Rattle.bench_io.proofs.Writes.{wrote_none, wrote_more, missed_more, missed_early}
 use Rattle.source_defs.specs.Digits.{hex_byte}
-use Rattle.tms_defs.specs.Words.{join}
+use Rattle.tms_defs.specs.Words.{join, words_of_bytes}
 use Rattle.instruction_defs.specs.Printed.{printed}
 use Rattle.instruction_defs.proofs.Windows.{count_within}
-use Rattle.word_listings.specs.Listing.{listing_line, words_in, lines_from, word_lines, odd_byte_lines}
+use Rattle.word_listings.specs.Listing.{listing_line, lines_from, word_lines, odd_byte_lines}
 
 abbrev nothing : List ℕ
 nothing = []
@@ -19,23 +19,23 @@ drop_none zero = refl
 drop_none (suc n) = refl
 
 -- two bytes fewer are one word less
-pub words_behind : (n : ℕ) (bytes : List ℕ) → words_in (drop (2 * n) bytes) ≡ drop n (words_in bytes)
+pub words_behind : (n : ℕ) (bytes : List ℕ) → words_of_bytes (drop (2 * n) bytes) ≡ drop n (words_of_bytes bytes)
 words_behind zero bytes = refl
-words_behind (suc n) [] = ap words_in (drop_none (2 * suc n)) ∙ sym (drop_none (suc n))
+words_behind (suc n) [] = ap words_of_bytes (drop_none (2 * suc n)) ∙ sym (drop_none (suc n))
 words_behind (suc n) (a ∷ []) =
     let e : 2 * suc n ≡ suc (suc (2 * n)) = omega arith in
-    rw e (ap words_in (drop_none (suc (2 * n))) ∙ sym (drop_none (suc n)))
+    rw e (ap words_of_bytes (drop_none (suc (2 * n))) ∙ sym (drop_none (suc n)))
 words_behind (suc n) (a ∷ b ∷ rest) =
     let e : 2 * suc n ≡ suc (suc (2 * n)) = omega arith in
     rw e (words_behind n rest)
 
-pub words_length : (bytes : List ℕ) → length (words_in bytes) ≡ length bytes / 2
+pub words_length : (bytes : List ℕ) → length (words_of_bytes bytes) ≡ length bytes / 2
 words_length [] = refl
 words_length (a ∷ []) = refl
 words_length (a ∷ b ∷ rest) = let e = words_length rest in omega arith
 
 -- the word with a number
-pub word_of : (number : ℕ) (bytes : List ℕ) → 2 * number + 1 < length bytes → get_or (words_in bytes) number 0 ≡ join (get_or bytes (2 * number) 0) (get_or bytes (2 * number + 1) 0)
+pub word_of : (number : ℕ) (bytes : List ℕ) → 2 * number + 1 < length bytes → get_or (words_of_bytes bytes) number 0 ≡ join (get_or bytes (2 * number) 0) (get_or bytes (2 * number + 1) 0)
 word_of number [] lt = absurd (omega arith)
 word_of number (a ∷ []) lt = absurd (omega arith)
 word_of zero (a ∷ b ∷ rest) lt = refl
@@ -45,7 +45,7 @@ word_of (suc n) (a ∷ b ∷ rest) lt =
     rw (f, e) (word_of n rest (omega arith))
 
 -- there is no word behind them
-pub no_word : (number : ℕ) (bytes : List ℕ) → length bytes ≤ 2 * number + 1 → get_or (words_in bytes) number 0 ≡ 0
+pub no_word : (number : ℕ) (bytes : List ℕ) → length bytes ≤ 2 * number + 1 → get_or (words_of_bytes bytes) number 0 ≡ 0
 no_word number [] le = refl
 no_word number (a ∷ []) le = refl
 no_word zero (a ∷ b ∷ rest) le = absurd (omega arith)
@@ -58,8 +58,8 @@ front_three (a ∷ []) = refl
 front_three (a ∷ b ∷ []) = refl
 front_three (a ∷ b ∷ c ∷ rest) = let e : min (length (a ∷ b ∷ c ∷ rest)) 3 ≡ 3 = omega arith in rw e refl
 
-pub three_words : (bytes : List ℕ) (count a b c : ℕ) → count ≡ min (length bytes / 2) 3 → a ≡ get_or (words_in bytes) 0 0 → b ≡ get_or (words_in bytes) 1 0 → c ≡ get_or (words_in bytes) 2 0 → take count (a ∷ b ∷ c ∷ []) ≡ take 3 (words_in bytes)
-three_words bytes count a b c is p q r = rw (is, p, q, r, ← words_length bytes) (front_three (words_in bytes))
+pub three_words : (bytes : List ℕ) (count a b c : ℕ) → count ≡ min (length bytes / 2) 3 → a ≡ get_or (words_of_bytes bytes) 0 0 → b ≡ get_or (words_of_bytes bytes) 1 0 → c ≡ get_or (words_of_bytes bytes) 2 0 → take count (a ∷ b ∷ c ∷ []) ≡ take 3 (words_of_bytes bytes)
+three_words bytes count a b c is p q r = rw (is, p, q, r, ← words_length bytes) (front_three (words_of_bytes bytes))
 
 -- a greater number of lines at most makes no others
 enough : (most more at : ℕ) (words : List ℕ) → length words ≤ most → most ≤ more → lines_from more at words ≡ lines_from most at words
@@ -86,46 +86,46 @@ front_words at word words =
     (enough (length rest) (length words) (at + 2 * front.count) rest (omega arith) (omega (arith, some, left)))
 
 -- the same of the words that bytes hold
-pub front_bytes : (at : ℕ) (bytes : List ℕ) → 1 < length bytes → let front = printed (words_in bytes) at in word_lines at (words_in bytes) ≡ listing_line front.text ∷ word_lines (at + 2 * front.count) (words_in (drop (2 * front.count) bytes))
+pub front_bytes : (at : ℕ) (bytes : List ℕ) → 1 < length bytes → let front = printed (words_of_bytes bytes) at in word_lines at (words_of_bytes bytes) ≡ listing_line front.text ∷ word_lines (at + 2 * front.count) (words_of_bytes (drop (2 * front.count) bytes))
 front_bytes at [] some = absurd (omega arith)
 front_bytes at (a ∷ []) some = absurd (omega arith)
 front_bytes at (a ∷ b ∷ rest) some =
-    let front = printed (words_in (a ∷ b ∷ rest)) at in
-    front_words at (join a b) (words_in rest)
+    let front = printed (words_of_bytes (a ∷ b ∷ rest)) at in
+    front_words at (join a b) (words_of_bytes rest)
     ∙ ap (λ words. listing_line front.text ∷ word_lines (at + 2 * front.count) words) (sym (words_behind front.count (a ∷ b ∷ rest)))
 
 -- an instruction has one word at least, and no byte that is not there
-pub front_count : (at : ℕ) (bytes : List ℕ) → 1 < length bytes → let front = printed (words_in bytes) at in 1 ≤ front.count × 2 * front.count ≤ length bytes
+pub front_count : (at : ℕ) (bytes : List ℕ) → 1 < length bytes → let front = printed (words_of_bytes bytes) at in 1 ≤ front.count × 2 * front.count ≤ length bytes
 front_count at [] some = absurd (omega arith)
 front_count at (a ∷ []) some = absurd (omega arith)
 front_count at (a ∷ b ∷ rest) some =
-    let within = count_within (join a b) (words_in rest) at in
+    let within = count_within (join a b) (words_of_bytes rest) at in
     (within.0, omega (arith, within.1, words_length (a ∷ b ∷ rest)))
 
 -- the lines up to a place were written, and the others are those of the bytes from there on
 pub record Listed (at : ℕ) (bytes : List ℕ) (place : ℕ) (before after : SinkState) : Type 0 where
   pub lines : List (List ℕ)
   pub wrote : Wrote before after lines
-  pub rest : word_lines at (words_in bytes) ≡ lines ++ word_lines (at + place) (words_in (drop place bytes))
+  pub rest : word_lines at (words_of_bytes bytes) ≡ lines ++ word_lines (at + place) (words_of_bytes (drop place bytes))
 
 pub listed_none : (at : ℕ) (bytes : List ℕ) (state : SinkState) → Listed at bytes 0 state state
 listed_none at bytes state = record {
   lines = [];
   wrote = wrote_none state;
-  rest = ap (λ a. word_lines a (words_in bytes)) (omega arith);
+  rest = ap (λ a. word_lines a (words_of_bytes bytes)) (omega arith);
 }
 
 -- the rest of the lines begin with the line of the instruction at the place
-next_line : (at place : ℕ) (bytes : List ℕ) → place + 1 < length bytes → let front = printed (words_in (drop place bytes)) (at + place) in word_lines (at + place) (words_in (drop place bytes)) ≡ listing_line front.text ∷ word_lines (at + (place + 2 * front.count)) (words_in (drop (place + 2 * front.count) bytes))
+next_line : (at place : ℕ) (bytes : List ℕ) → place + 1 < length bytes → let front = printed (words_of_bytes (drop place bytes)) (at + place) in word_lines (at + place) (words_of_bytes (drop place bytes)) ≡ listing_line front.text ∷ word_lines (at + (place + 2 * front.count)) (words_of_bytes (drop (place + 2 * front.count) bytes))
 next_line at place bytes some =
-    let front = printed (words_in (drop place bytes)) (at + place) in
+    let front = printed (words_of_bytes (drop place bytes)) (at + place) in
     front_bytes (at + place) (drop place bytes) (omega (arith, length-drop place bytes))
-    ∙ ap (λ a. listing_line front.text ∷ word_lines a (words_in (drop (2 * front.count) (drop place bytes)))) (omega arith)
-    ∙ ap (λ bytes. listing_line front.text ∷ word_lines (at + (place + 2 * front.count)) (words_in bytes)) (drop-drop (2 * front.count) place bytes)
+    ∙ ap (λ a. listing_line front.text ∷ word_lines a (words_of_bytes (drop (2 * front.count) (drop place bytes)))) (omega arith)
+    ∙ ap (λ bytes. listing_line front.text ∷ word_lines (at + (place + 2 * front.count)) (words_of_bytes bytes)) (drop-drop (2 * front.count) place bytes)
 
-pub listed_more : (at place count : ℕ) (bytes : List ℕ) (a b c : SinkState) → place + 1 < length bytes → let front = printed (words_in (drop place bytes)) (at + place) in count ≡ front.count → Listed at bytes place a b → Wrote b c (listing_line front.text ∷ []) → Listed at bytes (place + 2 * count) a c
+pub listed_more : (at place count : ℕ) (bytes : List ℕ) (a b c : SinkState) → place + 1 < length bytes → let front = printed (words_of_bytes (drop place bytes)) (at + place) in count ≡ front.count → Listed at bytes place a b → Wrote b c (listing_line front.text ∷ []) → Listed at bytes (place + 2 * count) a c
 listed_more at place count bytes a b c some is listed wrote =
-    let front = printed (words_in (drop place bytes)) (at + place) in
+    let front = printed (words_of_bytes (drop place bytes)) (at + place) in
     rw is
     (record {
       lines = listed.lines ++ (listing_line front.text ∷ []);
@@ -135,21 +135,21 @@ listed_more at place count bytes a b c some is listed wrote =
     })
 
 -- the line at the place could not be written
-pub listed_missed : (at place : ℕ) (bytes : List ℕ) (a b c : SinkState) → place + 1 < length bytes → let front = printed (words_in (drop place bytes)) (at + place) in Listed at bytes place a b → Missed b c (listing_line front.text ∷ []) → Missed a c (word_lines at (words_in bytes))
+pub listed_missed : (at place : ℕ) (bytes : List ℕ) (a b c : SinkState) → place + 1 < length bytes → let front = printed (words_of_bytes (drop place bytes)) (at + place) in Listed at bytes place a b → Missed b c (listing_line front.text ∷ []) → Missed a c (word_lines at (words_of_bytes bytes))
 listed_missed at place bytes a b c some listed missed =
-    let front = printed (words_in (drop place bytes)) (at + place) in
+    let front = printed (words_of_bytes (drop place bytes)) (at + place) in
     let all = listed.rest ∙ ap (λ lines. listed.lines ++ lines) (next_line at place bytes some) in
     rw all
-    (missed_more a b c listed.lines (listing_line front.text ∷ word_lines (at + (place + 2 * front.count)) (words_in (drop (place + 2 * front.count) bytes))) listed.wrote
-    (missed_early b c (listing_line front.text ∷ []) (word_lines (at + (place + 2 * front.count)) (words_in (drop (place + 2 * front.count) bytes))) missed))
+    (missed_more a b c listed.lines (listing_line front.text ∷ word_lines (at + (place + 2 * front.count)) (words_of_bytes (drop (place + 2 * front.count) bytes))) listed.wrote
+    (missed_early b c (listing_line front.text ∷ []) (word_lines (at + (place + 2 * front.count)) (words_of_bytes (drop (place + 2 * front.count) bytes))) missed))
 
-few_words : (at : ℕ) (bytes : List ℕ) → length bytes ≤ 1 → word_lines at (words_in bytes) ≡ []
+few_words : (at : ℕ) (bytes : List ℕ) → length bytes ≤ 1 → word_lines at (words_of_bytes bytes) ≡ []
 few_words at [] few = refl
 few_words at (a ∷ []) few = refl
 few_words at (a ∷ b ∷ rest) few = absurd (omega arith)
 
 -- no word is left
-pub listed_all : (at place : ℕ) (bytes : List ℕ) (a b : SinkState) → length bytes ≤ place + 1 → Listed at bytes place a b → Wrote a b (word_lines at (words_in bytes))
+pub listed_all : (at place : ℕ) (bytes : List ℕ) (a b : SinkState) → length bytes ≤ place + 1 → Listed at bytes place a b → Wrote a b (word_lines at (words_of_bytes bytes))
 listed_all at place bytes a b few listed =
     let none = few_words (at + place) (drop place bytes) (omega (arith, length-drop place bytes)) in
     let all = listed.rest ∙ (ap (λ lines. listed.lines ++ lines) none ∙ append-nil listed.lines) in
@@ -169,7 +169,7 @@ odd_last (a ∷ b ∷ rest) odd =
     rw e (odd_last rest (omega arith))
 
 -- the place goes on, and not past the end
-pub place_count : (at place count : ℕ) (bytes : List ℕ) → place + 1 < length bytes → count ≡ (printed (words_in (drop place bytes)) (at + place)).count → place < place + 2 * count × place + 2 * count ≤ length bytes
+pub place_count : (at place count : ℕ) (bytes : List ℕ) → place + 1 < length bytes → count ≡ (printed (words_of_bytes (drop place bytes)) (at + place)).count → place < place + 2 * count × place + 2 * count ≤ length bytes
 place_count at place number bytes some is =
     let count = front_count (at + place) (drop place bytes) (omega (arith, length-drop place bytes)) in
     (omega (arith, is, count.0), omega (arith, is, count.1, length-drop place bytes))

@@ -3,7 +3,7 @@ use Rattle.std.specs.Prelude.{ℕ, List}
 use Rattle.gpl_defs.specs.Image.{written_bytes}
 use Rattle.report_defs.specs.declared.status.Status.{Status}
 use Rattle.report_defs.specs.declared.status.Status.TheVariants.{Done}
-use Rattle.object_tags.specs.Lines.{bytes_of}
+use Rattle.object_tags.specs.Lines.{line_bytes}
 use Rattle.report_defs.specs.GromListing.{image_listing}
 use Rattle.word_listings.specs.Listing.{memory_listing}
 use Rattle.report_defs.specs.Exec.{exec_lines, end_status}
@@ -19,7 +19,7 @@ use Rattle.reports.specs.declared.report.Report.TheVariants as made
 
 -- what is written of it
 abbrev pub pieces_of : Report → List (List ℕ)
-pieces_of (made.Object lines) = bytes_of lines.items
+pieces_of (made.Object lines) = line_bytes lines.items
 pieces_of (made.Image image) = spec.one_piece (written_bytes image)
 pieces_of (made.Listing listing) = memory_listing listing.at listing.bytes.items
 pieces_of (made.Grom image) = image_listing image

@@ -2,7 +2,7 @@
 use Rattle.std.proofs.Common.{ℕ, ◌+◌, ◌<◌, ◌==◌, ◌∙◌, ◌≡◌, ◌≤◌, ap, arith, bit_and, Bool, false, int_le, int_lt, List, nat_le, nat_lt, not, Ok, Option, refl, slice_index}
 use Rattle.std.proofs.Common.{slice_set, Some, subst, sym, true}
 use Rattle.sim_rows.proofs.Common.{Byte, bytes_by, CEQ, CGE, CGT, CH, CHE, CLOG, ReachesWithin, comes, comes_then, CTRUE, CZ, Exits, Goes, goes_in, gone_on}
-use Rattle.sim_rows.proofs.Common.{GplOperation, GplState, GSTEP, in_register, is_end, IsView, loaded_of, MachineState, modulus, next_of, One, ones_cleared}
+use Rattle.sim_rows.proofs.Common.{GplOperation, GplState, GSTEP, in_register, is_turn_end, IsView, loaded_of, MachineState, modulus, next_of, One, ones_cleared}
 use Rattle.sim_rows.proofs.Common.{ones_set, operation_in, Place, reads_destination, row_result, row_width, RunsRow, ShowsState, SeesFinished, SeesResult, signed}
 use Rattle.sim_rows.proofs.Common.{Source, ST, Stands, Two, unchanged, value_at, View, view, Width, width_in, with_condition, Word}
 use Rattle.sim_compare.specs.Pieces.{end_of, told}
@@ -32,7 +32,7 @@ at_end : (b : Bool) → (end_of b == CTRUE) ≡ b
 at_end true = refl
 at_end false = refl
 
-pub goes_on : (b : Bool) → is_end (end_of b) ≡ false
+pub goes_on : (b : Bool) → is_turn_end (end_of b) ≡ false
 goes_on true = refl
 goes_on false = refl
 

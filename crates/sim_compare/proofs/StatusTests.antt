@@ -1,7 +1,7 @@
 -- The tests of the status, from their dispatch to the end of the step.
 use Rattle.std.proofs.Common.{ℕ, ◌<◌, ◌==◌, ◌∙◌, ◌≡◌, ap, arith, Bool, false, List, Ok, Option, refl, Result, slice_index, Some, subst, true}
 use Rattle.sim_rows.proofs.Common.{after, AtDispatch, behind_code, bound, bound_at, bound_by, CARRY, Changes, code_byte, ReachesWithin, comes, CTRUE, executed, Exits}
-use Rattle.sim_rows.proofs.Common.{finished, Goes, GplOperation, GplRead, GplState, GT, H, is_end, is_set, is_view, IsView, join, last_out, low, MachineState}
+use Rattle.sim_rows.proofs.Common.{finished, Goes, GplOperation, GplRead, GplState, GT, H, is_turn_end, is_set, is_view, IsView, join, last_out, low, MachineState}
 use Rattle.sim_rows.proofs.Common.{matches, most_to_dispatch, operation_entry, operation_in, operation_in_view, OVF, Plain, PlainOp, reaches}
 use Rattle.sim_rows.proofs.Common.{from_dispatch, read_by, Reason, shifted, ShowsState, SLA, state_at_dispatch, status_of, step, Stepped, Turned, turned_by, unchanged}
 use Rattle.sim_rows.proofs.Common.{View, view, with_tested}
@@ -23,7 +23,7 @@ tested operation = 0
 
 -- ---- the operations
 
-starts : (o : Option GplOperation) → is_test o ≡ true → is_end (operation_entry o) ≡ false
+starts : (o : Option GplOperation) → is_test o ≡ true → is_turn_end (operation_entry o) ≡ false
 starts (Some (Plain H)) e = refl
 starts (Some (Plain GT)) e = refl
 starts (Some (Plain CARRY)) e = refl
@@ -118,7 +118,7 @@ module _ {x a : MachineState} {t u : ℕ} (name : PlainOp) (is : operation_in_vi
       let b = bound_is s o e is in
       turned_by x y t v most_to_dispatch Stepped s (Ok next) (step_is s o e is) (
         refl,
-        reaches most_to_dispatch (bound s) c (ap is_end at.stands.pc ∙ ap (λ (p : Option GplOperation). is_end (operation_entry p)) is ∙ starts o e) refl
+        reaches most_to_dispatch (bound s) c (ap is_turn_end at.stands.pc ∙ ap (λ (p : Option GplOperation). is_turn_end (operation_entry p)) is ∙ starts o e) refl
             (omega arith),
         matches next y c.stands c.holds,
       )

@@ -2,7 +2,7 @@
 use Rattle.std.proofs.Common.{ℕ, ◌*◌, ◌+◌, ◌<◌, ◌==◌, ◌∙◌, ◌≡◌, ◌≤◌, ap, arith, Bool, false, if◌then◌else◌, refl, subst, sym, true}
 use Rattle.std.proofs.lemmas.Bool.{ne_eqb}
 use Rattle.sim_rows.proofs.Common.{ShowsChanges, Changes, ReachesWithin, comes, comes_as, comes_on, comes_then, copied, EndsRow, Exit, Exits, From, GromState, idle_again}
-use Rattle.sim_rows.proofs.Common.{idle_grom, idle_told, idle_video, is_end, is_view, IsFetched, MachineState, MOVEB, PortsAreIdle, RESUME, SeesFinished, SHOW}
+use Rattle.sim_rows.proofs.Common.{idle_grom, idle_told, idle_video, is_turn_end, is_view, IsFetched, MachineState, MOVEB, PortsAreIdle, RESUME, SeesFinished, SHOW}
 use Rattle.sim_rows.proofs.Common.{Stands, To, View, view, with_pc}
 use Rattle.sim_jumps.specs.Jumps.{ResumesRow}
 use Rattle.sim_copy.specs.Copying.{CopiesBytes, Copying}
@@ -71,11 +71,11 @@ module _ {x y : MachineState} {s t : ℕ} (a : Exits x y s t (pieces.begin_copy 
   alone = comes a (record { within = omega arith; to_is = refl; holds = refl })
 
   -- a piece behind it
-  both : (p : ℕ) → is_end p ≡ false → first.to ≡ p → (piece : View → Exit) → {z : MachineState} {u : ℕ} → Exits y z t u (piece (view y)) →
+  both : (p : ℕ) → is_turn_end p ≡ false → first.to ≡ p → (piece : View → Exit) → {z : MachineState} {u : ℕ} → Exits y z t u (piece (view y)) →
       GoesTo z u (pieces.and_then first (piece first.left))
   both p runs is piece {z = z} {u = u} b =
       let next : Exits y z t u (piece first.left) = subst (λ (v : View). Exits y z t u (piece v)) a.shows b in
-      comes_then first.count (piece first.left).count alone next (record { within = omega arith; to_is = refl; holds = refl }) (ap is_end is ∙ runs)
+      comes_then first.count (piece first.left).count alone next (record { within = omega arith; to_is = refl; holds = refl }) (ap is_turn_end is ∙ runs)
 
   pub starts_source : y.cpu.pc ≡ SETR → {z : MachineState} {u : ℕ} → Exits y z t u (pieces.set_source (view y)) → StartsCopy x z s u
   starts_source here {z = z} {u = u} b =
@@ -114,7 +114,7 @@ module _ {x a : MachineState} {t t1 : ℕ} (e : StartsCopy x a t t1) (stands : S
       let whole : Changes = copied bytes from to c in
       let left : (view a).r.r12 ≡ bytes = ap (λ (u : View). u.r.r12) e.holds ∙ begun.left ∙ k.left in
       let count : ℕ = (pieces.start_copy (view x)).count in
-      let runs : is_end (pieces.start_copy (view x)).to ≡ false = ap is_end (sym e.stands.pc) ∙ runs_on a.cpu.pc (view a) at_copy.place in
+      let runs : is_turn_end (pieces.start_copy (view x)).to ≡ false = ap is_turn_end (sym e.stands.pc) ∙ runs_on a.cpu.pc (view a) at_copy.place in
       let c2 = comes_on count rest.most e rest.comes runs in
       let few : count ≤ 7 + charged a.cpu.pc = subst (λ (p : ℕ). count ≤ 7 + charged p) (sym e.stands.pc) begun.few in
       let within : rest.most + charged a.cpu.pc ≤ 37 * bytes = subst (λ (n : ℕ). rest.most + charged a.cpu.pc ≤ 37 * n) left rest.within in

@@ -1,6 +1,6 @@
 -- Where a byte is copied.
 use Rattle.std.proofs.Common.{ℕ, ◌<◌, ◌==◌, ◌∙◌, ◌≡◌, ◌≤◌, ap, arith, Bool, false, if◌then◌else◌, None, Option, refl, Some, subst, sym, true}
-use Rattle.sim_rows.proofs.Common.{Changes, COPY, From, is_end, MachineState, Stands, To, View}
+use Rattle.sim_rows.proofs.Common.{Changes, COPY, From, is_turn_end, MachineState, Stands, To, View}
 use Rattle.sim_copy.specs.Copying.{Copying}
 use Rattle.sim_copy.specs.Bytes.{AllCopied, AtByte, AtEnd, AtHead, charged, Copied, CopiesAt, CopyingAt, CopyingByRoutines, CopyingOnWay, MayGo}
 use Rattle.sim_copy.specs.Bytes.{OnWay, Points}
@@ -75,13 +75,13 @@ at_end p v (AtByte e k) z = absurd (let s = k.some in omega arith)
 at_end p v (AtHead way e k) z = absurd (let s = some_left way v k in omega arith)
 at_end p v (AtEnd e n) z = e
 
-head_runs : (way : CopyPath) → is_end (head_of way) ≡ false
-head_runs = each (λ way. is_end (head_of way) ≡ false) refl refl refl refl refl
+head_runs : (way : CopyPath) → is_turn_end (head_of way) ≡ false
+head_runs = each (λ way. is_turn_end (head_of way) ≡ false) refl refl refl refl refl
 
-pub runs_on : (p : ℕ) (v : View) → CopiesAt p v → is_end p ≡ false
-runs_on p v (AtByte e k) = ap is_end e
-runs_on p v (AtHead way e k) = ap is_end e ∙ head_runs way
-runs_on p v (AtEnd e z) = ap is_end e
+pub runs_on : (p : ℕ) (v : View) → CopiesAt p v → is_turn_end p ≡ false
+runs_on p v (AtByte e k) = ap is_turn_end e
+runs_on p v (AtHead way e k) = ap is_turn_end e ∙ head_runs way
+runs_on p v (AtEnd e z) = ap is_turn_end e
 
 -- a machine where it is
 pub at_pc : (x : MachineState) (p : ℕ) → Stands x p → Stands x x.cpu.pc

@@ -1,7 +1,7 @@
 -- EXIT and B.
 use Rattle.std.proofs.Common.{ℕ, ◌≡◌, ap, arith, Err, Ok, refl, Some}
 use Rattle.sim_rows.proofs.Common.{B, behind_code, bound, bound_made, bound_stop, comes, comes_on, Dispatched, ShowsEnd, EXIT, exit, Exit as Ending, Exits, from}
-use Rattle.sim_rows.proofs.Common.{GEXIT, GOB, Goes, goes_in, GOEXIT, GOTO, GplState, grom_at, GromState, is_end, Jump, known, leaves, MachineState, matches}
+use Rattle.sim_rows.proofs.Common.{GEXIT, GOB, Goes, goes_in, GOEXIT, GOTO, GplState, grom_at, GromState, is_turn_end, Jump, known, leaves, MachineState, matches}
 use Rattle.sim_rows.proofs.Common.{from_dispatch, most_to_dispatch, operation_in, Plain, reaches, ShowsState, Stands, step_jump, step_plain, Stepped, Stopped, Turned, turned_by}
 use Rattle.sim_rows.proofs.Common.{View, view, word_at}
 use Rattle.sim_rows.specs.gpl_step_defs.declared.reason.Reason.TheVariants.{Exit}
@@ -19,7 +19,7 @@ exits {s = s} {x = x} {y = y} {t = t} {u = u} d e stands run =
     let c = comes run ended in
     let b = bound_stop s Exit is in
     turned_by x y t u most_to_dispatch (Stopped Exit) s (Err Exit) is
-    (refl, reaches most_to_dispatch (bound s) c (ap is_end stands.pc) refl (omega arith), leaves s y c.stands c.holds)
+    (refl, reaches most_to_dispatch (bound s) c (ap is_turn_end stands.pc) refl (omega arith), leaves s y c.stands c.holds)
 
 -- B
 module _ (s : GplState) (v : View) (d : Dispatched s v) where
@@ -56,4 +56,4 @@ module _ (s : GplState) (v : View) (d : Dispatched s v) where
       let step_is = step_jump s B e in
       let m = bound_made s next (Some (Jump B)) e step_is in
       turned_by x y t t2 most_to_dispatch Stepped s (Ok next) step_is
-      (refl, reaches most_to_dispatch (bound s) c2 (ap is_end stands.pc) refl (omega arith), matches next y c2.stands c2.holds)
+      (refl, reaches most_to_dispatch (bound s) c2 (ap is_turn_end stands.pc) refl (omega arith), matches next y c2.stands c2.holds)

@@ -1,6 +1,6 @@
 -- BACK from its dispatch to the end of the step.
 use Rattle.std.proofs.Common.{ℕ, ◌∙◌, ◌≡◌, ap, arith, None, Ok, refl, slice_index, slice_set, Some}
-use Rattle.sim_rows.proofs.Common.{BACK, behind_code, bound, bound_made, comes, Dispatched, Exits, finished, GOBACK, Goes, GplState, GromState, GSTEP, is_end}
+use Rattle.sim_rows.proofs.Common.{BACK, behind_code, bound, bound_made, comes, Dispatched, Exits, finished, GOBACK, Goes, GplState, GromState, GSTEP, is_turn_end}
 use Rattle.sim_rows.proofs.Common.{from_dispatch, MachineState, matches, most_to_dispatch, next_in_grom, operation_in, past, reaches, ShowsState, Stands, step_byte, Stepped, Turned}
 use Rattle.sim_rows.proofs.Common.{turned_by, unchanged, vdp_address_written, VdpState, View, view, with_register}
 use Rattle.sim_rows.specs.gpl_defs.declared.instruction.GplOperation.TheVariants.{Byte}
@@ -39,4 +39,4 @@ borders {s = s} {x = x} {y = y} {t = t} {u = u} d is stands set =
     let step_is = step_byte s BACK is in
     let b = bound_made s (next s) (Some (Byte BACK)) is step_is in
     turned_by x y t u most_to_dispatch Stepped s (Ok (next s)) step_is
-    (refl, reaches most_to_dispatch (bound s) c (ap is_end stands.pc) refl (omega arith), matches (next s) y c.stands c.holds)
+    (refl, reaches most_to_dispatch (bound s) c (ap is_turn_end stands.pc) refl (omega arith), matches (next s) y c.stands c.holds)

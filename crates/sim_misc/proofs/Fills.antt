@@ -3,7 +3,7 @@ use Rattle.std.proofs.Common.{[], ℕ, ◌*◌, ◌++◌, ◌+◌, ◌<◌, ◌=
 use Rattle.std.proofs.Common.{replicate, slice_index, slice_set, Some, subst, suc, sym, true, zero}
 use Rattle.std.proofs.lemmas.Bool.{eqb-false, eqb-true, ne_eqb}
 use Rattle.sim_rows.proofs.Common.{ALL, behind_code, bound, bound_made, ReachesWithin, comes, comes_as, comes_then, difference_of, Dispatched, Exits, FILL, finished}
-use Rattle.sim_rows.proofs.Common.{GOALL, Goes, GplState, grom_at, GromState, GSTEP, high, high-join, is_end, is_view, MachineState, matches, most_to_dispatch}
+use Rattle.sim_rows.proofs.Common.{GOALL, Goes, GplState, grom_at, GromState, GSTEP, high, high-join, is_turn_end, is_view, MachineState, matches, most_to_dispatch}
 use Rattle.sim_rows.proofs.Common.{from_dispatch, next_in_grom, operation_in, past, pick, reaches, ShowsState, Stands, step_byte, Stepped, Turned, turned_by, with_video_address}
 use Rattle.sim_rows.proofs.Common.{unchanged, vdp_data_written, VdpState, View, view, with_immediate, Word}
 use Rattle.sim_rows.specs.gpl_defs.declared.instruction.GplOperation.TheVariants.{Byte}
@@ -127,7 +127,7 @@ pub one_byte : {s : GplState} (made : ℕ) {x z w : MachineState} {t u v : ℕ} 
 one_byte {s = s} made {x = x} {z = z} {w = w} {t = t} {v = v} stands d h some stored =
     let n : suc made ≡ made + 1 = omega arith in
     let c = comes_then (6 + 4 * made) 4 h stored (fill_goes s made (view z) h.holds some (size_of_video s x stands d))
-    (ap is_end (more_left made (λ all. omega arith))) in
+    (ap is_turn_end (more_left made (λ all. omega arith))) in
     subst (λ (made : ℕ). Filling s made x w t v) n (comes_as (6 + 4 * suc made) (Filled s (suc made)) c (omega arith) (λ w f. f))
 
 -- ---- the turn
@@ -153,4 +153,4 @@ fills {s = s} {x = x} {z = z} {t = t} {u = u} stands d is made all h =
     let step_is = step_byte s ALL is in
     let b = bound_made s (next s) (Some (Byte ALL)) is step_is in
     turned_by x z t u most_to_dispatch Stepped s (Ok (next s)) step_is
-    (refl, reaches most_to_dispatch (bound s) h (ap is_end stands.pc) (ap is_end (ap place all)) (omega arith), matches (next s) z there seen)
+    (refl, reaches most_to_dispatch (bound s) h (ap is_turn_end stands.pc) (ap is_turn_end (ap place all)) (omega arith), matches (next s) z there seen)

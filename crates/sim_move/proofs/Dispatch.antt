@@ -1,7 +1,7 @@
 -- MOVE from its dispatch to the end of the step.
 use Rattle.std.proofs.Common.{ℕ, ◌*◌, ◌+◌, ◌≡◌, ap, arith, Err, false, Ok, refl, Some, subst, sym, true}
 use Rattle.sim_rows.proofs.Common.{bound, bound_stop, Changes, comes_on, fetched_of, finished, From, FromGrom, FromMemory, GOMOVE, GplState, grom_at, GSTOP}
-use Rattle.sim_rows.proofs.Common.{idle_of, is_end, MachineState, matches, most_to_dispatch, Move, MOVEB, MoveKind, number_of, operation_in, reaches, Reason}
+use Rattle.sim_rows.proofs.Common.{idle_of, is_turn_end, MachineState, matches, most_to_dispatch, Move, MOVEB, MoveKind, number_of, operation_in, reaches, Reason}
 use Rattle.sim_rows.proofs.Common.{from_dispatch, ShowsState, Stands, Stepped, Stopped, stops, To, Turned, turned_by, View, view, WORKSPACE}
 use Rattle.sim_copy.specs.Copying.{CopiesBytes, StandsFrom}
 use Rattle.sim_move.specs.Family.{is_move}
@@ -32,8 +32,8 @@ module _ (s : GplState) {x a : MachineState} {t t1 : ℕ} (stands : Stands x GOM
     unfolding kind
     known = (kind_of (operation_in s) family).1
 
-    start : is_end x.cpu.pc ≡ false
-    start = ap is_end stands.pc
+    start : is_turn_end x.cpu.pc ≡ false
+    start = ap is_turn_end stands.pc
 
     -- a check fails
     module _ (here : a.cpu.pc ≡ GSTOP) where

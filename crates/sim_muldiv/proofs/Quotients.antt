@@ -5,7 +5,7 @@ use Rattle.std.proofs.lemmas.Bool.{ltb-true}
 use Rattle.std.proofs.lemmas.Nat.{mod_below}
 use Rattle.sim_rows.proofs.Common.{AtRow, behind, Byte, ShowsChanges, changed_again, ChangedFrom, Changes, ReachesWithin, comes, comes_as, comes_on, comes_then, DIV, DIVBY}
 use Rattle.sim_rows.proofs.Common.{DIVE, divided, DIVL, DIVQ, DIVS, DIVV, DIVW, double_at, double_word, EndsRow, even, exit, Exits, Goes, goes_in, gone_on}
-use Rattle.sim_rows.proofs.Common.{GplState, GSTEP, has_quotient, high, idle_again, idle_grom, idle_told, idle_video, in_register, is_end, is_view, IsVisible}
+use Rattle.sim_rows.proofs.Common.{GplState, GSTEP, has_quotient, high, idle_again, idle_grom, idle_told, idle_video, in_register, is_turn_end, is_view, IsVisible}
 use Rattle.sim_rows.proofs.Common.{join, LOAD, Loaded, LoadsValue, MachineState, most_of_load, most_of_quotient_row, most_of_store, next_of, number_of_space}
 use Rattle.sim_rows.proofs.Common.{ones_cleared, ones_set, operation_in, OVER, Place, place_in, place_is, PortsAreIdle, reads_destination, return_of}
 use Rattle.sim_rows.proofs.Common.{row_changed, row_width, RunsRow, SeesFinished, shifted, SHOW, size_of, Source, SRL, Stands, state_of, STORE, store_then}
@@ -409,7 +409,7 @@ module _ {x a : MachineState} {t u : ℕ} (ready : IsReady x) (stands : Stands x
       let done = comes_then 4 3 (came OVER (goes e)) second (overflows c (view a) there refl) refl in
       ends_as s place source y w false has (comes_as 91 (SeesFinished (with_overflow true c)) done (omega arith) (λ q h. h))
 
-  quotient_runs : fits ≡ true → (p : ℕ) → to ≡ p → is_end p ≡ false → (y : MachineState) (w : ℕ) → Divides a y u w
+  quotient_runs : fits ≡ true → (p : ℕ) → to ≡ p → is_turn_end p ≡ false → (y : MachineState) (w : ℕ) → Divides a y u w
       → RunsRow (Two DIV) most_of_quotient_row x y t w
   quotient_runs below p e goes y w divides s place source is row operands =
       let has = sym (fits_is s place source is row) ∙ below in

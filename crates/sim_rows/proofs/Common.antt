@@ -34,7 +34,7 @@ pub use Rattle.sim_rows.specs.Prelude.{FETCHP, FETCHR, FETCHS, FETCHV, FILL, Fin
 pub use Rattle.sim_rows.specs.Prelude.{GEXIT, Gives, GOALL, GOB, GOBACK, GOCALL, GOCARY, GOEXIT, GOGT, GOH, GOMOVE, gone_on, GoOp, GOOVF, GORAND, GORTN, GOTO}
 pub use Rattle.sim_rows.specs.Prelude.{GplOperand, GplOperation, GplRead, GplRun, GplState, grom_at, GromIndexedToMemory, GromState, GromToMemory}
 pub use Rattle.sim_rows.specs.Prelude.{GromToRegisters, grown_by, GSTEP, GSTOP, GT, H, has_quotient, has_source, high, Holds, HoldsEntry, in_grom_of}
-pub use Rattle.sim_rows.specs.Prelude.{in_register, INCTV, INDEX, index_by, indexed, INVV, is_end, is_grom_idle, is_immediate, is_row, is_set, is_taken}
+pub use Rattle.sim_rows.specs.Prelude.{in_register, INCTV, INDEX, index_by, indexed, INVV, is_turn_end, is_grom_idle, is_immediate, is_row, is_set, is_taken}
 pub use Rattle.sim_rows.specs.Prelude.{is_vdp_idle, is_visible, IsFetched, IsMachine, IsMatching, IsMemory, IsNewVdp, IsStatus, IsTurn, IsVisible, join, Jump}
 pub use Rattle.sim_rows.specs.Prelude.{last_out, Length, length_at, length_of, LOAD, Loaded, loaded_of, LoadsFrom, LoadsFromSource, LoadsStream, LoadsValue}
 pub use Rattle.sim_rows.specs.Prelude.{low, MachineState, marked_by, Matches, Memory, MemoryToMemory, modulus, most_to_dispatch, Move, MOVEA, MOVEB, MOVED}

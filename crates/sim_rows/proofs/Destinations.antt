@@ -2,7 +2,7 @@
 use Rattle.std.proofs.Common.{ℕ, ◌+◌, ◌<◌, ◌∙◌, ◌≡◌, ◌≤◌, ap, arith, Bool, Err, false, nat_lt, not, Ok, Option, refl, Result, Some, subst, sym, true}
 use Rattle.std.proofs.lemmas.Bool.{not-true}
 use Rattle.sim_rows.specs.Prelude.{ADDR, Asking, AtDispatch, behind_code, behind_destination, behind_first, bytes_by, code_byte, ReachesWithin, destination_bytes}
-use Rattle.sim_rows.specs.Prelude.{destination_size, DIV, even, Exits, Finds, FindsOperand, first_of, gone_on, GplOperation, GplState, GSTOP, is_end, is_row}
+use Rattle.sim_rows.specs.Prelude.{destination_size, DIV, even, Exits, Finds, FindsOperand, first_of, gone_on, GplOperation, GplState, GSTOP, is_turn_end, is_row}
 use Rattle.sim_rows.specs.Prelude.{IsVisible, KeepsDestination, LOAD, LoadsDestination, LoadsValue, MachineState, MUL, next_at, number_of_space, operand_at}
 use Rattle.sim_rows.specs.Prelude.{operation_in, Place, place_of, PortsAreIdle, reads_destination, Reason, return_of, ROW, row_width, size_of, Stands}
 use Rattle.sim_rows.specs.Prelude.{state_at_dispatch, state_of, TwoName, View, view, WIDE, word_or_byte}
@@ -144,7 +144,7 @@ module _ {x : MachineState} (at : AtDispatch is_row x) where
             (operands.stored s place (there STDST k.kind.label_is) refl z w (omega arith) (ap reads_destination k.is) e)
 
       -- its value is loaded
-      module _ (link to : ℕ) (is : label ≡ to) (goes : is_end to ≡ false) {z : MachineState} {w : ℕ} (e : Exits y z u w (pieces.load_kept link (view y))) where
+      module _ (link to : ℕ) (is : label ≡ to) (goes : is_turn_end to ≡ false) {z : MachineState} {w : ℕ} (e : Exits y z u w (pieces.load_kept link (view y))) where
         loading : ReachesWithin 47 x z t w LOAD (Loading s bytes place place (behind_first s) link)
         loading = operands.asks_value s place (there to is) goes link z w e
 

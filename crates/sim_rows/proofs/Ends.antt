@@ -3,7 +3,7 @@ use Rattle.std.proofs.Common.{ℕ, ◌+◌, ◌<◌, ◌∙◌, ◌≡◌, ◌�
 use Rattle.std.proofs.Common.{sym, true, zero}
 use Rattle.sim_view.proofs.Common.{given, holds_register, previous-next, runs_then}
 use Rattle.sim_operands.proofs.Facts.{not_both}
-use Rattle.sim_rows.specs.Prelude.{bound, ReachesWithin, Dispatched, ShowsEnd, GEXIT, Gives, GplState, GromState, GSTEP, GSTOP, HoldsRegister, is_end}
+use Rattle.sim_rows.specs.Prelude.{bound, ReachesWithin, Dispatched, ShowsEnd, GEXIT, Gives, GplState, GromState, GSTEP, GSTOP, HoldsRegister, is_turn_end}
 use Rattle.sim_rows.specs.Prelude.{IsFetched, IsHalted, MachineState, Matches, Memory, next_in_grom, number_of, PortsAreIdle}
 use Rattle.sim_rows.specs.Prelude.{from_dispatch, previous_in_grom, Reaches, Reason, Runs, shown_by, ShowsState, Stands, StandsBy, state_at_dispatch, state_of, whole_turn}
 use Rattle.sim_rows.specs.Prelude.{step, StoppedBy, Turn, Turned, TurnedBy, VdpState, View, view, view_of}
@@ -94,16 +94,16 @@ stops s reason y other stands h = record {
 -- ---- turns
 
 -- a run from elsewhere to an end has an instruction
-operand_list : (count : ℕ) (x y : MachineState) → Runs count x y → is_end x.cpu.pc ≡ false → is_end y.cpu.pc ≡ true → 0 < count
-operand_list zero x y r a b = absurd (not_both (is_end x.cpu.pc) (ap (λ (z : MachineState). is_end z.cpu.pc) (given x y r.leads) ∙ b) a)
+operand_list : (count : ℕ) (x y : MachineState) → Runs count x y → is_turn_end x.cpu.pc ≡ false → is_turn_end y.cpu.pc ≡ true → 0 < count
+operand_list zero x y r a b = absurd (not_both (is_turn_end x.cpu.pc) (ap (λ (z : MachineState). is_turn_end z.cpu.pc) (given x y r.leads) ∙ b) a)
 operand_list (suc count) x y r a b = omega arith
 
 -- what is come to from a dispatch
 pub reaches : {x y : MachineState} {before after most to : ℕ} {Q : View → Type 0} (led bound : ℕ) → ReachesWithin most x y before after to Q →
-    is_end x.cpu.pc ≡ false → is_end to ≡ true → led + most ≤ bound → Reaches bound x y (record { led = led; before = before; after = after })
+    is_turn_end x.cpu.pc ≡ false → is_turn_end to ≡ true → led + most ≤ bound → Reaches bound x y (record { led = led; before = before; after = after })
 reaches {x = x} {y = y} led bound c start end fits =
     let w = c.within in
-    let there = ap is_end c.stands.pc ∙ end in
+    let there = ap is_turn_end c.stands.pc ∙ end in
     record {
       count = c.count;
       within = omega arith;
@@ -113,7 +113,7 @@ reaches {x = x} {y = y} led bound c start end fits =
 
 -- the beginning of a step before a turn from its dispatch
 pub reaches_from : {x y z : MachineState} {before middle after to bound : ℕ} {Q : View → Type 0} → ReachesWithin most_to_dispatch x y before middle to Q →
-    Reaches bound y z (from_dispatch middle after) → is_end to ≡ false → Reaches bound x z (whole_turn before after)
+    Reaches bound y z (from_dispatch middle after) → is_turn_end to ≡ false → Reaches bound x z (whole_turn before after)
 reaches_from {x = x} {y = y} {z = z} c r start =
     let w = c.within in
     let a = c.counted in
@@ -124,17 +124,17 @@ reaches_from {x = x} {y = y} {z = z} c r start =
       count = c.count + r.count;
       within = omega arith;
       counted = omega arith;
-      turn = record { some = omega arith; runs = runs_then c.count r.count x y z c.runs r.turn.runs (ap is_end c.stands.pc ∙ start); there = r.turn.there };
+      turn = record { some = omega arith; runs = runs_then c.count r.count x y z c.runs r.turn.runs (ap is_turn_end c.stands.pc ∙ start); there = r.turn.there };
     }
 
 from_by : {x y : MachineState} {before middle to : ℕ} {Q : View → Type 0} (z : MachineState) (after : ℕ) (s : GplState) (r : Result GplState Reason)
-    (turn : Turn) → ReachesWithin most_to_dispatch x y before middle to Q → is_end to ≡ false →
+    (turn : Turn) → ReachesWithin most_to_dispatch x y before middle to Q → is_turn_end to ≡ false →
     TurnedBy r s y z (from_dispatch middle after) turn → TurnedBy r s x z (whole_turn before after) turn
 from_by z after s (Ok next) turn c e t = (t.0, reaches_from c t.1 e, t.2)
 from_by z after s (Err reason) turn c e t = (t.0, reaches_from c t.1 e, t.2)
 
 pub turned_from : {x y : MachineState} {before middle to : ℕ} {Q : View → Type 0} (z : MachineState) (after : ℕ) (s : GplState) (turn : Turn) →
-    ReachesWithin most_to_dispatch x y before middle to Q → is_end to ≡ false →
+    ReachesWithin most_to_dispatch x y before middle to Q → is_turn_end to ≡ false →
     Turned s y z (from_dispatch middle after) turn → Turned s x z (whole_turn before after) turn
 turned_from z after s turn c e t = from_by z after s (step s) turn c e t
 

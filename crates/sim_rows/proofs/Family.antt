@@ -1,7 +1,7 @@
 -- A row of a family, from its dispatch to the end of the step: the same for every family.
 use Rattle.std.proofs.Common.{ℕ, ◌<◌, ◌∙◌, ◌≡◌, ◌≤◌, ap, arith, Bool, Err, false, None, Option, refl, Some, subst, sym, true}
 use Rattle.sim_view.proofs.Common.{is_view}
-use Rattle.sim_rows.specs.Prelude.{AtDispatch, AtEntry, bytes_by, Cell, code_byte, GplOperation, GplState, HasStarted, is_end, is_row, IsVisible}
+use Rattle.sim_rows.specs.Prelude.{AtDispatch, AtEntry, bytes_by, Cell, code_byte, GplOperation, GplState, HasStarted, is_turn_end, is_row, IsVisible}
 use Rattle.sim_rows.specs.Prelude.{MachineState, next_of, operation_entry, operation_in, row_entry, row_result, row_width, RunsRow, size_of}
 use Rattle.sim_rows.specs.Prelude.{from_dispatch, state_at_dispatch, Stepped, Stopped, Turn, Turned, TurnsRow, view, Width, width_in}
 use Rattle.sim_view.specs.gpl_step_defs.declared.reason.Reason.{Reason}
@@ -18,8 +18,8 @@ use Rattle.sim_view.specs.gpl_defs.declared.instruction.GplOperation.TheVariants
 
 -- They begin at none of the three ends, and the destination takes the bytes of a value at least.
 record OfRow (op : GplOperation) : Type 0 where
-  starts : is_end (operation_entry (Some op)) ≡ false
-  goes : is_end (row_entry (Some op)) ≡ false
+  starts : is_turn_end (operation_entry (Some op)) ≡ false
+  goes : is_turn_end (row_entry (Some op)) ≡ false
   bytes : (w : Width) → size_of w ≤ bytes_by (Some op) w
 
 of_row : (op : GplOperation) → is_row (Some op) ≡ true → OfRow op
@@ -29,7 +29,7 @@ of_row (operation.Two two.ADD) e = record { starts = refl; goes = refl; bytes = 
 of_row (operation.Two _) e = record { starts = refl; goes = refl; bytes = λ w. omega arith }
 of_row _ e = absurd (cc)
 
-pub starts_row : (o : Option GplOperation) → is_row o ≡ true → is_end (operation_entry o) ≡ false
+pub starts_row : (o : Option GplOperation) → is_row o ≡ true → is_turn_end (operation_entry o) ≡ false
 starts_row (Some op) e = (of_row op e).starts
 starts_row None e = absurd (cc)
 
@@ -46,8 +46,8 @@ module _ {belongs : Option GplOperation → Bool} (rows : (o : Option GplOperati
   pub row : is_row (operation_in s) ≡ true
   row = rows (operation_in s) at.family
 
-  pub start : is_end x.cpu.pc ≡ false
-  start = ap is_end at.stands.pc ∙ starts_row (operation_in s) row
+  pub start : is_turn_end x.cpu.pc ≡ false
+  start = ap is_turn_end at.stands.pc ∙ starts_row (operation_in s) row
 
   pub at_row : AtDispatch is_row x
   at_row = record { stands = at.stands; dispatched = at.dispatched; family = row }

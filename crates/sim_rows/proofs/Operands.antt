@@ -4,7 +4,7 @@ use Rattle.std.proofs.Common.{refl, slice_index, Some, subst, sym, true}
 use Rattle.std.proofs.lemmas.Bool.Decides.{nat_tests}
 use Rattle.sim_view.proofs.Common.{comes_as, comes_on, comes_then, goes_in, pick}
 use Rattle.sim_rows.specs.Prelude.{ADDR, Addressed, OperandStop, behind_first, Byte, byte_in, code_byte, ReachesWithin, Cpu, destination_bytes, even, Exits, GO}
-use Rattle.sim_rows.specs.Prelude.{GplState, GSTOP, Holds, in_register, INTERP, is_end, is_row, IsVisible, join, Kept, last_out, LOAD, Loaded, LoadsFrom}
+use Rattle.sim_rows.specs.Prelude.{GplState, GSTOP, Holds, in_register, INTERP, is_turn_end, is_row, IsVisible, join, Kept, last_out, LOAD, Loaded, LoadsFrom}
 use Rattle.sim_rows.specs.Prelude.{LoadsFromSource, LoadsValue, MachineState, number_of_space, operation_in, OPVAL, Place, place_in, Placed, plus, Reason}
 use Rattle.sim_rows.specs.Prelude.{reads_destination, return_of, row_entry, row_width, shifted, size_of, Source, Sourced, Space, SRL, state_of, StoppedBy}
 use Rattle.sim_rows.specs.Prelude.{StoresTo, unit, value_at, Vdp, View, view, Width, width_in, Word, word_of, word_or_byte}
@@ -107,7 +107,7 @@ module _ (s : GplState) (place : Place) where
 
   module _ {x y : MachineState} {t u : ℕ} where
     -- its place was found
-    module _ {label : ℕ} (c : ReachesWithin 44 x y t u label (Located s bytes place next)) (goes : is_end label ≡ false) where
+    module _ {label : ℕ} (c : ReachesWithin 44 x y t u label (Located s bytes place next)) (goes : is_turn_end label ≡ false) where
       -- ST does not load it
       pub stored : (z : MachineState) (w : ℕ) → bytes ≡ size_of (row_width s) → reads_destination (operation_in s) ≡ false →
           Exits y z u w (pieces.keep_stored (view y)) → ReachesWithin 65 x z t w OPSTWO (Kept s place next)
@@ -142,7 +142,7 @@ module _ (s : GplState) (place : Place) where
           }) goes
 
     -- its value was loaded
-    module _ {label r9 : ℕ} (c : ReachesWithin 62 x y t u label (LoadedFrom s bytes place place next r9)) (goes : is_end label ≡ false) where
+    module _ {label r9 : ℕ} (c : ReachesWithin 62 x y t u label (LoadedFrom s bytes place place next r9)) (goes : is_turn_end label ≡ false) where
       abbrev v : View
       v = view y
 

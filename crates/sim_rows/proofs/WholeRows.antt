@@ -2,7 +2,7 @@
 use Rattle.std.proofs.Common.{ℕ, ◌+◌, ◌<◌, ◌∙◌, ◌≡◌, ◌≤◌, ap, arith, Bool, Err, false, None, Ok, Option, refl, Result, Some, subst, sym, true}
 use Rattle.sim_view.proofs.Common.{comes_on}
 use Rattle.sim_rows.specs.Prelude.{◌>>=◌, AtRow, behind_code, bound, Cell, ShowsChanges, Changes, code_byte, ReachesWithin, destination_bytes, finished, first_of, gone_on}
-use Rattle.sim_rows.specs.Prelude.{GplOperation, GplSource, GplState, GSTEP, GSTOP, has_source, is_end, is_row, MachineState, number_of_space, operand_at}
+use Rattle.sim_rows.specs.Prelude.{GplOperation, GplSource, GplState, GSTEP, GSTOP, has_source, is_turn_end, is_row, MachineState, number_of_space, operand_at}
 use Rattle.sim_rows.specs.Prelude.{operands_of, operation_in, Place, place_of, Reason, result_of, row_entry, row_result, row_width, RunsRow, second_by}
 use Rattle.sim_rows.specs.Prelude.{from_dispatch, second_of, SeesResult, size_of, Source, source_of, source_read, StartsRow, step, Stepped, Stopped, StoppedBy, Turn, Turned}
 use Rattle.sim_rows.specs.Prelude.{TurnsBy, TurnsRow, unchanged, value_at, View, Width}
@@ -126,7 +126,7 @@ bound_row s next (operation.One op) e row is = bound_made s next (Some (operatio
 bound_row s next (operation.Two op) e row is = bound_made s next (Some (operation.Two op)) e is
 bound_row s next _ e row is = absurd (cc)
 
-module _ (s : GplState) (x : MachineState) (t : ℕ) (fits : code_byte s < 256) (start : is_end x.cpu.pc ≡ false) (row : is_row (operation_in s) ≡ true) where
+module _ (s : GplState) (x : MachineState) (t : ℕ) (fits : code_byte s < 256) (start : is_turn_end x.cpu.pc ≡ false) (row : is_row (operation_in s) ≡ true) where
   -- the operands are there, and the operation is told
   pub record Started (op : GplOperation) (y : MachineState) (u : ℕ) : Type 0 where
     pub place : Place
@@ -207,11 +207,11 @@ module _ (s : GplState) (x : MachineState) (t : ℕ) (fits : code_byte s < 256) 
 
   ends_as : (op : GplOperation) (y z : MachineState) (u v most : ℕ) (place : Place) (source : Source) (turn : Turn) →
       ReachesWithin most_to_row x y t u (row_entry (Some op)) (AtRow s place source) →
-      is_end (row_entry (Some op)) ≡ false → (r : Result Changes Reason) → TurnsBy most s y z u v turn r → TurnsBy (127 + most) s x z t v turn r
+      is_turn_end (row_entry (Some op)) ≡ false → (r : Result Changes Reason) → TurnsBy most s y z u v turn r → TurnsBy (127 + most) s x z t v turn r
   ends_as op y z u v most place source turn c entry (Ok d) h = (h.0, comes_on 127 most c h.1 entry)
   ends_as op y z u v most place source turn c entry (Err reason) h = (h.0, comes_on 127 most c h.1 entry)
 
-  pub turned_or_stopped : (op : GplOperation) (y z : MachineState) (u v most : ℕ) (turn : Turn) (b : Started op y u) → is_end (row_entry (Some op)) ≡ false →
+  pub turned_or_stopped : (op : GplOperation) (y z : MachineState) (u v most : ℕ) (turn : Turn) (b : Started op y u) → is_turn_end (row_entry (Some op)) ≡ false →
       ((reason : Reason) → row_result op s b.place b.source ≡ Err reason → reason ≡ Exit → ⊥) → TurnsRow op most y z u v turn → most ≤ 220 →
       Turned s x z (from_dispatch t v) turn
   turned_or_stopped op y z u v most turn b entry other r le =
@@ -219,7 +219,7 @@ module _ (s : GplState) (x : MachineState) (t : ℕ) (fits : code_byte s < 256) 
       (ends_as op y z u v most b.place b.source turn b.comes entry (row_result op s b.place b.source)
       (r s b.place b.source b.is_operation b.comes.holds b.is_both))
 
-  pub turned_row : (op : GplOperation) (y z : MachineState) (u v most : ℕ) (b : Started op y u) → is_end (row_entry (Some op)) ≡ false →
+  pub turned_row : (op : GplOperation) (y z : MachineState) (u v most : ℕ) (b : Started op y u) → is_turn_end (row_entry (Some op)) ≡ false →
       RunsRow op most y z u v → most ≤ 260 → Turned s x z (from_dispatch t v) Stepped
   turned_row op y z u v most b entry r le =
       made z v (127 + most) b.place b.source op b.is_operation b.is_both (omega arith) (row_result op s b.place b.source) refl

@@ -21,7 +21,7 @@ pub use Rattle.sim_view.specs.Prelude.{GplState, GREATER_BIT, grom_address_read,
 pub use Rattle.sim_view.specs.Prelude.{GromIndexedToMemory, GromState, GromToMemory, GromToRegisters, grown_by, GSTEP}
 pub use Rattle.sim_view.specs.Prelude.{GSTOP, GT, H, has_quotient, high, HIGHER_BIT, HoldsBytes, HoldsEntry}
 pub use Rattle.sim_view.specs.Prelude.{HoldsRegister, in_grom_of, INC, INCT, INCTV, INDEX, index_by}
-pub use Rattle.sim_view.specs.Prelude.{indexed, INTERP, INV, INVV, is_end, is_grom_idle, is_set, is_taken}
+pub use Rattle.sim_view.specs.Prelude.{indexed, INTERP, INV, INVV, is_turn_end, is_grom_idle, is_set, is_taken}
 pub use Rattle.sim_view.specs.Prelude.{is_vdp_idle, is_visible, IsBoot, IsFetched, IsHalted, IsMachine, IsMatching}
 pub use Rattle.sim_view.specs.Prelude.{IsMemory, IsNewVdp, IsStatus, IsTurn, join, Jump, jump, last_out, LDATA}
 pub use Rattle.sim_view.specs.Prelude.{Length, length_at, length_of, listed, LOAD, low, MachineState, Matches, Memory}

@@ -1,7 +1,7 @@
 -- The pieces of a shift, one after the other, to the end of the step.
 use Rattle.std.proofs.Common.{ℕ, ◌<◌, ◌∙◌, ◌≡◌, ◌≤◌, ap, arith, Bool, eqb, false, not, refl, Some, subst, sym, true}
 use Rattle.std.proofs.lemmas.Bool.{eqb-true}
-use Rattle.sim_rows.proofs.Common.{AtRow, Changes, ReachesWithin, comes, comes_as, comes_on, comes_then, COUNT, count_of, even, Exits, gone_on, GplState, GSTEP, is_end}
+use Rattle.sim_rows.proofs.Common.{AtRow, Changes, ReachesWithin, comes, comes_as, comes_on, comes_then, COUNT, count_of, even, Exits, gone_on, GplState, GSTEP, is_turn_end}
 use Rattle.sim_rows.proofs.Common.{is_view, IsMachine, MachineState, operation_in, Place, return_of, row_result, row_width, SeesFinished, SeesResult, ShiftOp}
 use Rattle.sim_rows.proofs.Common.{SLA, Source, SRA, SRC, SRL, Stands, STO, StoresResult, Storing, Two, unchanged, value_at, View, view}
 use Rattle.sim_shift.specs.Pieces.{low_four}
@@ -18,7 +18,7 @@ not_true : (b : Bool) → not b ≡ true → b ≡ false
 not_true true e = absurd (cc)
 not_true false e = refl
 
-entry_goes_on : (op : ShiftOp) → is_end (shift_entry op) ≡ false
+entry_goes_on : (op : ShiftOp) → is_turn_end (shift_entry op) ≡ false
 entry_goes_on SRA = refl
 entry_goes_on SRL = refl
 entry_goes_on SLA = refl

@@ -4,7 +4,7 @@ use Rattle.std.proofs.Common.{refl, Result, slice_index, slice_set, Some, subst,
 use Rattle.std.proofs.lemmas.Bool.{agree_below_at}
 use Rattle.sim_rows.proofs.Common.{◌>>=◌, at_most, back_is, behind_code, bound, bound_made, CALL, CALLN, CALLS, ShowsChanges, Changes, ReachesWithin, comes, comes_on}
 use Rattle.sim_rows.proofs.Common.{comes_then, Dispatched, EndsRow, Exit, exit, Exits, finished, first_way, from, GOCALL, Goes, goes_in, GplOperation, GplState}
-use Rattle.sim_rows.proofs.Common.{grom_at, GromState, grown_by, GSTOP, high, idle_told, is_end, is_view, join, Jump, just, known, lost, low, MachineState}
+use Rattle.sim_rows.proofs.Common.{grom_at, GromState, grown_by, GSTOP, high, idle_told, is_turn_end, is_view, join, Jump, just, known, lost, low, MachineState}
 use Rattle.sim_rows.proofs.Common.{marked_by, matches, most_to_dispatch, next_in_grom, on_stack, operation_in, past, plus, PortsAreIdle, reaches, Reason}
 use Rattle.sim_rows.proofs.Common.{from_dispatch, second_way, set_is, shifted, SHOW, SLA, Stack, Stands, step, step_jump, Stepped, Stopped, StoppedBy, sum_of, Turned}
 use Rattle.sim_rows.proofs.Common.{turned_by, View, view, Word, word_at as word_in_grom}
@@ -98,8 +98,8 @@ module _ (s : GplState) {x a : MachineState} {t t1 : ℕ} (stands : Stands x GOC
   small : top_in s < 256
   small = grown_small (slice_index s.cells 0x73)
 
-  start : is_end x.cpu.pc ≡ false
-  start = ap is_end stands.pc
+  start : is_turn_end x.cpu.pc ≡ false
+  start = ap is_turn_end stands.pc
 
   pub stopped : a.cpu.pc ≡ GSTOP → Turned s x a (from_dispatch t t1) (Stopped Stack)
   stopped here =

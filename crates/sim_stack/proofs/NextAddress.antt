@@ -1,6 +1,6 @@
 -- The address of the next byte is found, and GROM is set to it again.
 use Rattle.std.proofs.Common.{ℕ, ◌<◌, ◌∙◌, ◌≡◌, ap, arith, false, List, refl, subst}
-use Rattle.sim_rows.proofs.Common.{ReachesWithin, comes, comes_then, even, Exits, FETCHP, FETCHS, from, Goes, goes_in, grom_at, GromState, is_end, just, located_at}
+use Rattle.sim_rows.proofs.Common.{ReachesWithin, comes, comes_then, even, Exits, FETCHP, FETCHS, from, Goes, goes_in, grom_at, GromState, is_turn_end, just, located_at}
 use Rattle.sim_rows.proofs.Common.{lost, MachineState, next_in_grom, SEEK, set_is, Stands, View, view, where_found}
 use Rattle.sim_stack.specs.Stacks.{Located, Locates, SetAside, SetsAside}
 use Rattle.sim_rows.specs.sim_operands.Pieces as operands
@@ -24,7 +24,7 @@ found : (x a : MachineState) (t u link : ℕ) (image : List ℕ) (at : ℕ) → 
 found x a t u link image at is e h fits grom =
     let g = where_found (view x) image at grom fits in comes h (record { within = g.within; to_is = g.to_is ∙ ap even e ∙ is; holds = g.holds })
 
-module _ {x a : MachineState} (b y : MachineState) {t t1 : ℕ} (t2 t3 link : ℕ) (is : even link ≡ link) (goes : is_end link ≡ false)
+module _ {x a : MachineState} (b y : MachineState) {t t1 : ℕ} (t2 t3 link : ℕ) (is : even link ≡ link) (goes : is_turn_end link ≡ false)
     (e : (view x).r.r11 ≡ link) (e1 : Exits x a t t1 (rows.where_next (view x))) where
   pub locates : Exits a b t1 t2 (pieces.keep_stacked_next (view a)) → Exits b y t2 t3 (operands.seek (view b)) → Locates x y t t3
   locates e2 e3 image at fits grom =

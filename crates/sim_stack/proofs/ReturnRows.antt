@@ -3,7 +3,7 @@ use Rattle.std.proofs.Common.{ℕ, ◌<◌, ◌==◌, ◌∙◌, ◌≡◌, ap, 
 use Rattle.std.proofs.Common.{slice_index, slice_set, Some, subst, sym, true}
 use Rattle.std.proofs.lemmas.Bool.{agree_below_at, eqb-true}
 use Rattle.sim_rows.proofs.Common.{◌>>=◌, behind_code, bound, bound_made, code_byte, code_fits, ReachesWithin, comes, comes_as, comes_on, difference_of}
-use Rattle.sim_rows.proofs.Common.{Dispatched, Exit, exit, Exits, finished, first_way, GORTN, GOTO, GplOperation, GplState, GSTEP, GSTOP, if_true, is_end}
+use Rattle.sim_rows.proofs.Common.{Dispatched, Exit, exit, Exits, finished, first_way, GORTN, GOTO, GplOperation, GplState, GSTEP, GSTOP, if_true, is_turn_end}
 use Rattle.sim_rows.proofs.Common.{is_view, join, low, MachineState, matches, most_to_dispatch, on_stack, operation_at, operation_in, Plain, reaches, Reason}
 use Rattle.sim_rows.proofs.Common.{from_dispatch, RTN, RTNC, second_way, SeesFinished, ShowsState, Stack, Stands, step, step_plain, Stepped, Stopped, StoppedBy, TAKE, Turned}
 use Rattle.sim_rows.proofs.Common.{turned_by, View, view, Word, word_in}
@@ -114,8 +114,8 @@ module _ (s : GplState) {x a : MachineState} {t u : ℕ} (stands : Stands x GORT
       offset_above (slice_index v.cells 0x73) (low v.r.r2) ((is_view x stands.machine).cells 0x73) (omega arith)
       ∙ ap (λ (l : List ℕ). slice_index l 0x73) d.sees.cells
 
-  start : is_end x.cpu.pc ≡ false
-  start = ap is_end stands.pc
+  start : is_turn_end x.cpu.pc ≡ false
+  start = ap is_turn_end stands.pc
 
   goes_elsewhere : gone.to ≡ GSTOP → ⊥
   goes_elsewhere = by (v.r.r0 == 0)

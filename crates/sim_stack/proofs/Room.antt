@@ -2,7 +2,7 @@
 use Rattle.std.proofs.Common.{ℕ, ◌+◌, ◌<◌, ◌∙◌, ◌≡◌, ◌≤◌, ap, arith, Bool, Err, false, if◌then◌else◌, nat_le, nat_lt, Ok, refl, Result, slice_index}
 use Rattle.std.proofs.Common.{true}
 use Rattle.std.proofs.lemmas.Bool.{le-leb, lt-leb, ltb-false, ltb-true}
-use Rattle.sim_rows.proofs.Common.{bound, bound_stop, ReachesWithin, difference_of, GplState, grown_by, GSTOP, high, is_end, join, low, MachineState, most_to_dispatch}
+use Rattle.sim_rows.proofs.Common.{bound, bound_stop, ReachesWithin, difference_of, GplState, grown_by, GSTOP, high, is_turn_end, join, low, MachineState, most_to_dispatch}
 use Rattle.sim_rows.proofs.Common.{from_dispatch, on_stack, place_in, plus, reaches, Reason, Stack, step, Stopped, StoppedBy, stops, sum_of, Turned, turned_by, value_at, Word}
 use Rattle.sim_rows.specs.gpl_step_defs.Place.{word_at}
 use Rattle.sim_stack.specs.Pieces.{offset_of}
@@ -69,7 +69,7 @@ stack_alone bytes top = by (nat_le (top + bytes) 0xC2)
 
 -- ---- the stop
 
-pub stop_turned : (s : GplState) (x a : MachineState) (t u most : ℕ) → is_end x.cpu.pc ≡ false → step s ≡ Err Stack →
+pub stop_turned : (s : GplState) (x a : MachineState) (t u most : ℕ) → is_turn_end x.cpu.pc ≡ false → step s ≡ Err Stack →
     ReachesWithin most x a t u GSTOP (StoppedBy s Stack) → most ≤ 371 →
     Turned s x a (from_dispatch t u) (Stopped Stack)
 stop_turned s x a t u most start is c le =

@@ -1,11 +1,11 @@
 -- The operations of the families.
 use Rattle.std.proofs.Common.{◌≡◌, false, None, Option, refl, Some}
-use Rattle.sim_rows.proofs.Common.{ALL, B, BACK, CALL, CARRY, EXIT, GplOperation, GT, H, is_end, operation_entry, OVF, RAND, RTN, RTNC}
+use Rattle.sim_rows.proofs.Common.{ALL, B, BACK, CALL, CARRY, EXIT, GplOperation, GT, H, is_turn_end, operation_entry, OVF, RAND, RTN, RTNC}
 use Rattle.sim_rows.proofs.Family.{starts_row}
 use Rattle.sim_rows.specs.gpl_defs.declared.instruction.GplOperation.TheVariants as operation
 
 -- no entry is an end
-pub enters : (o : Option GplOperation) → is_end (operation_entry o) ≡ false
+pub enters : (o : Option GplOperation) → is_turn_end (operation_entry o) ≡ false
 enters (Some (operation.Plain RTN)) = refl
 enters (Some (operation.Plain RTNC)) = refl
 enters (Some (operation.Plain H)) = refl

@@ -13,13 +13,14 @@ use Rattle.tms_defs.specs.Accesses.{Answer, Gives, ◌>>=◌}
 use Rattle.tms_defs.specs.Operand.{Cpu, register_in}
 use Rattle.console_defs.specs.Memory.{Memory, IsMemory, Scratchpad, region, word_read}
 use Rattle.interp_defs.specs.Interpreter.{HoldsInterpreter}
-use Rattle.sim_view.specs.View.{View, listed, relisted, words_of, view_of, view, Stands}
+use Rattle.sim_view.specs.View.{View, listed, relisted, view_of, view, Stands}
 use Rattle.sim_view.specs.Running.{Ran, RunsPiece, ran}
 use Rattle.sim_view.proofs.Answers.{given, given_by}
 use Rattle.sim_view.proofs.Lists.{double_suc, listed-relisted, spell-words, length-words, words-spell}
 use Rattle.sim_view.proofs.Seen.{spell, seen_run}
 use Rattle.sim_view.proofs.Simulates.{Shows}
 use Rattle.sim_view.proofs.ViewRuns.{machine, followed}
+use Rattle.tms_defs.specs.Words.{words_of_bytes}
 
 -- The state in which a piece begins.
 abbrev pub at : View → Status → ℕ → Cpu View
@@ -39,15 +40,15 @@ shows_view m h code =
     let l = h.scratchpad.size in
     let bytes : List ℕ = drop 194 m.scratchpad in
     let n : length bytes ≡ 62 = omega (arith, length-drop 194 m.scratchpad) in
-    let w : length (words_of bytes) ≡ 31 = length-words 31 bytes n in
+    let w : length (words_of_bytes bytes) ≡ 31 = length-words 31 bytes n in
     let s = spell-words 31 bytes n (λ i. rw (get_or-drop 194 m.scratchpad i 0) (h.scratchpad.fits (194 + i))) in
-    let d : length (drop 15 (words_of bytes)) ≡ 16 = omega (arith, length-drop 15 (words_of bytes)) in
+    let d : length (drop 15 (words_of_bytes bytes)) ≡ 16 = omega (arith, length-drop 15 (words_of_bytes bytes)) in
     record {
       pad = sym (take-append-drop 194 m.scratchpad) ∙ ap (λ (b : List ℕ). take 194 m.scratchpad ++ b)
-          (sym s ∙ ap spell (sym (take-append-drop 15 (words_of bytes)) ∙ ap (λ (b : List ℕ). take 15 (words_of bytes) ++ b)
-          (sym (listed-relisted (drop 15 (words_of bytes)) d))));
+          (sym s ∙ ap spell (sym (take-append-drop 15 (words_of_bytes bytes)) ∙ ap (λ (b : List ℕ). take 15 (words_of_bytes bytes) ++ b)
+          (sym (listed-relisted (drop 15 (words_of_bytes bytes)) d))));
       cells = omega (arith, length-take 194 m.scratchpad);
-      spare = omega (arith, length-take 15 (words_of bytes));
+      spare = omega (arith, length-take 15 (words_of_bytes bytes));
       low_part = refl;
       high_part = refl;
       rom = refl;
@@ -66,10 +67,10 @@ view_shows m v h =
     let c = h.cells in
     let e : drop 194 m.scratchpad ≡ spell ws = rw h.pad (drop_at v.cells (spell ws) 194 c) in
     let f : take 194 m.scratchpad ≡ v.cells = rw h.pad (take_at v.cells (spell ws) 194 c) in
-    let g : words_of (drop 194 m.scratchpad) ≡ ws = ap words_of e ∙ words-spell ws in
-    let j : take 15 (words_of (drop 194 m.scratchpad)) ≡ v.spare = rw g (take_at v.spare (listed v.r) 15 h.spare) in
-    let k : drop 15 (words_of (drop 194 m.scratchpad)) ≡ listed v.r = rw g (drop_at v.spare (listed v.r) 15 h.spare) in
-    let b : view_of m ≡ made_of (take 194 m.scratchpad) (take 15 (words_of (drop 194 m.scratchpad))) (drop 15 (words_of (drop 194 m.scratchpad)))
+    let g : words_of_bytes (drop 194 m.scratchpad) ≡ ws = ap words_of_bytes e ∙ words-spell ws in
+    let j : take 15 (words_of_bytes (drop 194 m.scratchpad)) ≡ v.spare = rw g (take_at v.spare (listed v.r) 15 h.spare) in
+    let k : drop 15 (words_of_bytes (drop 194 m.scratchpad)) ≡ listed v.r = rw g (drop_at v.spare (listed v.r) 15 h.spare) in
+    let b : view_of m ≡ made_of (take 194 m.scratchpad) (take 15 (words_of_bytes (drop 194 m.scratchpad))) (drop 15 (words_of_bytes (drop 194 m.scratchpad)))
     m.low_expansion m.high_expansion m.rom m.vdp m.grom = refl in
     b ∙ rw (f, j, k, h.low_part, h.high_part, h.rom, h.vdp, h.grom) refl
 
@@ -116,14 +117,14 @@ cells_of m h i =
     ⊎_elim (λ (l : i < 194). rw (get_or-take 194 m.scratchpad i 0 l) (h.scratchpad.fits i)) (λ (g : 194 ≤ i). let n : length (take 194 m.scratchpad) ≤ i =
     omega (arith, length-take 194 m.scratchpad) in rw (get_or_past (take 194 m.scratchpad) i 0 n) (lit< tt)) (cases_lt i 194)
 
-words_fit : (bs : List ℕ) (k : ℕ) → ((i : ℕ) → get_or bs i 0 < 256) → get_or (words_of bs) k 0 < 65536
+words_fit : (bs : List ℕ) (k : ℕ) → ((i : ℕ) → get_or bs i 0 < 256) → get_or (words_of_bytes bs) k 0 < 65536
 words_fit [] k h = lit< tt
 words_fit (b ∷ []) k h = lit< tt
 words_fit (b ∷ d ∷ bs) zero h = let p : b < 256 = h 0 in let q : d < 256 = h 1 in omega arith
 words_fit (b ∷ d ∷ bs) (suc k) h = words_fit bs k (λ i. h (suc (suc i)))
 
-word_fits : (m : Memory) (k : ℕ) → IsMemory m → get_or (drop 15 (words_of (drop 194 m.scratchpad))) k 0 < 65536
-word_fits m k h = rw (get_or-drop 15 (words_of (drop 194 m.scratchpad)) k 0) (words_fit (drop 194 m.scratchpad) (15 + k)
+word_fits : (m : Memory) (k : ℕ) → IsMemory m → get_or (drop 15 (words_of_bytes (drop 194 m.scratchpad))) k 0 < 65536
+word_fits m k h = rw (get_or-drop 15 (words_of_bytes (drop 194 m.scratchpad)) k 0) (words_fit (drop 194 m.scratchpad) (15 + k)
     (λ i. rw (get_or-drop 194 m.scratchpad i 0) (h.scratchpad.fits (194 + i))))
 
 -- each is a word
@@ -134,9 +135,9 @@ regs_of : (m : Memory) → IsMemory m → AreWords (listed (view_of m).r)
 unfolding view_of
 regs_of m h =
     let n : length (drop 194 m.scratchpad) ≡ 62 = let l = h.scratchpad.size in omega (arith, length-drop 194 m.scratchpad) in
-    let w : length (words_of (drop 194 m.scratchpad)) ≡ 31 = length-words 31 (drop 194 m.scratchpad) n in
-    let d : length (drop 15 (words_of (drop 194 m.scratchpad))) ≡ 16 = omega (arith, length-drop 15 (words_of (drop 194 m.scratchpad))) in
-    subst AreWords (sym (listed-relisted (drop 15 (words_of (drop 194 m.scratchpad))) d)) (λ k. word_fits m k h)
+    let w : length (words_of_bytes (drop 194 m.scratchpad)) ≡ 31 = length-words 31 (drop 194 m.scratchpad) n in
+    let d : length (drop 15 (words_of_bytes (drop 194 m.scratchpad))) ≡ 16 = omega (arith, length-drop 15 (words_of_bytes (drop 194 m.scratchpad))) in
+    subst AreWords (sym (listed-relisted (drop 15 (words_of_bytes (drop 194 m.scratchpad))) d)) (λ k. word_fits m k h)
 
 grom_of : (m : Memory) → IsMemory m → IsGrom (view_of m).grom
 unfolding view_of
@@ -164,7 +165,7 @@ is_view x h =
 
 -- ---- registers that the code reads
 
-words_at : (n : ℕ) (bs : List ℕ) (k : ℕ) → length bs ≡ 2 * n → k < n → get_or (words_of bs) k 0 ≡ join (get_or bs (2 * k) 0) (get_or bs (suc (2 * k)) 0)
+words_at : (n : ℕ) (bs : List ℕ) (k : ℕ) → length bs ≡ 2 * n → k < n → get_or (words_of_bytes bs) k 0 ≡ join (get_or bs (2 * k) 0) (get_or bs (suc (2 * k)) 0)
 words_at zero bs k q h = absurd (omega arith)
 words_at (suc n) [] k q h = absurd (omega arith)
 words_at (suc n) (b ∷ []) k q h = absurd (omega arith)
@@ -176,11 +177,11 @@ unfolding view_of
 reg_word m k h b =
     let bytes : List ℕ = drop 194 m.scratchpad in
     let n : length bytes ≡ 62 = let l = h.scratchpad.size in omega (arith, length-drop 194 m.scratchpad) in
-    let w : length (words_of bytes) ≡ 31 = length-words 31 bytes n in
-    let d : length (drop 15 (words_of bytes)) ≡ 16 = omega (arith, length-drop 15 (words_of bytes)) in
+    let w : length (words_of_bytes bytes) ≡ 31 = length-words 31 bytes n in
+    let d : length (drop 15 (words_of_bytes bytes)) ≡ 16 = omega (arith, length-drop 15 (words_of_bytes bytes)) in
     let e : 194 + 2 * (15 + k) ≡ 224 + 2 * k = omega arith in
     let f : 194 + suc (2 * (15 + k)) ≡ 224 + 2 * k + 1 = omega arith in
-    ap (λ (l : List ℕ). get_or l k 0) (listed-relisted (drop 15 (words_of bytes)) d) ∙ get_or-drop 15 (words_of bytes) k 0
+    ap (λ (l : List ℕ). get_or l k 0) (listed-relisted (drop 15 (words_of_bytes bytes)) d) ∙ get_or-drop 15 (words_of_bytes bytes) k 0
     ∙ words_at 31 bytes (15 + k) n (omega arith)
     ∙ rw (get_or-drop 194 m.scratchpad (2 * (15 + k)) 0, get_or-drop 194 m.scratchpad (suc (2 * (15 + k))) 0, e, f) refl
 

@@ -1,7 +1,7 @@
 -- One stretch after another.
 use Rattle.std.proofs.Common.{refl, ◌≡◌, ℕ, ◌+◌, ◌-◌, ◌<◌, ◌≤◌, false, sym, ap, subst, ◌∙◌, arith, ⊎_elim}
 use Rattle.std.proofs.lemmas.Bool.{cases_order}
-use Rattle.sim_view.specs.Prelude.{ReachesWithin, Exit, Exits, is_end, MachineState, Runs, Stands, steps, View, view}
+use Rattle.sim_view.specs.Prelude.{ReachesWithin, Exit, Exits, is_turn_end, MachineState, Runs, Stands, steps, View, view}
 use Rattle.tms_defs.specs.Accesses.{Answer, Gives, ◌>>=◌}
 use Rattle.console_defs.proofs.RunLaws.{steps-add}
 use Rattle.sim_view.proofs.Answers.{given, given_by}
@@ -14,16 +14,16 @@ at_step a i x y w e f =
     let g : Gives t.0 ≡ Gives y = sym t.1 ∙ e in
     subst (λ (u : MachineState). steps i u ≡ Gives w) (given t.0 y g) t.2
 
-pub runs_then : (a b : ℕ) (x y z : MachineState) → Runs a x y → Runs b y z → is_end y.cpu.pc ≡ false → Runs (a + b) x z
+pub runs_then : (a b : ℕ) (x y z : MachineState) → Runs a x y → Runs b y z → is_turn_end y.cpu.pc ≡ false → Runs (a + b) x z
 runs_then a b x y z r s e =
     let F : Answer MachineState → Answer MachineState = λ o. o >>= steps b in
     record { leads = steps-add a b x ∙ ap F r.leads ∙ s.leads; clear = clear_at }
   where
-    clear_at : (j : ℕ) → 0 < j → j < a + b → (w : MachineState) → steps j x ≡ Gives w → is_end w.cpu.pc ≡ false
+    clear_at : (j : ℕ) → 0 < j → j < a + b → (w : MachineState) → steps j x ≡ Gives w → is_turn_end w.cpu.pc ≡ false
     clear_at j p l w f =
         ⊎_elim
         (λ (h : j ≡ a). let g : Gives y ≡ Gives w = sym r.leads ∙ subst (λ (i : ℕ). steps i x ≡ Gives w) h f in
-        subst (λ (u : MachineState). is_end u.cpu.pc ≡ false) (given y w g) e)
+        subst (λ (u : MachineState). is_turn_end u.cpu.pc ≡ false) (given y w g) e)
         (λ h. ⊎_elim
         (λ (lt : j < a). r.clear j p lt w f)
         (λ (gt : a < j). let i = j - a in let d : j ≡ a + i = omega arith in s.clear i (omega arith) (omega arith) w
@@ -53,7 +53,7 @@ comes {y = y} {e = e} {Q = Q} x g = record {
 
 -- A stretch within bounds, and then another.
 pub comes_then : (a b : ℕ) {x y z : MachineState} {before middle after p q : ℕ} {e : Exit} {Q R : View → Type 0} → ReachesWithin a x y before middle p Q →
-    Exits y z middle after e → Goes e b q R → is_end p ≡ false → ReachesWithin (a + b) x z before after q R
+    Exits y z middle after e → Goes e b q R → is_turn_end p ≡ false → ReachesWithin (a + b) x z before after q R
 comes_then a b {x = x} {y = y} {z = z} {e = e} {R = R} c d g end =
     let u = c.counted in
     let v = d.counted in
@@ -63,7 +63,7 @@ comes_then a b {x = x} {y = y} {z = z} {e = e} {R = R} c d g end =
       count = c.count + e.count;
       within = omega arith;
       counted = omega arith;
-      runs = runs_then c.count e.count x y z c.runs d.runs (ap is_end c.stands.pc ∙ end);
+      runs = runs_then c.count e.count x y z c.runs d.runs (ap is_turn_end c.stands.pc ∙ end);
       holds = subst R (sym d.shows) g.holds;
       stands = subst (λ (p : ℕ). Stands z p) g.to_is d.stands;
     }
@@ -76,7 +76,7 @@ comes_as {y = y} more R c le f =
 
 -- The same for a stretch within bounds that was said of the view in the middle.
 pub comes_on : (a b : ℕ) {x y z : MachineState} {before middle after p q : ℕ} {Q R : View → Type 0} → ReachesWithin a x y before middle p Q →
-    ReachesWithin b y z middle after q R → is_end p ≡ false → ReachesWithin (a + b) x z before after q R
+    ReachesWithin b y z middle after q R → is_turn_end p ≡ false → ReachesWithin (a + b) x z before after q R
 comes_on a b {x = x} {y = y} {z = z} c d end =
     let u = c.counted in
     let v = d.counted in
@@ -86,7 +86,7 @@ comes_on a b {x = x} {y = y} {z = z} c d end =
       count = c.count + d.count;
       within = omega arith;
       counted = omega arith;
-      runs = runs_then c.count d.count x y z c.runs d.runs (ap is_end c.stands.pc ∙ end);
+      runs = runs_then c.count d.count x y z c.runs d.runs (ap is_turn_end c.stands.pc ∙ end);
       holds = d.holds;
       stands = d.stands;
     }

@@ -1,8 +1,8 @@
 -- Words and their bytes in lists.
 use Rattle.std.proofs.Common.{◌≡◌, ℕ, zero, suc, ◌*◌, ◌<◌, List, [], ◌∷◌, length, refl, ap, arith, get_or}
 use Rattle.std.proofs.Math.ListN.{set}
-use Rattle.tms_defs.specs.Words.{high, low, join}
-use Rattle.sim_view.specs.View.{listed, relisted, words_of}
+use Rattle.tms_defs.specs.Words.{high, low, join, words_of_bytes}
+use Rattle.sim_view.specs.View.{listed, relisted}
 use Rattle.sim_view.proofs.Seen.{spell}
 
 pub join-bytes : (w : ℕ) → join (high w) (low w) ≡ w
@@ -57,7 +57,7 @@ listed-relisted (a ∷ b ∷ c ∷ d ∷ e ∷ f ∷ g ∷ h ∷ i ∷ j ∷ k �
 listed-relisted l q = absurd (omega arith)
 
 -- bytes spelled and read again
-pub spell-words : (n : ℕ) (bs : List ℕ) → length bs ≡ 2 * n → ((i : ℕ) → get_or bs i 0 < 256) → spell (words_of bs) ≡ bs
+pub spell-words : (n : ℕ) (bs : List ℕ) → length bs ≡ 2 * n → ((i : ℕ) → get_or bs i 0 < 256) → spell (words_of_bytes bs) ≡ bs
 spell-words zero [] q h = refl
 spell-words zero (b ∷ bs) q h = absurd (omega arith)
 spell-words (suc n) [] q h = absurd (omega arith)
@@ -66,13 +66,13 @@ spell-words (suc n) (b ∷ d ∷ bs) q h =
     let low_byte : d < 256 = h 1 in let e : high (join b d) ≡ b = omega arith in let f : low (join b d) ≡ d = omega arith in
     rw (e, f, spell-words n bs (omega arith) (λ i. h (suc (suc i))))
 
-pub length-words : (n : ℕ) (bs : List ℕ) → length bs ≡ 2 * n → length (words_of bs) ≡ n
+pub length-words : (n : ℕ) (bs : List ℕ) → length bs ≡ 2 * n → length (words_of_bytes bs) ≡ n
 length-words zero [] q = refl
 length-words zero (b ∷ bs) q = absurd (omega arith)
 length-words (suc n) [] q = absurd (omega arith)
 length-words (suc n) (b ∷ []) q = absurd (omega arith)
 length-words (suc n) (b ∷ d ∷ bs) q = ap suc (length-words n bs (omega arith))
 
-pub words-spell : (ws : List ℕ) → words_of (spell ws) ≡ ws
+pub words-spell : (ws : List ℕ) → words_of_bytes (spell ws) ≡ ws
 words-spell [] = refl
 words-spell (w ∷ ws) = rw (join-bytes w, words-spell ws)

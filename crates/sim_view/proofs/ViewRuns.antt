@@ -1,7 +1,7 @@
 -- A run of the view is a run of the machine.
 use Rattle.std.proofs.Common.{◌≡◌, ℕ, zero, suc, ◌+◌, ◌<◌, List, Bool, true, false, refl, ap, subst, ◌∙◌, arith}
 use Rattle.std.specs.Prelude.{◌||◌}
-use Rattle.sim_view.specs.Prelude.{Answer, Gives, is_end, Memory, Runs, View}
+use Rattle.sim_view.specs.Prelude.{Answer, Gives, is_turn_end, Memory, Runs, View}
 use Rattle.count_defs.specs.Counts.{saturating_sum}
 use Rattle.tms_defs.specs.Operand.{Cpu}
 use Rattle.tms_defs.specs.Step.{execution}
@@ -48,11 +48,11 @@ not_end false false c e = refl
 one_run : (x y : MachineState) (word : ℕ) → machine_step x ≡ (Done word, y) → Runs 1 x y
 one_run x y word e = record { leads = rw e refl; clear = λ j p q. absurd (omega arith) }
 
-later : (k : ℕ) (x y z : MachineState) (word : ℕ) → 0 < k → machine_step x ≡ (Done word, y) → is_end y.cpu.pc ≡ false →
+later : (k : ℕ) (x y z : MachineState) (word : ℕ) → 0 < k → machine_step x ≡ (Done word, y) → is_turn_end y.cpu.pc ≡ false →
     Runs k y z → Runs (suc k) x z
 later k x y z word some e c r = record { leads = rw e r.leads; clear = clear_at }
   where
-    clear_at : (j : ℕ) → 0 < j → j < suc k → (u : MachineState) → steps j x ≡ Gives u → is_end u.cpu.pc ≡ false
+    clear_at : (j : ℕ) → 0 < j → j < suc k → (u : MachineState) → steps j x ≡ Gives u → is_turn_end u.cpu.pc ≡ false
     clear_at zero p q u f = absurd (omega arith)
     clear_at (suc zero) p q u f = let g : Gives y ≡ Gives u = rw e at f in rw (← (given y u g)) c
     clear_at (suc (suc i)) p q u f = r.clear (suc i) (omega arith) (omega arith) u (rw e at f)
@@ -101,7 +101,7 @@ more ends made most m y n z done s c f =
       ran = ran_again ends most done.0 (machine m y n) (machine s.memory done.1 (saturating_sum n 1))
           (record { count = f.count; left = machine f.memory z.1 f.raised_to }) s.step c f.ran;
       runs = later f.count (machine m y n) (machine s.memory done.1 (saturating_sum n 1)) (machine f.memory z.1 f.raised_to) done.0 f.some s.step
-          (not_end _ (is_end done.1.pc) _ c) f.runs;
+          (not_end _ (is_turn_end done.1.pc) _ c) f.runs;
       shows = f.shows;
     }
 

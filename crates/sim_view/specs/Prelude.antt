@@ -101,7 +101,7 @@ pub use Rattle.interp_defs.specs.Boot.{HoldsEntry, IsBoot}
 pub use Rattle.interp_defs.specs.Interpreter.{address_register, code_register, HoldsRegister, most_to_dispatch}
 pub use Rattle.interp_defs.specs.Match.{IsFetched, IsHalted, IsMatching, Matches, PortsAreIdle, shown_by, StandsBy}
 pub use Rattle.interp_defs.specs.Programs.{EndsAs, RunsSteps}
-pub use Rattle.interp_defs.specs.Runs.{is_end, Runs}
+pub use Rattle.interp_defs.specs.Runs.{is_turn_end, Runs}
 pub use Rattle.interp_defs.specs.Turned.{from_dispatch, Reaches, Turned, TurnedBy, whole_turn}
 pub use Rattle.interp_defs.specs.Turns.{Boots, IsTurn}
 pub use Rattle.interp_defs.specs.declared.turn.Turn.{Turn}

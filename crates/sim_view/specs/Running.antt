@@ -5,7 +5,7 @@ use Rattle.console_defs.specs.Machine.{MachineState, IsMachine, machine_step}
 use Rattle.tms_defs.specs.declared.step_end.StepEnd.{StepEnd}
 use Rattle.tms_defs.specs.declared.step_end.StepEnd.TheVariants.{Done, Refused, Port}
 use Rattle.tms_step.specs.Turns.{executed_by}
-use Rattle.interp_defs.specs.Runs.{is_end}
+use Rattle.interp_defs.specs.Runs.{is_turn_end}
 use Rattle.sim_view.specs.declared.run.TheConstants.{PIECE}
 
 -- B at the address in a register, which has this code. TMS9900 data manual, "Branch".
@@ -14,7 +14,7 @@ is_branch_by_register word = word / 16 == 0x045
 
 -- A piece ends with a branch by a register, at one of the interpreter's three ends, and at the ends of its own.
 abbrev pub ends_piece : List ℕ → ℕ → ℕ → Bool
-ends_piece ends word pc = is_branch_by_register word || (is_end pc || list_any (λ end. pc == end) ends)
+ends_piece ends word pc = is_branch_by_register word || (is_turn_end pc || list_any (λ end. pc == end) ends)
 
 -- The step is the last of a piece: it ends the piece, or executes no instruction.
 abbrev pub is_last : List ℕ → StepEnd → ℕ → Bool

@@ -1,6 +1,6 @@
 -- What the interpreter's author sees of a machine: sixteen registers, the cells, the words between them, and the ports.
 use Rattle.std.specs.Prelude.{◌≡◌, ℕ, List, [], ◌∷◌, take, drop, slice_index}
-use Rattle.tms_defs.specs.Words.{join}
+use Rattle.tms_defs.specs.Words.{words_of_bytes}
 use Rattle.console_defs.specs.Vdp.{VdpState}
 use Rattle.console_defs.specs.Grom.{GromState}
 use Rattle.console_defs.specs.Memory.{Memory}
@@ -65,18 +65,12 @@ pub record View : Type 0 where
   pub vdp : VdpState
   pub grom : GromState
 
--- the words of bytes, the high byte of each first
-abbrev pub words_of : List ℕ → List ℕ
-words_of [] = []
-words_of (more ∷ []) = []
-words_of (more ∷ less ∷ rest) = join more less ∷ words_of rest
-
 unfoldable pub view_of : Memory → View
 view_of m =
     record {
-      r = relisted (drop 15 (words_of (drop 194 m.scratchpad)));
+      r = relisted (drop 15 (words_of_bytes (drop 194 m.scratchpad)));
       cells = take 194 m.scratchpad;
-      spare = take 15 (words_of (drop 194 m.scratchpad));
+      spare = take 15 (words_of_bytes (drop 194 m.scratchpad));
       low_memory = m.low_expansion;
       high_memory = m.high_expansion;
       rom = m.rom;

@@ -65,7 +65,7 @@ fn ends_piece(ends: &[u16], word: u16, pc: u16) -> bool
 
 /// The address is one of the interpreter's three ends.
 fn is_end(pc: u16) -> bool
-    ensures { result ≡ runs.is_end pc }
+    ensures { result ≡ runs.is_turn_end pc }
 {
     matches!(pc, GSTEP | GSTOP | GEXIT)
 }

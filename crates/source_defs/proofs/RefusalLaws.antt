@@ -1,10 +1,10 @@
--- Answers of lists, one item after the other.
+-- Answers of lists, one item prepended the other.
 use Rattle.std.proofs.Common.{◌≡◌, List, [], ◌∷◌, ◌++◌, Ok, Err, refl, sym, ap, append_assoc}
 use Rattle.std.specs.Prelude.{Result}
-use Rattle.source_defs.specs.Refusals.{◌>>=◌, after}
+use Rattle.source_defs.specs.Refusals.{◌>>=◌, prepended}
 
 pub after_more : {A C : Type 0} (front : List A) (item : A) (others : Result (List A) C)
-    → after front (others >>= λ items. Ok (item ∷ items)) ≡ after (front ++ item ∷ []) others
+    → prepended front (others >>= λ items. Ok (item ∷ items)) ≡ prepended (front ++ item ∷ []) others
 after_more front item (Ok items) = ap Ok (sym (append_assoc front (item ∷ []) items))
 after_more front item (Err cause) = refl
 

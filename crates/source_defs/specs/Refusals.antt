@@ -29,6 +29,6 @@ at_line number (Ok value) = Ok value
 at_line number (Err cause) = Err (record { line = number; cause = cause })
 
 -- some items before others
-abbrev pub after : {A C : Type 0} → List A → Result (List A) C → Result (List A) C
-after front (Ok items) = Ok (front ++ items)
-after front (Err cause) = Err cause
+abbrev pub prepended : {A C : Type 0} → List A → Result (List A) C → Result (List A) C
+prepended front (Ok items) = Ok (front ++ items)
+prepended front (Err cause) = Err cause

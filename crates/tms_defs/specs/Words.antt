@@ -1,5 +1,5 @@
 -- Words of 16 bits, their bytes, and addresses.
-use Rattle.std.specs.Prelude.{ℕ, ◌+◌, ◌*◌, ◌/◌, ◌%◌}
+use Rattle.std.specs.Prelude.{ℕ, ◌+◌, ◌*◌, ◌/◌, ◌%◌, List, [], ◌∷◌}
 
 -- The more significant byte of a word; it stands at the word's even address.
 -- TMS9900 data manual, "Registers and memory".
@@ -24,3 +24,9 @@ even address = address / 2 * 2
 -- TMS9900 data manual, "Addressing modes".
 abbrev pub plus : ℕ → ℕ → ℕ
 plus a b = (a + b) % 65536
+
+-- Bytes as words, the high byte of each first; a last odd byte is no word.
+abbrev pub words_of_bytes : List ℕ → List ℕ
+words_of_bytes [] = []
+words_of_bytes (more ∷ []) = []
+words_of_bytes (more ∷ less ∷ rest) = join more less ∷ words_of_bytes rest

@@ -8,7 +8,7 @@ use Rattle.console_defs.specs.Memory.{Memory, console}
 use Rattle.tms_defs.specs.Operand.{Cpu}
 use Rattle.tms_defs.specs.Step.{step_end, execution, step}
 use Rattle.console_defs.specs.Machine.{MachineState, counted, machine_step}
-use Rattle.console_defs.specs.Runs.{is_reached, is_self_jump, end_of_step, after, self_jumped, end_before, end_at}
+use Rattle.console_defs.specs.Runs.{is_reached, is_self_jump, end_of_step, after_steps, self_jumped, end_before, end_at}
 use Rattle.console_defs.specs.Runs.{IsRun}
 use Rattle.tms_defs.specs.declared.step_end.StepEnd.{StepEnd}
 use Rattle.tms_defs.specs.declared.step_end.StepEnd.TheVariants.{Done, Refused, Port}
@@ -18,7 +18,7 @@ use Rattle.tms_step.specs.Turns.{executed_by, end_of_turn, end_at_limit}
 
 -- So many steps led from x to y, and nothing has ended the run.
 pub record Going (stop : Option ℕ) (limit made : ℕ) (x y : MachineState) : Type 0 where
-  pub left : y ≡ after made x
+  pub left : y ≡ after_steps made x
   pub first : (before : ℕ) → before < made → end_at stop limit before x ≡ None
   pub fresh : self_jumped made x ≡ false
 
@@ -36,7 +36,7 @@ by_jump jumped rest = if jumped then Some run.SelfJump else rest
 end_here : (stop : Option ℕ) (limit made : ℕ) (x y : MachineState) → Going stop limit made x y →
     end_at stop limit made x ≡ by_tests (is_reached stop y.cpu.pc) (eqb made limit) (end_of_step (machine_step y).0)
 end_here stop limit made x y going =
-    ap (λ (jumped : Bool). by_jump jumped (end_before stop limit made (after made x))) going.fresh
+    ap (λ (jumped : Bool). by_jump jumped (end_before stop limit made (after_steps made x))) going.fresh
     ∙ ap (λ (c : MachineState). end_before stop limit made c) (sym going.left)
 
 -- a test of two numbers
@@ -88,10 +88,10 @@ end_step stop limit made x y going lt reached =
     ∙ ap (λ (test : Bool). by_tests false test (end_of_step (machine_step y).0))
     (unequal made limit (eqb made limit) refl lt)
 
-after_more : (made : ℕ) (x y z : MachineState) → y ≡ after made x → z ≡ (machine_step y).1 → z ≡ after (made + 1) x
+after_more : (made : ℕ) (x y z : MachineState) → y ≡ after_steps made x → z ≡ (machine_step y).1 → z ≡ after_steps (made + 1) x
 after_more made x y z left stepped = rw (add-one) (stepped ∙ ap (λ (c : MachineState). (machine_step c).1) left)
 
-jumped_more : (made : ℕ) (x y : MachineState) (end : StepEnd) → y ≡ after made x → (machine_step y).0 ≡ end →
+jumped_more : (made : ℕ) (x y : MachineState) (end : StepEnd) → y ≡ after_steps made x → (machine_step y).0 ≡ end →
     self_jumped (made + 1) x ≡ is_self_jump end
 jumped_more made x y end left e =
     rw (add-one) (ap (λ (c : MachineState). is_self_jump (machine_step c).0) (sym left) ∙ ap is_self_jump e)
@@ -181,7 +181,7 @@ run_ended stop limit made x y z ending going lt reached ends stepped = by (machi
         let jump = jumps word ending (eqb word 0x10FF) some in
         record {
           ends =
-              ap (λ (test : Bool). by_jump test (end_before stop limit (made + 1) (after (made + 1) x))) (jumped_more made x y (Done word) going.left e ∙ jump.0)
+              ap (λ (test : Bool). by_jump test (end_before stop limit (made + 1) (after_steps (made + 1) x))) (jumped_more made x y (Done word) going.left e ∙ jump.0)
               ∙ jump.1;
           first = first_more stop limit made word x y going lt reached e;
           left = after_more made x y z going.left stepped;

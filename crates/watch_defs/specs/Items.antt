@@ -45,25 +45,25 @@ pub record AreItems (items : List Item) : Type 0 where
   pub each : All IsItem items
 
 -- The bytes of an item's range in a state. An address has none.
-abbrev pub bytes_of : Item → GplState → List ℕ
-bytes_of (Range space at len) s = slice_range (bytes_in space s) (at - base_of space) (at - base_of space + len)
-bytes_of (Pc at) s = []
+abbrev pub item_bytes : Item → GplState → List ℕ
+item_bytes (Range space at len) s = slice_range (bytes_in space s) (at - base_of space) (at - base_of space + len)
+item_bytes (Pc at) s = []
 
 -- Profile: whether an item holds at a step that leads from bytes of its range to a state: a byte of the range
 -- differs, or the address is the address of the next instruction.
 abbrev pub holds_since : Item → List ℕ → GplState → Bool
-holds_since (Range space at len) before s = is_some (first_difference before (bytes_of (Range space at len) s))
+holds_since (Range space at len) before s = is_some (first_difference before (item_bytes (Range space at len) s))
 holds_since (Pc at) before s = s.pc == at
 
 abbrev pub holds : Item → GplState → GplState → Bool
-holds item before s = holds_since item (bytes_of item before) s
+holds item before s = holds_since item (item_bytes item before) s
 
 -- The lowest address of its range at which the bytes differ, and the byte that the state has there.
 abbrev pub change_since : Item → List ℕ → GplState → Option (ℕ × ℕ)
 change_since (Range space at len) before s =
-    let now = bytes_of (Range space at len) s in
+    let now = item_bytes (Range space at len) s in
     option_map (λ place. (at + place, slice_index now place)) (first_difference before now)
 change_since (Pc at) before s = None
 
 abbrev pub change : Item → GplState → GplState → Option (ℕ × ℕ)
-change item before s = change_since item (bytes_of item before) s
+change item before s = change_since item (item_bytes item before) s

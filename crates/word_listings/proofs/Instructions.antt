@@ -36,7 +36,7 @@ use Rattle.instruction_defs.specs.declared.causes.FormError.TheVariants.{JumpToo
 use Rattle.instruction_defs.specs.declared.operand_kind.OperandKind.{OperandKind}
 use Rattle.instruction_defs.specs.declared.operand_kind.OperandKind.TheVariants as kind
 use Rattle.instruction_defs.specs.Forms.{Form, Indexed}
-use Rattle.instruction_defs.specs.Operands.{following_words, words_of, kinds_of, reg_kinds, jump_kinds, has_immediate, has_value}
+use Rattle.instruction_defs.specs.Operands.{following_words, size_in_words, kinds_of, reg_kinds, jump_kinds, has_immediate, has_value}
 use Rattle.instruction_defs.specs.FirstChecks.{Skeleton, Instruction, first_checks, form_in, words_after, forms_of, all_words_after, size_of}
 use Rattle.instruction_defs.specs.SecondChecks as second
 use Rattle.instruction_defs.specs.SecondChecks.{EncodedOperand, Located, Counted, Displaced, Followed, all_valued, all_ranged, second_checks, displaced}
@@ -205,7 +205,7 @@ module _ (at : ℕ) (inside : at < 65536) (words : List ℕ) (are : AreWords wor
   here = Absolute at
 
   abbrev Comes : Instr → Type 0
-  Comes found = (n : ℕ) × (1 + n ≡ words_of found) × FieldBack here (kinds_of (operation_of found)) (operands_text found at words) (readies_of found at words) n
+  Comes found = (n : ℕ) × (1 + n ≡ size_in_words found) × FieldBack here (kinds_of (operation_of found)) (operands_text found at words) (readies_of found at words) n
 
   abbrev RegField : RegOp → ℕ → Place → Type 0
   RegField op number src =
@@ -327,8 +327,8 @@ values_unless false words = Ok (map Absolute words)
 
 module _ (at word : ℕ) (rest : List ℕ) where
   abbrev Again : Instr → Type 0
-  Again found = word_of found ≡ word → words_of found ≤ length (word ∷ rest)
-      → values_of (operation_of found) (readies_of found at (word ∷ rest)) ≡ values_unless (wraps at (Some found)) (take (words_of found) (word ∷ rest))
+  Again found = word_of found ≡ word → size_in_words found ≤ length (word ∷ rest)
+      → values_of (operation_of found) (readies_of found at (word ∷ rest)) ≡ values_unless (wraps at (Some found)) (take (size_in_words found) (word ∷ rest))
 
   put : (found : Instr) (following : List Value) (n count : ℕ) → count ≡ suc n → word_of found ≡ word → following ≡ map Absolute (take n rest)
       → ◌≡◌ {A = Result (List Value) FormError} (Ok (Absolute (word_of found) ∷ following)) (Ok (map Absolute (take count (word ∷ rest))))

@@ -16,7 +16,7 @@ use Rattle.tms_defs.specs.declared.instruction.Instr.TheVariants as instr
 use Rattle.instruction_defs.specs.declared.causes.FormError.{FormError}
 use Rattle.instruction_defs.specs.declared.causes.FormError.TheVariants.{JumpTooFar}
 use Rattle.instruction_defs.specs.Operations.{name_of}
-use Rattle.instruction_defs.specs.Operands.{words_of}
+use Rattle.instruction_defs.specs.Operands.{size_in_words}
 use Rattle.instruction_defs.specs.FirstChecks.{size_of}
 use Rattle.instruction_defs.specs.SecondChecks.{second_checks}
 use Rattle.instruction_defs.specs.Printed.{instr_text, operands_text, printed, printed_where, printed_word, Printed}
@@ -109,8 +109,8 @@ module _ (at : ℕ) (inside : at < 65536) (even : at % 2 ≡ 0) (word : ℕ) (re
   own_place : at % 65536 ≡ at
   own_place = omega (arith, inside)
 
-  instr_line : (found : Instr) → IsRead word found → words_of found ≤ length (word ∷ rest)
-      → LineBack at (instr_text found at (word ∷ rest)) (2 * words_of found) false (come_unless (wraps at (Some found)) (take (words_of found) (word ∷ rest)))
+  instr_line : (found : Instr) → IsRead word found → size_in_words found ≤ length (word ∷ rest)
+      → LineBack at (instr_text found at (word ∷ rest)) (2 * size_in_words found) false (come_unless (wraps at (Some found)) (take (size_in_words found) (word ∷ rest)))
   unfolding outcome
   instr_line found is le =
       let f = field_back at inside (word ∷ rest) are found is.room is.signed in
@@ -118,11 +118,11 @@ module _ (at : ℕ) (inside : at < 65536) (even : at % 2 ≡ 0) (word : ℕ) (re
       let n = names (operation_of found) in
       let fit : Fit (name_of (operation_of found)) (field_of (operands_text found at (word ∷ rest))) = record
       { some = n.some; short = n.short; few = b.few; name_plain = n.plain; field_plain = b.is_plain } in
-      let size : size_of b.skeleton ≡ 2 * words_of found = b.size_is ∙ ap (λ n. 2 * n) f.1 in
+      let size : size_of b.skeleton ≡ 2 * size_in_words found = b.size_is ∙ ap (λ n. 2 * n) f.1 in
       line_back (name_of (operation_of found)) (operands_text found at (word ∷ rest))
-      (Instruction (2 * words_of found) (name_of (operation_of found)) (field_of (operands_text found at (word ∷ rest)))) fit f.2.some n.no_copy
-      (rw (n.no_directive, b.first_is, size) refl) (own_instruction at even (2 * words_of found) _ _)
-      (come_of (wraps at (Some found)) (take (words_of found) (word ∷ rest)) _
+      (Instruction (2 * size_in_words found) (name_of (operation_of found)) (field_of (operands_text found at (word ∷ rest)))) fit f.2.some n.no_copy
+      (rw (n.no_directive, b.first_is, size) refl) (own_instruction at even (2 * size_in_words found) _ _)
+      (come_of (wraps at (Some found)) (take (size_in_words found) (word ∷ rest)) _
       (ap (λ answer. answer >>= λ skeleton. second_checks known (Absolute (at % 65536)) skeleton) b.first_is
       ∙ (ap (λ place. second_checks known (Absolute place) b.skeleton) own_place ∙ (b.second_is ∙ again at word rest found is.encoded le))))
 
@@ -182,7 +182,7 @@ module _ (at : ℕ) (inside : at < 65536) (even : at % 2 ≡ 0) (word : ℕ) (re
   abbrev pub WordsBack : Printed → Type 0
   WordsBack front = LineBack at front.text (2 * front.count) false (come_unless (wraps at (instr_at word)) (take front.count (word ∷ rest))) × Counts (word ∷ rest) front.text front.count
 
-  instr_short : (found : Instr) → IsRead word found → 8 + length (instr_text found at (word ∷ rest)) ≤ 26 * words_of found
+  instr_short : (found : Instr) → IsRead word found → 8 + length (instr_text found at (word ∷ rest)) ≤ 26 * size_in_words found
   instr_short found is =
       let f = field_back at inside (word ∷ rest) are found is.room is.signed in
       let n = names (operation_of found) in
@@ -196,25 +196,25 @@ module _ (at : ℕ) (inside : at < 65536) (even : at % 2 ≡ 0) (word : ℕ) (re
   as_data true e = cc e
   as_data false e = (data_line at even word (are 0), record { some = omega arith; within = omega arith; short = omega arith })
 
-  some_words : (found : Instr) → 0 < words_of found
+  some_words : (found : Instr) → 0 < size_in_words found
   some_words (instr.Two op byte dst src) = omega arith
   some_words _ = omega arith
 
   -- a jump is one word
-  no_part : (found : Instr) → length (word ∷ rest) < words_of found → wraps at (Some found) ≡ false
+  no_part : (found : Instr) → length (word ∷ rest) < size_in_words found → wraps at (Some found) ≡ false
   no_part (instr.Jump op disp) lt = absurd (omega (arith, lt))
   no_part _ lt = refl
 
   abbrev Front : Option Instr → Printed → Type 0
   Front read front = LineBack at front.text (2 * front.count) false (come_unless (wraps at read) (take front.count (word ∷ rest))) × Counts (word ∷ rest) front.text front.count
 
-  by_fit : (found : Instr) → IsRead word found → (whole : Bool) → nat_le (words_of found) (length (word ∷ rest)) ≡ whole
-      → Front (Some found) (if whole then record { text = instr_text found at (word ∷ rest); count = words_of found } else printed_word word)
+  by_fit : (found : Instr) → IsRead word found → (whole : Bool) → nat_le (size_in_words found) (length (word ∷ rest)) ≡ whole
+      → Front (Some found) (if whole then record { text = instr_text found at (word ∷ rest); count = size_in_words found } else printed_word word)
   by_fit found is true e =
-      let le : words_of found ≤ length (word ∷ rest) = grind (arith, nat_tests, e) in
+      let le : size_in_words found ≤ length (word ∷ rest) = grind (arith, nat_tests, e) in
       (instr_line at inside even word rest are found is le, record { some = some_words found; within = le; short = instr_short found is })
   by_fit found is false e =
-      let lt : length (word ∷ rest) < words_of found = grind (arith, nat_tests, e) in
+      let lt : length (word ∷ rest) < size_in_words found = grind (arith, nat_tests, e) in
       as_data (wraps at (Some found)) (no_part found lt)
 
   by_read : (read : Option Instr) → instr_at word ≡ read → Front read (printed_where read at (word ∷ rest))

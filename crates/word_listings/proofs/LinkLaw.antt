@@ -7,7 +7,7 @@ use Rattle.std.proofs.lemmas.Bool.Decides.{nat_tests}
 use Rattle.object_defs.specs.Modules.{Module, StandsEven}
 use Rattle.object_defs.specs.Laws.{FitsPiece}
 use Rattle.object_laws.proofs.Written.{written_modules_are_read}
-use Rattle.link_defs.specs.Placing.{sections, first_base, word_at, words_of}
+use Rattle.link_defs.specs.Placing.{sections, first_base, word_at, section_words}
 use Rattle.link_defs.specs.First.{first_behind}
 use Rattle.link_defs.specs.LinkedMemory.{linked, linked_parts, is_outside, is_loadable}
 use Rattle.line_laws.specs.KnownLines.{pieces_of}
@@ -74,7 +74,7 @@ module _ (at : ℕ) (words : List ℕ) (entry : ℕ) (are : AreWords words) (ins
   parts_are : linked (module_of_words at words (Some entry) ∷ []) ≡ linked_parts [] pairs [] (entry ∷ [])
   unfolding linked
   parts_are =
-      let own : words_of (sections (module_of_words at words (Some entry) ∷ [])) ≡ pairs =
+      let own : section_words (sections (module_of_words at words (Some entry) ∷ [])) ≡ pairs =
       append_empty (map (word_at first_base) (pieces_of at words)) ∙ pairs_there first_base at words (fit words are) in
       let same : entry % 65536 ≡ entry = omega (arith, inside) in
       rw (own, same) refl

@@ -12,7 +12,7 @@ use Rattle.source_defs.specs.Operands.{operand_texts}
 use Rattle.expression_defs.specs.Expression.{Relocatable}
 use Rattle.expression_defs.specs.Layout.{laid_behind, assembled_lines}
 use Rattle.expression_defs.specs.Symbols.{predefined}
-use Rattle.tms_defs.specs.Words.{join}
+use Rattle.tms_defs.specs.Words.{join, words_of_bytes}
 use Rattle.object_defs.specs.Digits.{padded}
 use Rattle.object_defs.specs.Modules.{Module}
 use Rattle.instruction_defs.specs.Printed.{printed}
@@ -26,7 +26,7 @@ use Rattle.asm_defs.specs.SecondChecks.{Nothing, outcome, Outcome}
 use Rattle.asm_defs.specs.Modules.{assembled_line, module_by, module_behind, module_of_source}
 use Rattle.line_laws.proofs.PlacedWords.{HoldWords}
 use Rattle.line_laws.proofs.Whole.{none_by, room_still, hold_still}
-use Rattle.word_listings.specs.Listing.{memory_listing, words_in, lines_from, word_lines, odd_byte_lines}
+use Rattle.word_listings.specs.Listing.{memory_listing, lines_from, word_lines, odd_byte_lines}
 use Rattle.listed_lines.proofs.DigitLaws.{word_passes}
 use Rattle.listed_lines.proofs.OperandLines.{whole, one_text}
 use Rattle.listed_lines.proofs.Scans.{all_both}
@@ -130,21 +130,21 @@ tail_texts bytes entered = odd_texts bytes ++ end_text entered ∷ []
 abbrev pub AllBytes : List ℕ → Type 0
 AllBytes bytes = (k : ℕ) → slice_index bytes k < 256
 
-pub are_words : (bytes : List ℕ) → AllBytes bytes → AreWords (words_in bytes)
+pub are_words : (bytes : List ℕ) → AllBytes bytes → AreWords (words_of_bytes bytes)
 are_words (more ∷ less ∷ rest) all zero = let a = all 0 in let b = all 1 in omega (arith, a, b)
 are_words (more ∷ less ∷ rest) all (suc k) = are_words rest (λ k. all (suc (suc k))) k
 are_words _ all k = omega arith
 
 -- they take no more bytes
-pub words_fit : (bytes : List ℕ) → 2 * length (words_in bytes) ≤ length bytes
+pub words_fit : (bytes : List ℕ) → 2 * length (words_of_bytes bytes) ≤ length bytes
 words_fit (more ∷ less ∷ rest) = let ih = words_fit rest in omega (arith, ih)
 words_fit _ = omega arith
 
 -- the bytes behind the words: none, or one
 data Rest (bytes : List ℕ) : Type 0 where
-  Even : odd_texts bytes ≡ [] → padded_words bytes ≡ words_in bytes → length bytes ≡ 2 * length (words_in bytes) → Rest bytes
-  Odd : (byte : ℕ) → byte < 256 → odd_texts bytes ≡ (codes "BYTE " ++ hex_byte byte) ∷ [] → padded_words bytes ≡ words_in bytes ++ join byte 0 ∷ []
-      → length bytes ≡ suc (2 * length (words_in bytes)) → Rest bytes
+  Even : odd_texts bytes ≡ [] → padded_words bytes ≡ words_of_bytes bytes → length bytes ≡ 2 * length (words_of_bytes bytes) → Rest bytes
+  Odd : (byte : ℕ) → byte < 256 → odd_texts bytes ≡ (codes "BYTE " ++ hex_byte byte) ∷ [] → padded_words bytes ≡ words_of_bytes bytes ++ join byte 0 ∷ []
+      → length bytes ≡ suc (2 * length (words_of_bytes bytes)) → Rest bytes
 
 rest_of : (bytes : List ℕ) → AllBytes bytes → Rest bytes
 rest_of [] all = Even refl refl refl
@@ -158,7 +158,7 @@ rest_of (more ∷ less ∷ rest) all = by (rest_of rest (λ k. all (suc (suc k))
 module _ (half : ℕ) (bytes : List ℕ) (entered : Option ℕ) (all : AllBytes bytes) (inside : 2 * half < 65536) (fits : 2 * half + length bytes ≤ 65536)
     (is_entry : IsEntry entered) where
   abbrev words : List ℕ
-  words = words_in bytes
+  words = words_of_bytes bytes
 
   abbrev answer : Result Module (Refusal AsmCause)
   answer = unless_far (first_wrapping 2 (2 * half) words) (module_of_words (2 * half) (padded_words bytes) entered)
@@ -253,18 +253,18 @@ map_both (x ∷ xs) ys = ap (λ rest. listing_line x ∷ rest) (map_both xs ys)
 abbrev pub listing_to : ℕ → List ℕ → List ℕ → List (List ℕ)
 listing_to at bytes end =
     listing_line (codes "AORG " ++ hex_word at)
-    ∷ (word_lines at (words_in bytes) ++ (odd_byte_lines bytes ++ listing_line end ∷ []))
+    ∷ (word_lines at (words_of_bytes bytes) ++ (odd_byte_lines bytes ++ listing_line end ∷ []))
 
 pub listing_is : (at : ℕ) (bytes end : List ℕ)
-    → listing_to at bytes end ≡ map listing_line ((codes "AORG " ++ hex_word at) ∷ (texts_from (length (words_in bytes)) at (words_in bytes) ++ (odd_texts bytes ++ end ∷ [])))
+    → listing_to at bytes end ≡ map listing_line ((codes "AORG " ++ hex_word at) ∷ (texts_from (length (words_of_bytes bytes)) at (words_of_bytes bytes) ++ (odd_texts bytes ++ end ∷ [])))
 listing_is at bytes end =
     let tail : odd_byte_lines bytes ++ listing_line end ∷ [] ≡ map listing_line (odd_texts bytes ++ end ∷ []) =
     ap (λ lines. lines ++ listing_line end ∷ []) (odd_are bytes) ∙ map_both (odd_texts bytes) (end ∷ []) in
-    let body : word_lines at (words_in bytes) ++ (odd_byte_lines bytes ++ listing_line end ∷ [])
-    ≡ map listing_line (texts_from (length (words_in bytes)) at (words_in bytes) ++ (odd_texts bytes ++ end ∷ [])) =
-    ap (λ lines. lines ++ (odd_byte_lines bytes ++ listing_line end ∷ [])) (lines_are (length (words_in bytes)) (words_in bytes) at)
-    ∙ (ap (λ rest. map listing_line (texts_from (length (words_in bytes)) at (words_in bytes)) ++ rest) tail
-    ∙ map_both (texts_from (length (words_in bytes)) at (words_in bytes)) (odd_texts bytes ++ end ∷ [])) in
+    let body : word_lines at (words_of_bytes bytes) ++ (odd_byte_lines bytes ++ listing_line end ∷ [])
+    ≡ map listing_line (texts_from (length (words_of_bytes bytes)) at (words_of_bytes bytes) ++ (odd_texts bytes ++ end ∷ [])) =
+    ap (λ lines. lines ++ (odd_byte_lines bytes ++ listing_line end ∷ [])) (lines_are (length (words_of_bytes bytes)) (words_of_bytes bytes) at)
+    ∙ (ap (λ rest. map listing_line (texts_from (length (words_of_bytes bytes)) at (words_of_bytes bytes)) ++ rest) tail
+    ∙ map_both (texts_from (length (words_of_bytes bytes)) at (words_of_bytes bytes)) (odd_texts bytes ++ end ∷ [])) in
     ap (λ lines. listing_line (codes "AORG " ++ hex_word at) ∷ lines) body
 
 pub behind_laid : (all : List Line) (come : Result Module (Refusal AsmCause)) → names all ≡ predefined
@@ -368,12 +368,12 @@ both_own (x ∷ xs) ys a b = (a.0, both_own xs ys a.1 b)
 
 -- the lines before the last
 abbrev pub front_texts : (at : ℕ) → at < 65536 → List ℕ → List (List ℕ)
-front_texts at inside bytes = aorg_text at inside ∷ (texts_from (length (words_in bytes)) at (words_in bytes) ++ odd_texts bytes)
+front_texts at inside bytes = aorg_text at inside ∷ (texts_from (length (words_of_bytes bytes)) at (words_of_bytes bytes) ++ odd_texts bytes)
 
-pub own_front : (at : ℕ) (inside : at < 65536) (bytes : List ℕ) → AllBytes bytes → at % 2 ≡ 0 → at + 2 * length (words_in bytes) ≤ 65536 → AreWords (words_in bytes)
+pub own_front : (at : ℕ) (inside : at < 65536) (bytes : List ℕ) → AllBytes bytes → at % 2 ≡ 0 → at + 2 * length (words_of_bytes bytes) ≤ 65536 → AreWords (words_of_bytes bytes)
     → AreOwn (front_texts at inside bytes)
 own_front at inside bytes all even below are =
-    (own_origin at inside, both_own (texts_from (length (words_in bytes)) at (words_in bytes)) (odd_texts bytes) (own_words (length (words_in bytes)) (words_in bytes) at even below are) (own_odd bytes all))
+    (own_origin at inside, both_own (texts_from (length (words_of_bytes bytes)) at (words_of_bytes bytes)) (odd_texts bytes) (own_words (length (words_of_bytes bytes)) (words_of_bytes bytes) at even below are) (own_odd bytes all))
 
 -- ---- No jump wraps far from the ends of memory
 
@@ -408,4 +408,4 @@ pub inner_listings_come_back : InnerListingsComeBack
 inner_listings_come_back at bytes stands from to =
     let fit = words_fit bytes in
     word_listings_come_back at bytes stands
-    ∙ ap (λ far. unless_far far (module_of_words at (padded_words bytes) None)) (none_wraps (length (words_in bytes)) (words_in bytes) 2 at from (omega (arith, to, fit)))
+    ∙ ap (λ far. unless_far far (module_of_words at (padded_words bytes) None)) (none_wraps (length (words_of_bytes bytes)) (words_of_bytes bytes) 2 at from (omega (arith, to, fit)))

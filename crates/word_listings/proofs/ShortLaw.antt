@@ -5,12 +5,13 @@ use Rattle.std.specs.List.{concat}
 use Rattle.source_defs.specs.Digits.{hex_word, word_digits, byte_digits}
 use Rattle.source_defs.specs.ListedLines.{listing_line}
 use Rattle.instruction_defs.specs.Printed.{printed}
-use Rattle.word_listings.specs.Listing.{memory_listing, words_in, lines_from, word_lines, odd_byte_lines}
+use Rattle.word_listings.specs.Listing.{memory_listing, lines_from, word_lines, odd_byte_lines}
 use Rattle.word_listings.specs.Law.{entered_listing, WordListingsAreShort}
 use Rattle.word_listings.proofs.Instructions.{AreWords}
 use Rattle.word_listings.proofs.LineBacks.{words_back}
 use Rattle.word_listings.proofs.Behind.{drop_words}
 use Rattle.word_listings.proofs.ListingLaw.{are_words, words_fit}
+use Rattle.tms_defs.specs.Words.{words_of_bytes}
 
 concat_both : (xs ys : List (List ℕ)) → length (concat (xs ++ ys)) ≡ length (concat xs) + length (concat ys)
 concat_both [] ys = omega arith
@@ -53,12 +54,12 @@ word_listings_are_short at bytes stands =
     let even = stands.even in
     let within = stands.within in
     let fit = words_fit bytes in
-    let words = lines_short (length (words_in bytes)) (words_in bytes) at even (omega (arith, within, fit)) (are_words bytes stands.holds.fits) in
+    let words = lines_short (length (words_of_bytes bytes)) (words_of_bytes bytes) at even (omega (arith, within, fit)) (are_words bytes stands.holds.fits) in
     let odd = odd_short bytes in
     let first = first_short at in
     let last = concat_both (odd_byte_lines bytes) (listing_line (codes "END") ∷ []) in
-    let rest = concat_both (word_lines at (words_in bytes)) (odd_byte_lines bytes ++ listing_line (codes "END") ∷ []) in
-    let all = length-append (listing_line (codes "AORG " ++ hex_word at)) (concat (word_lines at (words_in bytes) ++ (odd_byte_lines bytes ++ listing_line (codes "END") ∷ []))) in
+    let rest = concat_both (word_lines at (words_of_bytes bytes)) (odd_byte_lines bytes ++ listing_line (codes "END") ∷ []) in
+    let all = length-append (listing_line (codes "AORG " ++ hex_word at)) (concat (word_lines at (words_of_bytes bytes) ++ (odd_byte_lines bytes ++ listing_line (codes "END") ∷ []))) in
     omega (arith, words, odd, first, last, rest, all)
 
 -- an entry behind END has six bytes
@@ -66,17 +67,17 @@ pub entered_size : (at : ℕ) (bytes : List ℕ) (entry : ℕ) →
     length (concat (entered_listing at bytes entry)) ≡ length (concat (memory_listing at bytes)) + 6
 unfolding memory_listing word_digits
 entered_size at bytes entry =
-    let size : (end : List ℕ) → length (concat (word_lines at (words_in bytes) ++ (odd_byte_lines bytes ++ end ∷ [])))
-    ≡ length (concat (word_lines at (words_in bytes))) + (length (concat (odd_byte_lines bytes)) + length end) =
+    let size : (end : List ℕ) → length (concat (word_lines at (words_of_bytes bytes) ++ (odd_byte_lines bytes ++ end ∷ [])))
+    ≡ length (concat (word_lines at (words_of_bytes bytes))) + (length (concat (odd_byte_lines bytes)) + length end) =
     λ end. (let last = concat_both (odd_byte_lines bytes) (end ∷ []) in
-    let rest = concat_both (word_lines at (words_in bytes)) (odd_byte_lines bytes ++ end ∷ []) in
+    let rest = concat_both (word_lines at (words_of_bytes bytes)) (odd_byte_lines bytes ++ end ∷ []) in
     let one = length-append end [] in
     omega (arith, last, rest, one)) in
     let plain = size (listing_line (codes "END")) in
     let entered = size (listing_line (codes "END " ++ hex_word entry)) in
     let first = listing_line (codes "AORG " ++ hex_word at) in
     let all = length-append first
-    (concat (word_lines at (words_in bytes) ++ (odd_byte_lines bytes ++ listing_line (codes "END") ∷ []))) in
+    (concat (word_lines at (words_of_bytes bytes) ++ (odd_byte_lines bytes ++ listing_line (codes "END") ∷ []))) in
     let whole = length-append first (concat
-    (word_lines at (words_in bytes) ++ (odd_byte_lines bytes ++ listing_line (codes "END " ++ hex_word entry) ∷ []))) in
+    (word_lines at (words_of_bytes bytes) ++ (odd_byte_lines bytes ++ listing_line (codes "END " ++ hex_word entry) ∷ []))) in
     omega (arith, plain, entered, all, whole)

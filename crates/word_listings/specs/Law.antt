@@ -9,8 +9,9 @@ use Rattle.tms_defs.specs.Bytes.{HoldsBytes}
 use Rattle.object_defs.specs.Modules.{Module}
 use Rattle.asm_defs.specs.declared.causes.AsmCause.{AsmCause}
 use Rattle.asm_defs.specs.Modules.{module_of_source}
-use Rattle.word_listings.specs.Listing.{memory_listing, words_in, word_lines, odd_byte_lines}
+use Rattle.word_listings.specs.Listing.{memory_listing, word_lines, odd_byte_lines}
 use Rattle.word_listings.specs.Modules.{padded_words, module_of_words, first_wrapping, unless_far}
+use Rattle.tms_defs.specs.Words.{words_of_bytes}
 
 -- bytes that stand from an even address on, within memory
 pub record StandEven (at : ℕ) (bytes : List ℕ) : Type 0 where
@@ -23,7 +24,7 @@ pub record StandEven (at : ℕ) (bytes : List ℕ) : Type 0 where
 -- first of its jumps that wraps around the ends of memory.
 abbrev pub listed_module : ℕ → List ℕ → Option ℕ → Result Module (Refusal AsmCause)
 listed_module at bytes entry =
-    unless_far (first_wrapping 2 at (words_in bytes)) (module_of_words at (padded_words bytes) entry)
+    unless_far (first_wrapping 2 at (words_of_bytes bytes)) (module_of_words at (padded_words bytes) entry)
 
 -- The law, which is proved: the listing of bytes from an even address on is assembled to their words there and to
 -- nothing else; or it is refused for the first of its jumps that wraps around the ends of memory, exactly where there
@@ -44,7 +45,7 @@ InnerListingsComeBack =
 abbrev pub entered_listing : ℕ → List ℕ → ℕ → List (List ℕ)
 entered_listing at bytes entry =
     listing_line (codes "AORG " ++ hex_word at)
-    ∷ (word_lines at (words_in bytes)
+    ∷ (word_lines at (words_of_bytes bytes)
     ++ (odd_byte_lines bytes ++ listing_line (codes "END " ++ hex_word entry) ∷ []))
 
 -- The law, which is proved: where its END names an entry by its address, the module has that entry, and is the same
@@ -59,4 +60,4 @@ EnteredListingsComeBack =
 abbrev pub WordListingsAreShort : Type 0
 WordListingsAreShort =
     (at : ℕ) (bytes : List ℕ) → StandEven at bytes
-    → length (concat (memory_listing at bytes)) ≤ 26 * length (words_in bytes) + 45
+    → length (concat (memory_listing at bytes)) ≤ 26 * length (words_of_bytes bytes) + 45

@@ -2,14 +2,8 @@
 use Rattle.std.specs.Prelude.{ℕ, zero, suc, ◌+◌, ◌*◌, List, [], ◌∷◌, ◌++◌, length, drop, codes}
 use Rattle.source_defs.specs.Digits.{hex_word, hex_byte}
 pub use Rattle.source_defs.specs.ListedLines.{listing_line}
-use Rattle.tms_defs.specs.Words.{join}
+use Rattle.tms_defs.specs.Words.{words_of_bytes}
 use Rattle.instruction_defs.specs.Printed.{printed}
-
--- bytes as words, the high byte first; a last odd byte is no word
-abbrev pub words_in : List ℕ → List ℕ
-words_in [] = []
-words_in (byte ∷ []) = []
-words_in (more ∷ less ∷ rest) = join more less ∷ words_in rest
 
 -- At most a number of lines of words, of which the first word stands at an address: the line of the instruction in
 -- front, or DATA with a word that is none, and then the lines of the words after it.
@@ -34,4 +28,4 @@ odd_byte_lines (more ∷ less ∷ rest) = odd_byte_lines rest
 unfoldable pub memory_listing : ℕ → List ℕ → List (List ℕ)
 memory_listing at bytes =
     listing_line (codes "AORG " ++ hex_word at)
-    ∷ (word_lines at (words_in bytes) ++ (odd_byte_lines bytes ++ listing_line (codes "END") ∷ []))
+    ∷ (word_lines at (words_of_bytes bytes) ++ (odd_byte_lines bytes ++ listing_line (codes "END") ∷ []))

@@ -2,7 +2,7 @@
 
 ghost use Rattle.std.specs.Prelude.{◌≡◌, ◌≤◌, length, Ok, IfOk};
 ghost use Rattle.object_defs.specs.Writing.{written_lines};
-ghost use Rattle.object_tags.specs.Lines.{bytes_of};
+ghost use Rattle.object_tags.specs.Lines.{line_bytes};
 ghost use Rattle.object_tags.specs.Seen.{model_of_module};
 ghost use Rattle.asm_defs.specs.Modules.{module_of_source};
 ghost use Rattle.report_defs.specs.Report as spec;
@@ -26,7 +26,7 @@ pub(crate) fn asm(alloc: Global, input: &[u8]) -> Result<Report, CommandError>
 /// The lines of the object text of a source's module.
 fn lines_of(alloc: Global, source: &[u8], module: &Module) -> Result<Vec<ObjectLine>, AllocError>
     requires { module_of_source source.now ≡ Ok (model_of_module «module».now) }
-    ensures { IfOk result (λ lines. bytes_of lines.items ≡ written_lines (model_of_module «module».now)) }
+    ensures { IfOk result (λ lines. line_bytes lines.items ≡ written_lines (model_of_module «module».now)) }
 {
     modules_have_texts();
     write_lines(alloc, module)

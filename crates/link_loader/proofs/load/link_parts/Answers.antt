@@ -1,7 +1,7 @@
 use Rattle.std.proofs.Common.{◌≡◌, Ok, None, Some, Option, ℕ, refl}
 use Rattle.std.proofs.lemmas.Result.{err_from_is_err_and}
 use Rattle.link_defs.specs.Causes.{OutOfMemoryRange}
-use Rattle.link_defs.specs.First.{first, unless}
+use Rattle.link_defs.specs.First.{first, refused_by}
 use Rattle.link_defs.specs.LinkedMemory.{is_outside}
 use Rattle.link_loader.proofs.Refusals.{refuses_first}
 use Rattle.link_loader.proofs.Inside.{replaced_inside}
@@ -61,7 +61,7 @@ returns c =
       words_are x.defs.items found.0 c.in_ok-words.words c.in_ok-uses.uses c.replace.new.self x.words.items loaded.1 found.2 c.replace.ensures,
     ) refl
 
-none_of_ok : (found : Option (ℕ × ℕ)) → unless (λ (word : ℕ × ℕ). OutOfMemoryRange word.0) found ≡ Ok None → found ≡ None
+none_of_ok : (found : Option (ℕ × ℕ)) → refused_by (λ (word : ℕ × ℕ). OutOfMemoryRange word.0) found ≡ Ok None → found ≡ None
 none_of_ok (Some word) e = cc
 none_of_ok None e = refl
 

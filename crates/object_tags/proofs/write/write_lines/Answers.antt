@@ -3,7 +3,7 @@ use Rattle.object_defs.specs.Writing.{Group, Placed, header_text, definition_tex
 use Rattle.object_tags.specs.declared.parts.Def.{Def}
 use Rattle.object_tags.specs.declared.parts.Ref.{Ref}
 use Rattle.object_tags.specs.Seen.{model_of_def, model_of_ref, model_of_module}
-use Rattle.object_tags.specs.Lines.{bytes_of, whole, Wrote}
+use Rattle.object_tags.specs.Lines.{line_bytes, whole, Wrote}
 use Rattle.std.specs.List.{AllByRecursion, concat}
 use Rattle.std.proofs.Common.{Ok}
 use Rattle.object_defs.specs.Reading.{read}
@@ -37,7 +37,7 @@ returns-clause-lines c =
     (map (λ reference. Group (reference_text reference)) (map model_of_ref m.refs)) (entry_items m.entry) header pieces model_of_defs model_of_refs entry in
     let lines : whole w5 [] ≡ written_lines (model_of_module m) = all ∙ begins w0 (items_of (model_of_module m)) c.new-writer.ensures.lines c.new-writer.ensures.line
     c.new-writer.ensures.number in
-    subst (λ (lines : List (List ℕ)). IfOk c.finish.result (λ found. bytes_of found.items ≡ lines)) lines c.finish.ensures
+    subst (λ (lines : List (List ℕ)). IfOk c.finish.result (λ found. line_bytes found.items ≡ lines)) lines c.finish.ensures
 
 pub returns-clause-read_again : goal.returns-clause-read_again
 returns-clause-read_again c =
@@ -53,5 +53,5 @@ returns-clause-read_again c =
       refs = all_defined FitsReference model_of_ref m.refs refs;
       entry = c.in_ok-put_entry.ensures.fits;
     } in
-    if_ok c.finish.result (λ found. bytes_of found.items) (written_lines (model_of_module m)) (λ lines. read (concat lines) ≡ Ok (model_of_module m ∷ []))
+    if_ok c.finish.result (λ found. line_bytes found.items) (written_lines (model_of_module m)) (λ lines. read (concat lines) ≡ Ok (model_of_module m ∷ []))
     (written_modules_are_read (model_of_module m) is c.requires) (returns-clause-lines c)

@@ -5,7 +5,7 @@ use Rattle.source_defs.specs.Lines.{part}
 use Rattle.source_defs.specs.Operands.{OperandsLieInside}
 use Rattle.expression_defs.specs.Symbols.{look_up}
 use Rattle.asm_defs.specs.SecondChecks.{byte_values}
-use Rattle.source_defs.specs.Refusals.{after}
+use Rattle.source_defs.specs.Refusals.{prepended}
 use Rattle.asm_checks.proofs.Listed.{byte_more}
 use Rattle.asm_checks.proofs.values.Scope.byte_values.Goals as goal
 
@@ -22,5 +22,5 @@ loop-span-preserved c =
     let more = byte_more look at front (part field c.in-Some.span) (map (part field) c.next.new.self) c.in_ok-number.number c.in_ok-number.ensures in
     record {
       inside = inside.1;
-      so_far = rw kept (sym more ∙ (ap (λ spans. after front (byte_values look at (map (part field) spans))) (sym c.in-Some.ensures.steps) ∙ i.so_far));
+      so_far = rw kept (sym more ∙ (ap (λ spans. prepended front (byte_values look at (map (part field) spans))) (sym c.in-Some.ensures.steps) ∙ i.so_far));
     }

@@ -7,7 +7,7 @@ use Rattle.source_defs.specs.Operands.{OperandsLieInside}
 use Rattle.expression_defs.specs.Symbols.{look_up}
 use Rattle.asm_forms.specs.Placed.{model_of_word, model_of_words}
 use Rattle.asm_defs.specs.SecondChecks.{data_values}
-use Rattle.source_defs.specs.Refusals.{after}
+use Rattle.source_defs.specs.Refusals.{prepended}
 use Rattle.asm_checks.proofs.Listed.{data_more}
 use Rattle.asm_checks.proofs.values.Scope.data_words.Goals as goal
 
@@ -30,5 +30,5 @@ loop-span-preserved c =
       inside = inside.1;
       room = omega (arith, ap length c.in-Some.ensures.steps, i.room, ap (λ place. place.number) c.behind-place.ensures);
       so_far = rw (longer, c.behind-place.ensures) (sym more
-          ∙ (ap (λ spans. after front (data_values look at c.loop-span.place (map (part field) spans))) (sym c.in-Some.ensures.steps) ∙ i.so_far));
+          ∙ (ap (λ spans. prepended front (data_values look at c.loop-span.place (map (part field) spans))) (sym c.in-Some.ensures.steps) ∙ i.so_far));
     }

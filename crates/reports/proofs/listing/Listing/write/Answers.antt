@@ -3,8 +3,9 @@ use Rattle.std.specs.Prelude.{codes}
 use Rattle.std.proofs.lemmas.Result.{err_from_is_err_and}
 use Rattle.bench_io.proofs.Writes.{missed_early, missed_more, written_more}
 use Rattle.source_defs.specs.Digits.{hex_word}
-use Rattle.word_listings.specs.Listing.{listing_line, word_lines, words_in, odd_byte_lines, memory_listing}
+use Rattle.word_listings.specs.Listing.{listing_line, word_lines, odd_byte_lines, memory_listing}
 use Rattle.reports.proofs.listing.Listing.write.Goals as goal
+use Rattle.tms_defs.specs.Words.{words_of_bytes}
 
 pub returns-in_err-put_chunk : goal.returns-in_err-put_chunk
 unfolding memory_listing
@@ -15,7 +16,7 @@ returns-in_err-put_chunk g c =
     let missed = rw (c.as_slice.ensures.value, c.origin_line.ensures) at c.in_err-put_chunk.ensures in
     rw p.1
     (missed_early _ _ (listing_line (codes "AORG " ++ hex_word at) ∷ [])
-    (word_lines at (words_in bytes) ++ (odd_byte_lines bytes ++ listing_line (codes "END") ∷ [])) missed)
+    (word_lines at (words_of_bytes bytes) ++ (odd_byte_lines bytes ++ listing_line (codes "END") ∷ [])) missed)
 
 pub returns-in_err-put_instructions : goal.returns-in_err-put_instructions
 unfolding memory_listing
@@ -28,7 +29,7 @@ returns-in_err-put_instructions g c =
     let missed = rw c.as_slice-bytes.ensures.value at c.in_err-put_instructions.ensures in
     rw p.1
     (missed_more _ _ _ (listing_line (codes "AORG " ++ hex_word at) ∷ []) _ wrote
-    (missed_early _ _ (word_lines at (words_in bytes)) (odd_byte_lines bytes ++ listing_line (codes "END") ∷ []) missed))
+    (missed_early _ _ (word_lines at (words_of_bytes bytes)) (odd_byte_lines bytes ++ listing_line (codes "END") ∷ []) missed))
 
 pub returns-in_err-put_odd_byte : goal.returns-in_err-put_odd_byte
 unfolding memory_listing
@@ -42,7 +43,7 @@ returns-in_err-put_odd_byte g c =
     let missed = rw c.as_slice-bytes.ensures.value at c.in_err-put_odd_byte.ensures in
     rw p.1
     (missed_more _ _ _ (listing_line (codes "AORG " ++ hex_word at) ∷ []) _ wrote
-    (missed_more _ _ _ (word_lines at (words_in bytes)) _ words
+    (missed_more _ _ _ (word_lines at (words_of_bytes bytes)) _ words
     (missed_early _ _ (odd_byte_lines bytes) (listing_line (codes "END") ∷ []) missed)))
 
 pub returns : goal.returns
@@ -54,5 +55,5 @@ returns g c =
     let words = rw c.as_slice-bytes.ensures.value at c.in_ok-put_instructions.ensures in
     let odd = rw c.as_slice-bytes.ensures.value at c.in_ok-put_odd_byte.ensures in
     written_more _ _ _ _ (listing_line (codes "AORG " ++ hex_word at) ∷ []) _ wrote
-    (written_more _ _ _ _ (word_lines at (words_in bytes)) _ words
+    (written_more _ _ _ _ (word_lines at (words_of_bytes bytes)) _ words
     (written_more _ _ _ _ (odd_byte_lines bytes) (listing_line (codes "END") ∷ []) odd c.put_chunk-2.ensures))
