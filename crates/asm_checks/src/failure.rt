@@ -6,8 +6,8 @@ ghost use Rattle.asm_checks.specs.Answers.{expr_failure, form_failure, operand_f
 ghost use Rattle.asm_checks.specs.declared.failure.Failure.TheVariants.{Memory};
 
 use asm_defs::AsmCause;
-use instruction_defs::FormError;
 use expression_defs::ExprError;
+use instruction_defs::FormError;
 use source_defs::OperandError;
 use std::alloc::AllocError;
 

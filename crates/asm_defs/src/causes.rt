@@ -1,7 +1,7 @@
 //! Why a line of an assembler source is refused.
 
-use instruction_defs::FormError;
 use expression_defs::ExprError;
+use instruction_defs::FormError;
 use source_defs::TextError;
 
 /// Why a line of an assembler source is refused. No inner error is its `Memory`.

@@ -5,8 +5,8 @@ ghost use Rattle.gpl_source_defs.specs.Skeletons.{operand_cause};
 ghost use Rattle.gpl_lines.specs.Answers.{expr_failure};
 ghost use Rattle.gpl_lines.specs.declared.failure.Failure.TheVariants.{Refused, Memory};
 
-use gpl_source_defs::GplCause;
 use expression_defs::ExprError;
+use gpl_source_defs::GplCause;
 use source_defs::OperandError;
 use std::alloc::AllocError;
 

@@ -13,9 +13,9 @@ use crate::failure::Failure;
 use crate::forms::Memory;
 use crate::numbers::{held_address, index_of};
 use asm_text::{Symbols, Value, expression_value, operands};
+use expression_defs::ExprError;
 use gpl_defs::GplOperand;
 use gpl_source_defs::{GplCause, Location};
-use expression_defs::ExprError;
 use std::alloc::Global;
 
 /// The names that a line sees, and its place.

@@ -1,7 +1,7 @@
 //! GPL sources as programs, worked out by the rules of their lines.
 
-use gpl_asm::{GplCause, GplError, GplLines, gpl_assemble};
 use expression_defs::ExprError;
+use gpl_asm::{GplCause, GplError, GplLines, gpl_assemble};
 use std::alloc::Global;
 use std::test::Fail;
 

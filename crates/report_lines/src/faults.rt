@@ -7,9 +7,9 @@ ghost use Rattle.report_defs.specs.SourceFaults as spec;
 
 use crate::line::{Line, append, append_count};
 use asm_defs::AsmCause;
+use expression_defs::ExprError;
 use gpl_source_defs::GplCause;
 use instruction_defs::FormError;
-use expression_defs::ExprError;
 use source_defs::TextError;
 
 /// The line of a refused line of an assembler source, by its number, from 1. It has room for a file's name before it.

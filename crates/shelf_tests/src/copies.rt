@@ -3,9 +3,9 @@
 use crate::shelves::name_of;
 use asm_core::{AsmCause, assemble};
 use bench_shelf::{CopyCause, CopyError, FileName, MemShelf, copy_assemble};
+use expression_defs::ExprError;
 use instruction_defs::FormError;
 use object_tags::Module;
-use expression_defs::ExprError;
 use source_defs::TextError;
 use std::alloc::{AllocError, Global};
 use std::test::Fail;

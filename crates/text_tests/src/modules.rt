@@ -2,9 +2,9 @@
 
 use crate::object_text::word;
 use asm_core::{AsmCause, AsmError, AsmLines, assemble};
+use expression_defs::ExprError;
 use instruction_defs::FormError;
 use object_tags::{Piece, Spot};
-use expression_defs::ExprError;
 use std::alloc::Global;
 use std::test::Fail;
 

@@ -9,11 +9,11 @@ ghost use Rattle.expression_defs.proofs.CharacterLaws.{first_character};
 ghost use Rattle.asm_text.specs.GivenTokens.{model_of_token};
 ghost use Rattle.asm_text.specs.GivenValues.{model_of_value, model_of_value_answer};
 
-use crate::name::Name;
-use crate::operand_fields::quoted_texts::between_quotes;
 use crate::expressions::symbols::Symbols;
 use crate::expressions::token::{Token, TokenKind};
 use crate::expressions::values::Value;
+use crate::name::Name;
+use crate::operand_fields::quoted_texts::between_quotes;
 use expression_defs::ExprError;
 
 /// The first character of a text, where two quotes are one, and what stands after it.

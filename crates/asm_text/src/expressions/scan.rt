@@ -7,10 +7,10 @@ ghost use Rattle.expression_defs.specs.TokenLaw.{Follow};
 ghost use Rattle.asm_text.specs.GivenTokens.{model_of_kind, model_of_token, model_of_token_answer};
 
 use crate::characters::{is_letter, is_quote};
+use crate::expressions::token::{Token, TokenKind};
 use crate::numbers::{decimal_up_to, hexadecimal_number};
 use crate::places::{digits_end, hexadecimal_end, name_end, text_end};
 use crate::text_lines::split::upper_case_name;
-use crate::expressions::token::{Token, TokenKind};
 use expression_defs::ExprError;
 use source_defs::Span;
 use std::alloc::Global;

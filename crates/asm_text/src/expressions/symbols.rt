@@ -16,8 +16,8 @@ ghost use Rattle.asm_text.specs.GivenValues.{model_of_value};
 ghost use Rattle.asm_text.specs.Kept.{begins_as_register};
 
 use crate::characters::{is_digit, upper_case};
-use crate::name::Name;
 use crate::expressions::values::Value;
+use crate::name::Name;
 use std::alloc::Global;
 use std::collections::BTreeMap;
 use std::marker::Model;

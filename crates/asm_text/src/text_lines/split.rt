@@ -9,9 +9,9 @@ ghost use Rattle.source_defs.specs.Names.{all_letters_or_digits, is_letter_or_di
 ghost use Rattle.asm_text.specs.GivenFields.{model_of_fields, model_of_answer, FieldsLieInside};
 
 use crate::characters::{is_asterisk, is_blank, is_letter, upper_case};
-use crate::text_lines::line_fields::{Fields, SplitLine};
 use crate::name::{KEPT_BYTES, LONGEST_NAME, Name};
 use crate::places::{operand_end, word_end, word_start};
+use crate::text_lines::line_fields::{Fields, SplitLine};
 use source_defs::{Span, TextError};
 
 /// The most bytes that a line has.
