@@ -1,4 +1,4 @@
--- Lists of values, one value prepended the other.
+-- Lists of values, one value after the other.
 use Rattle.std.proofs.Common.{◌≡◌, ℕ, List, [], ◌∷◌, ◌++◌, Ok, Err, refl, sym, ap, append_assoc}
 use Rattle.std.specs.Prelude.{Option, Result}
 use Rattle.expression_defs.specs.declared.causes.ExprError.{ExprError}

@@ -40,7 +40,8 @@ pub record IsKnown (known : Names) (before : List Line) (line : Line) (found : A
   pub comes : outcome (look_up known) (place before line) line.statement ≡ Ok found.outcome
 
 -- or it is the first that waits, and zeros hold its places
-pub record IsWaiting (before : List Line) (line : Line) (found : AssembledLine) (waiting rest : List Pending) : Type 0 where
+pub record IsWaiting (before : List Line) (line : Line) (found : AssembledLine) (waiting rest : List Pending)
+    : Type 0 where
   pub first : Pending
   pub is : IsOf before line first
   pub held : found ≡ held_place (place before line) line.statement

@@ -50,7 +50,8 @@ Stops old cause true new =
     × (new.waiting.items ≡ front)
 
 -- a line was placed, or is refused since it has no room
-abbrev pub ByRoom : AsmLines → List AssembledLine → AssembledLine → Bool → AsmLines → Result AssembledLine AsmCause → Type 0
+abbrev pub ByRoom
+    : AsmLines → List AssembledLine → AssembledLine → Bool → AsmLines → Result AssembledLine AsmCause → Type 0
 ByRoom old earlier line waits new (Ok found) =
     (new.refused ≡ old.refused) × (new.waiting.items ≡ old.waiting.items) × ImageOf (line ∷ earlier) new.image
 ByRoom old earlier line waits new (Err cause) = Stops old cause waits new
@@ -58,5 +59,6 @@ ByRoom old earlier line waits new (Err cause) = Stops old cause waits new
 abbrev pub Emits : AsmLines → Location → Emitted → Bool → AsmLines → Type 0
 Emits old at (emitted.Refused cause) waits new = Stops old cause false new
 Emits old at (emitted.Bytes given) waits new =
-    (earlier : List AssembledLine) (line : AssembledLine) → ImageOf earlier old.image → AreContents at given.items earlier line
+    (earlier : List AssembledLine) (line : AssembledLine) → ImageOf earlier old.image
+    → AreContents at given.items earlier line
     → ByRoom old earlier line waits new (with_room earlier line)

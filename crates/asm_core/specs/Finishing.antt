@@ -42,10 +42,12 @@ pub record AreResolved (unused : List Reference) (order : List Line) (founds : L
   pub output : IsOutput unused [] founds old → IsOutput unused done [] new
 
 -- or one is refused
-abbrev pub ResolvesAll : {A : Type 0} → List Reference → List Line → List AssembledLine → Names → Result A AsmError → Output
+abbrev pub ResolvesAll
+    : {A : Type 0} → List Reference → List Line → List AssembledLine → Names → Result A AsmError → Output
     → Output → Type 0
 ResolvesAll unused order founds known (Ok _) old new = AreResolved unused order founds known old new
-ResolvesAll unused order founds known (Err error) old new = RefusesAt error (assembled_lines (assembled_line known) (onto [] order))
+ResolvesAll unused order founds known (Err error) old new =
+    RefusesAt error (assembled_lines (assembled_line known) (onto [] order))
 
 -- lines are refused where those before the refused one are assembled
 abbrev pub StopsBehind : Names → List Line → List Line → List AssembledLine → List AssembledLine → AsmError → Type 0

@@ -5,7 +5,8 @@ use Rattle.expression_defs.specs.Symbols.{Names}
 use Rattle.expression_defs.specs.Layout.{with_names}
 use Rattle.asm_text.specs.GivenValues.{model_of_value}
 use Rattle.asm_defs.specs.declared.causes.AsmCause.TheVariants.{DuplicateLabel}
-use Rattle.asm_defs.specs.FirstChecks.{EarlierLines, any_known, label_in, label_entry, external_entries, defs_in, refs_in}
+use Rattle.asm_defs.specs.FirstChecks.{EarlierLines, any_known, label_in, label_entry, external_entries, defs_in}
+use Rattle.asm_defs.specs.FirstChecks.{refs_in}
 use Rattle.asm_checks.specs.Defined.{model_of_statement}
 use Rattle.asm_checks.specs.declared.first_checks.Checked.{Checked}
 use Rattle.asm_checks.specs.declared.failure.Failure.{Failure}

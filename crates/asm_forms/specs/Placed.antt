@@ -22,7 +22,8 @@ abbrev pub placed_words : Placed → List expression.Value
 placed_words placed = model_of_words placed.words.items
 
 abbrev pub encoded_words : Operation → List EncodedOperand → List expression.Value
-encoded_words operation readies = expression.Absolute (word_of (instruction_of operation readies)) ∷ all_following readies
+encoded_words operation readies =
+    expression.Absolute (word_of (instruction_of operation readies)) ∷ all_following readies
 
 -- the words of an operation with operands, where these are in their ranges
 abbrev pub placed_of : expression.Value → Operation → List Operand → Result (List expression.Value) FormError

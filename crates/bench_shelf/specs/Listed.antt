@@ -38,7 +38,8 @@ IsTold error = IsUntold error → ⊥
 
 -- the answer of the second checks
 abbrev pub AssembledAs : List Line → ℕ → AsmCause → Type 0
-AssembledAs lines number cause = assembled_lines (assembled_line (names lines)) lines ≡ Err (record { line = number; cause = cause })
+AssembledAs lines number cause =
+    assembled_lines (assembled_line (names lines)) lines ≡ Err (record { line = number; cause = cause })
 
 abbrev pub AllAssembled : List Line → Type 0
 AllAssembled lines = (found : List AssembledLine) × (assembled_lines (assembled_line (names lines)) lines ≡ Ok found)

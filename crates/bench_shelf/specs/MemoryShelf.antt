@@ -49,5 +49,6 @@ OpensIn before name (Err Failed) after =
     Contains before.fails before.requests × Rose before.faults after.faults
     × (after ≡ record (asked before) { faults = saturating_sum before.faults 1 })
 OpensIn before name (Err Missing) after =
-    (file_bytes before.files name ≡ None) × (Contains before.fails before.requests → ⊥) × Rose before.misses after.misses
+    (file_bytes before.files name ≡ None) × (Contains before.fails before.requests → ⊥)
+    × Rose before.misses after.misses
     × (after ≡ record (asked before) { misses = saturating_sum before.misses 1 })

@@ -1,5 +1,6 @@
 -- What differs between two lists of bytes of one length, and what a list becomes by it.
-use Rattle.std.specs.Prelude.{◌≡◌, ℕ, ◌+◌, ◌==◌, ◌&&◌, if◌then◌else◌, List, [], ◌∷◌, ◌++◌, length, take, drop, replicate}
+use Rattle.std.specs.Prelude.{◌≡◌, ℕ, ◌+◌, ◌==◌, ◌&&◌, if◌then◌else◌, List, [], ◌∷◌, ◌++◌, length, take, drop}
+use Rattle.std.specs.Prelude.{replicate}
 
 -- Neighbours that changed, and that are the same byte now: the place of the first, the byte, and how many they are.
 pub record Change : Type 0 where

@@ -25,7 +25,7 @@ end_of_step (Done word) = None
 end_of_step (Refused address) = Some (run.Refused address)
 end_of_step (Port address) = Some (run.Port address)
 
--- The machine after_steps a number of steps in a row.
+-- The machine after a number of steps in a row.
 abbrev pub after_steps : ℕ → MachineState → MachineState
 after_steps zero x = x
 after_steps (suc made) x = (machine_step (after_steps made x)).1

@@ -14,14 +14,14 @@ use Rattle.debug_report_defs.specs.LineParts.{front_part, changes_part}
 use Rattle.debug_report_defs.specs.LineFronts.{MachineFront, machine_front}
 use Rattle.debug_report_defs.specs.MachineReader.{machine_changes}
 
--- A memory with the changes of lines made, one line after_steps the other. The front of a line has the workspace pointer that
+-- A memory with the changes of lines made, one line after the other. The front of a line has the workspace pointer that
 -- its changes of registers go by.
 abbrev pub memory_of_lines : List (List ℕ) → SeenMemory → SeenMemory
 memory_of_lines [] m = m
 memory_of_lines (line ∷ lines) m =
     memory_of_lines lines (memory_applied (machine_front line).wp (machine_changes line) m)
 
--- the front of the line of the next instruction after_steps this number of instructions
+-- the front of the line of the next instruction after this number of instructions
 abbrev pub front_after : MachineState → ℕ → MachineFront
 front_after x made =
     let cpu = (after_steps made x).cpu in
@@ -36,8 +36,8 @@ front_after x made =
 -- The law, which is proved, of the lines of a run from any machine. The end of a line's front is found, and from the
 -- line alone are read: the number of the instruction, the program counter, the workspace pointer and the status before
 -- it, its text, and its changes. The changes of the lines of the first instructions, made in the first memory one line
--- after_steps the other, give the memory after_steps these instructions, but for the ROM and the bytes of the GROMs, which no
--- instruction changes. The program counter, the workspace pointer and the status after_steps the last line are in no line.
+-- after the other, give the memory after these instructions, but for the ROM and the bytes of the GROMs, which no
+-- instruction changes. The program counter, the workspace pointer and the status after the last line are in no line.
 -- The machine in which a run of the linked memory of an input begins is such a machine.
 pub record MachineLinesGiveStates : Type 0 where
   pub lines : (x : MachineState) (count : ℕ) → step_lines x count ≡ map (line_after x) (range_with_len 0 count)

@@ -7,7 +7,8 @@
 use Rattle.std.specs.Prelude.{ℕ, ◌+◌, ◌-◌, ◌*◌, ◌/◌, ◌%◌, ◌==◌, Bool, false, not, ◌&&◌, nat_le, if◌then◌else◌, List}
 use Rattle.std.specs.Prelude.{[], ◌∷◌, length, slice_range, Option, Some, None, Result, Ok, Err}
 use Rattle.expression_defs.specs.declared.causes.ExprError.{ExprError}
-use Rattle.expression_defs.specs.declared.causes.ExprError.TheVariants.{BadToken, UnknownName, BadRelocation, DivideByZero}
+use Rattle.expression_defs.specs.declared.causes.ExprError.TheVariants.{BadToken, UnknownName, BadRelocation}
+use Rattle.expression_defs.specs.declared.causes.ExprError.TheVariants.{DivideByZero}
 use Rattle.source_defs.specs.Refusals.{◌>>=◌}
 use Rattle.source_defs.specs.Characters.{is_quote}
 use Rattle.source_defs.specs.Lines.{part}

@@ -1,4 +1,4 @@
--- Numbers of operands, one prepended the other.
+-- Numbers of operands, one after the other.
 use Rattle.std.proofs.Common.{◌≡◌, ℕ, List, [], ◌∷◌, ◌++◌, Ok, Err, refl}
 use Rattle.std.specs.Prelude.{Option}
 use Rattle.source_defs.specs.Refusals.{prepended}

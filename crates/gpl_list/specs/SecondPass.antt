@@ -27,13 +27,16 @@ ComesTo known at text result =
     → Gives model_of_outcome result (outcome (look_up known) at statement)
 
 -- a line was assembled after others, and its bytes were placed
-abbrev pub AssembledAs : {A : Type 0} → (A → List ℕ) → Names → Location → Statement → List AssembledLine → Result A Failure → Image → Type 0
+abbrev pub AssembledAs
+    : {A : Type 0} → (A → List ℕ) → Names → Location → Statement → List AssembledLine → Result A Failure → Image → Type 0
 AssembledAs bytes known at statement earlier (Ok value) left =
     (found : AssembledLine) × (assembled_at known at statement earlier ≡ Ok found) × (left ≡ image (found ∷ earlier))
     × (bytes value ≡ spec.placed_bytes known at statement)
-AssembledAs bytes known at statement earlier (Err failure) left = Fails failure (assembled_at known at statement earlier)
+AssembledAs bytes known at statement earlier (Err failure) left =
+    Fails failure (assembled_at known at statement earlier)
 
-abbrev pub AssemblesRow : {A : Type 0} → (A → List ℕ) → Names → Location → List ℕ → Image → Result A Failure → Image → Type 0
+abbrev pub AssemblesRow
+    : {A : Type 0} → (A → List ℕ) → Names → Location → List ℕ → Image → Result A Failure → Image → Type 0
 AssemblesRow bytes known at text old result left =
     (statement : Statement) (earlier : List AssembledLine)
     → parsed known at text ≡ Ok statement → at.number + declared_size statement ≤ 65536

@@ -65,7 +65,8 @@ pub record Program : Type 0 where
   pub names : Names
 
 abbrev pub program_by : List Line → List AssembledLine → Program
-program_by lines assembled_lines = record { image = image assembled_lines; entry = entry assembled_lines; names = names lines }
+program_by lines assembled_lines =
+    record { image = image assembled_lines; entry = entry assembled_lines; names = names lines }
 
 -- the program of lines that the first checks let through
 abbrev pub program_behind : List Line → Result Program (Refusal GplCause)

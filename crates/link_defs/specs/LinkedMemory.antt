@@ -74,7 +74,8 @@ linked_parts defs words refs entries = do
   Ok (record { words = from_entries (map (filled defs uses) words); names = defs; entry = entry })
 
 abbrev pub linked_sections : List Section → Result LinkedMemory LinkCause
-linked_sections sections = linked_parts (defs_of sections) (section_words sections) (refs_of sections) (entries_of sections)
+linked_sections sections =
+    linked_parts (defs_of sections) (section_words sections) (refs_of sections) (entries_of sections)
 
 -- the linked memory of modules, or why they are not linked
 unfoldable pub linked : List Module → Result LinkedMemory LinkCause

@@ -21,14 +21,14 @@ pub record Keeps (first m : Memory) : Type 0 where
   pub rom : m.rom ≡ first.rom
   pub image : m.grom.image ≡ first.grom.image
 
--- the first memory of a run, with the changes of this number of its instructions made, one after_steps the other
+-- the first memory of a run, with the changes of this number of its instructions made, one after the other
 abbrev pub memory_by_changes : MachineState → ℕ → SeenMemory
 memory_by_changes x zero = seen_memory x.cpu.memory
 memory_by_changes x (suc earlier) =
     memory_applied (after_steps earlier x).cpu.wp (step_changes (after_steps earlier x) (after_steps (suc earlier) x))
     (memory_by_changes x earlier)
 
--- The law, which is proved: this is the memory after_steps these instructions, but for the ROM and the bytes of the GROMs,
+-- The law, which is proved: this is the memory after these instructions, but for the ROM and the bytes of the GROMs,
 -- which are the bytes of the first.
 pub record ChangesGiveMemory : Type 0 where
   pub seen : (x : MachineState) → IsMemory x.cpu.memory → (made : ℕ)

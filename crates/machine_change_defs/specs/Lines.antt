@@ -1,4 +1,4 @@
--- The lines of a run of the machine: a line for each instruction, and the expansion memory after_steps it.
+-- The lines of a run of the machine: a line for each instruction, and the expansion memory after it.
 use Rattle.std.specs.Prelude.{ℕ, suc, ◌+◌, List, [], ◌∷◌, ◌++◌, codes, map}
 use Rattle.std.specs.List.{range_with_len}
 use Rattle.source_defs.specs.Digits.{word_digits, hex_word}
@@ -42,15 +42,15 @@ unfoldable pub step_front : ℕ → MachineState → List ℕ
 step_front number x =
     number_text number ++ (codes " " ++ (processor_text x.cpu ++ (codes " " ++ instruction_text x.cpu)))
 
--- what an instruction changed, by the machines before and after_steps it
+-- what an instruction changed, by the machines before and after it
 abbrev pub step_changes : MachineState → MachineState → MemoryChanges
 step_changes x next = memory_changes x.cpu.wp (seen_memory x.cpu.memory) (seen_memory next.cpu.memory)
 
--- the line of an instruction, by the machines before and after_steps it
+-- the line of an instruction, by the machines before and after it
 abbrev pub step_line : ℕ → MachineState → MachineState → List ℕ
 step_line number x next = step_front number x ++ (changes_text (step_changes x next) ++ codes "\n")
 
--- the line of the instruction after_steps a number of instructions
+-- the line of the instruction after a number of instructions
 abbrev pub line_after : MachineState → ℕ → List ℕ
 line_after x made = step_line (made + 1) (after_steps made x) (after_steps (suc made) x)
 

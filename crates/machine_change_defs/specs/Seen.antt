@@ -1,6 +1,7 @@
 -- What is seen of the memory of a machine: all of it but the ROM and the bytes of the GROMs, which no instruction
 -- changes.
-use Rattle.std.specs.Prelude.{ℕ, ◌+◌, ◌-◌, ◌&&◌, nat_le, if◌then◌else◌, List, [], ◌++◌, take, drop, slice_range, Option, Some, None}
+use Rattle.std.specs.Prelude.{ℕ, ◌+◌, ◌-◌, ◌&&◌, nat_le, if◌then◌else◌, List, [], ◌++◌, take, drop, slice_range, Option}
+use Rattle.std.specs.Prelude.{Some, None}
 use Rattle.console_defs.specs.Memory.{Memory}
 use Rattle.machine_change_defs.specs.declared.area.Area.{Area}
 use Rattle.machine_change_defs.specs.declared.area.Area.TheVariants.{Scratchpad, LowExpansion, HighExpansion}

@@ -20,7 +20,7 @@ use Rattle.machine_change_defs.specs.Text.{changes_text}
 use Rattle.machine_change_defs.specs.Lines.{step_front, step_line, line_after, step_lines}
 use Rattle.machine_steps.specs.Shown.{ShowsWhole, BreaksOff}
 
--- the lines of instructions, and the one after_steps them
+-- the lines of instructions, and the one after them
 pub one_more_line : (x : MachineState) (made : ℕ) → step_lines x (made + 1) ≡ step_lines x made ++ line_after x made ∷ []
 unfolding step_lines
 one_more_line x made = mapped_split (line_after x) made 1

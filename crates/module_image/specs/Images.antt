@@ -41,7 +41,8 @@ abbrev pub any_laid : Image → Location → ℕ → Bool
 any_laid image at count = any_in at.part image at.number count
 
 -- a line was placed after others, and whether it has room
-pub record IsPlacedBehind {A : Type 0} (references : List Reference) (earlier : List AssembledLine) (line : AssembledLine)
+pub record IsPlacedBehind {A : Type 0} (references : List Reference) (earlier : List AssembledLine)
+    (line : AssembledLine)
     (result : Result A AsmCause) (new : Image) : Type 0 where
   pub room : map_ok (λ _. line) result ≡ with_room earlier line
   pub image : IsImage references (line ∷ earlier) new

@@ -1,4 +1,4 @@
--- Answers of lists, one item prepended the other.
+-- Answers of lists, one item after the other.
 use Rattle.std.proofs.Common.{◌≡◌, List, [], ◌∷◌, ◌++◌, Ok, Err, refl, sym, ap, append_assoc}
 use Rattle.std.specs.Prelude.{Result}
 use Rattle.source_defs.specs.Refusals.{◌>>=◌, prepended}

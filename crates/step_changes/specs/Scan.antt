@@ -1,5 +1,6 @@
 -- The changes of lists of bytes from a place on.
-use Rattle.std.specs.Prelude.{◌≡◌, ◌≢◌, ℕ, ◌<◌, ◌≤◌, Bool, not, ◌&&◌, ◌==◌, List, [], length, drop, slice_index, Option, Some, None}
+use Rattle.std.specs.Prelude.{◌≡◌, ◌≢◌, ℕ, ◌<◌, ◌≤◌, Bool, not, ◌&&◌, ◌==◌, List, [], length, drop, slice_index, Option}
+use Rattle.std.specs.Prelude.{Some, None}
 use Rattle.change_defs.specs.Changes.{Change, changes_from}
 
 -- the changes from a place on

@@ -5,7 +5,8 @@ use Rattle.std.specs.Prelude.{List, [], ◌∷◌, ◌++◌}
 use Rattle.tms_defs.specs.Words.{plus, even}
 use Rattle.tms_defs.specs.Flags.{Width, Byte, Word, byte_or_word, size_of, by_result, sum_of, sum_flags, difference_of}
 use Rattle.tms_defs.specs.Flags.{difference_flags, negation_of, negation_flags, absolute_of, absolute_flags}
-use Rattle.tms_defs.specs.Logic.{conjunction_of, ones_set, ones_cleared, exclusive_or_of, complement_of, swapped, by_ones}
+use Rattle.tms_defs.specs.Logic.{conjunction_of, ones_set, ones_cleared, exclusive_or_of, complement_of, swapped}
+use Rattle.tms_defs.specs.Logic.{by_ones}
 use Rattle.tms_defs.specs.Logic.{by_zeros}
 use Rattle.tms_defs.specs.MultiplyDivide.{product_of, division_of, by_division}
 use Rattle.tms_defs.specs.Shifts.{count_in, shifted, by_shift}
