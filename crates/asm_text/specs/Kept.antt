@@ -6,7 +6,7 @@ use Rattle.asm_text.specs.declared.expressions.values.Value.{Value}
 use Rattle.asm_text.specs.GivenValues.{model_of_value}
 
 -- an entry, with its value seen as the definitions see it
-abbrev pub model_of_entry : List ℕ × Value → List ℕ × Rattle.source_defs.specs.Expression.Value
+abbrev pub model_of_entry : List ℕ × Value → List ℕ × Rattle.expression_defs.specs.Expression.Value
 model_of_entry entry = (entry.0, model_of_value entry.1)
 
 -- the registers and the entries

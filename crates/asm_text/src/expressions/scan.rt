@@ -39,7 +39,7 @@ pub fn tokens(alloc: Global, text: &[u8]) -> Result<Vec<Token>, ExprError>
 }
 
 /// The token that starts at a place.
-#[tactic(auto, unfolding(source_defs::specs::Tokens::token_at))]
+#[tactic(auto, unfolding(expression_defs::specs::Tokens::token_at))]
 #[inline(always)]
 pub(crate) fn token_at(text: &[u8], start: usize) -> Result<Token, ExprError>
     requires { start < length text.now }
