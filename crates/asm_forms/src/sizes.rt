@@ -6,7 +6,7 @@ ghost use Rattle.instruction_defs.specs.Operands as spec;
 use tms_defs::{BareOp, ImmOp, Instr, Place};
 
 /// How many words an instruction has: its first, and the words of its operands.
-pub(crate) fn words_of(instr: &Instr) -> u8
+pub(crate) fn size_in_words(instr: &Instr) -> u8
     ensures words { result ≡ spec.size_in_words instr.now }
     ensures some { (1 ≤ result) × (result ≤ 3) }
 {

@@ -1,6 +1,6 @@
 use Rattle.std.proofs.Common.{◌≡◌, length}
 use Rattle.bench_shelf.specs.MemoryShelf.{file_bytes, named}
-use Rattle.bench_shelf.proofs.memory.bytes_of.Given as goal
+use Rattle.bench_shelf.proofs.memory.file_bytes.Given as goal
 
 -- none of the files before has the name
 abbrev pub invariant-loop-rest : goal.invariant-loop-rest

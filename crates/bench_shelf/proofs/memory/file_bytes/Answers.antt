@@ -1,6 +1,6 @@
 use Rattle.std.proofs.Common.{◌∙◌, sym}
 use Rattle.bench_shelf.proofs.Names.{name_past, name_none}
-use Rattle.bench_shelf.proofs.memory.bytes_of.Goals as goal
+use Rattle.bench_shelf.proofs.memory.file_bytes.Goals as goal
 
 pub loop-rest-preserved : goal.loop-rest-preserved
 loop-rest-preserved c =
