@@ -8,7 +8,7 @@ from lib.repository import read_text
 SPECS = TOP / 'crates/report_defs/specs'
 FILES = ['FaultLine', 'FileLines', 'SourceFaults', 'ObjectFaults']
 # parts of lines that are no causes, and what no fault line says, since that ends with status 5
-OTHERS = {'line', ':', '', 'out of memory', 'computed', 'usage'}
+OTHERS = {'line', ':', '', 'out of memory', 'computed', 'ti_bench'}
 
 
 def texts():
@@ -37,12 +37,9 @@ class Faults(unittest.TestCase):
         self.assertEqual([text for text in sorted(texts()) if text not in page], [])
 
     def test_the_programs_usage_lines_are_shown(self):
-        usages = {name: re.search(r'codes "(usage: [^"\\]*)', read_text(TOP / path))[1] for name, path in (
-            ('ti_bench', 'crates/report_defs/specs/ProgramCommands.antt'),
-            ('ti_debug', 'crates/debug_report_defs/specs/Words.antt'))}
-        for usage in usages.values():
-            self.assertIn(usage, read_text(TOP / 'docs/REPORTS.md'))
-            self.assertIn(usage[:60], read_text(TOP / 'tests/hostile').replace("'\n                      b'", ''))
+        for path in 'crates/workbench/src/usage.rt', 'crates/debug_commands/src/words.rt':
+            usage = re.search(r'b"(usage: [^"\\]*)', read_text(TOP / path))[1]
+            self.assertIn(f'    {usage}\n', read_text(TOP / 'docs/REPORTS.md'))
 
 
 if __name__ == '__main__':

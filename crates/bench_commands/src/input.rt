@@ -32,14 +32,7 @@ fn reads(command: Command) -> bool
     ensures { result ≡ spec.reads command }
 {
     match command {
-        Command::Asm
-        | Command::Gasm
-        | Command::Dis { .. }
-        | Command::Gdis { .. }
-        | Command::Link
-        | Command::Exec { .. }
-        | Command::Run { .. }
-        | Command::Trace { .. } => true,
         Command::Interp | Command::Demo { .. } => false,
+        _ => true,
     }
 }

@@ -7,6 +7,6 @@ mod numbers;
 mod words;
 
 pub use crate::arguments::program_words;
-pub use crate::command::{MOST_INSTRUCTIONS, MOST_STEPS, read_command};
+pub use crate::command::{command_name, name_in, read_command};
 pub use crate::numbers::{address_word, number_word};
 pub use crate::words::Words;

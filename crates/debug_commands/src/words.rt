@@ -1,56 +1,41 @@
 //! Which command the words say, and how the program is called.
 
-ghost use Rattle.std.specs.Prelude.{◌≡◌, IfSome};
-ghost use Rattle.source_defs.specs.Names.{same_text};
+ghost use Rattle.std.specs.Prelude.{◌≡◌, map, option_map, IfSome};
+ghost use Rattle.report_defs.specs.Commands as words;
+ghost use Rattle.debug_report_defs.specs.declared.command.DebugCommand.TheVariants.{Gsteps, Steps};
 ghost use Rattle.debug_report_defs.specs.Words as spec;
 ghost use Rattle.debug_report_defs.specs.Words.{KeepsLimit};
 
-use command_words::{MOST_INSTRUCTIONS, MOST_STEPS, Words, number_word};
-use debug_report_defs::DebugCommand;
+use command_words::{Words, name_in, number_word};
+use debug_report_defs::{COMMANDS, DebugCommand, DebugName};
+use report_defs::{MOST_INSTRUCTIONS, MOST_STEPS};
 
 /// The command that the words say, or `None` if they are in no shape of one.
 pub(crate) fn read_debug_command(words: &Words) -> Option<DebugCommand>
     ensures command { result ≡ spec.debug_command words.now }
     ensures limit { IfSome result KeepsLimit }
 {
-    match words.as_slice() {
-        [name] => command_alone(name.as_slice()),
-        [name, word] => command_with(name.as_slice(), word.as_slice()),
+    let (word, others) = words.as_slice().split_first()?;
+    command_on(name_in(&COMMANDS, word.as_slice())?, others)
+}
+
+/// A command with the words after its name.
+fn command_on(name: DebugName, words: &[Vec<u8>]) -> Option<DebugCommand>
+    ensures command { result ≡ spec.command_on (map (λ word. word.items) words.now) name }
+    ensures limit { IfSome result KeepsLimit }
+{
+    match (name, words) {
+        (DebugName::Glist, []) => Some(DebugCommand::Glist),
+        (DebugName::List, []) => Some(DebugCommand::List),
+        (DebugName::Gsteps, [word]) => gsteps_command(word.as_slice()),
+        (DebugName::Steps, [word]) => steps_command(word.as_slice()),
         _ => None,
-    }
-}
-
-/// The command of one word.
-fn command_alone(name: &[u8]) -> Option<DebugCommand>
-    ensures command { result ≡ spec.command_alone name.now }
-    ensures limit { IfSome result KeepsLimit }
-{
-    if is_same(name, b"glist") {
-        Some(DebugCommand::Glist)
-    } else if is_same(name, b"list") {
-        Some(DebugCommand::List)
-    } else {
-        None
-    }
-}
-
-/// The command of two words.
-fn command_with(name: &[u8], word: &[u8]) -> Option<DebugCommand>
-    ensures command { result ≡ spec.command_with name.now word.now }
-    ensures limit { IfSome result KeepsLimit }
-{
-    if is_same(name, b"gsteps") {
-        gsteps_command(word)
-    } else if is_same(name, b"steps") {
-        steps_command(word)
-    } else {
-        None
     }
 }
 
 /// `gsteps` with its number.
 fn gsteps_command(word: &[u8]) -> Option<DebugCommand>
-    ensures command { result ≡ spec.gsteps_command word.now }
+    ensures command { result ≡ option_map Gsteps (words.number_word words.most_steps word.now) }
     ensures limit { IfSome result KeepsLimit }
 {
     let limit = number_word(word, MOST_STEPS)?;
@@ -59,18 +44,11 @@ fn gsteps_command(word: &[u8]) -> Option<DebugCommand>
 
 /// `steps` with its number.
 fn steps_command(word: &[u8]) -> Option<DebugCommand>
-    ensures command { result ≡ spec.steps_command word.now }
+    ensures command { result ≡ option_map Steps (words.number_word words.most_instructions word.now) }
     ensures limit { IfSome result KeepsLimit }
 {
     let limit = number_word(word, MOST_INSTRUCTIONS)?;
     Some(DebugCommand::Steps { limit })
-}
-
-/// Whether a word is a name.
-fn is_same(word: &[u8], name: &[u8]) -> bool
-    ensures { result ≡ same_text word.now name.now }
-{
-    word == name
 }
 
 /// How the program is called.

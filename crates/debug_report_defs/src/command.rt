@@ -21,3 +21,21 @@ pub enum DebugCommand {
         limit: u32,
     },
 }
+
+/// A command by its name alone.
+#[derive(Clone, Copy, Debug, PartialEq, Eq)]
+pub enum DebugName {
+    Glist,
+    List,
+    Gsteps,
+    Steps,
+}
+
+/// The commands of `ti_debug`, in the order of its usage line: the word that names each, and what the usage line shows
+/// after it.
+pub const COMMANDS: [(&[u8], &[u8], DebugName); 4] = [
+    (b"glist", b"", DebugName::Glist),
+    (b"list", b"", DebugName::List),
+    (b"gsteps", b" N", DebugName::Gsteps),
+    (b"steps", b" N", DebugName::Steps),
+];

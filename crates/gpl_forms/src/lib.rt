@@ -4,8 +4,8 @@
 mod codes;
 mod image;
 mod laws;
-mod names;
 mod read;
+mod rows;
 mod size;
 mod valid;
 mod write;
@@ -17,8 +17,8 @@ pub use gpl_defs::{
 };
 pub use image::GromImage;
 pub use laws::bytes_mean_one_instruction;
-pub use names::name_of;
 pub use read::{is_shortest, read_instr, stands};
+pub use rows::name_of;
 pub use size::{size_between, size_of};
 pub use valid::{has_immediate, is_valid};
 pub use write::write_instr;

@@ -1,13 +1,16 @@
 -- The words of the command line.
 use Rattle.std.specs.Prelude.{⊤, ℕ, ◌≤◌, ◌==◌, ◌%◌, Bool, true, false, ◌&&◌}
-use Rattle.std.specs.Prelude.{nat_lt, nat_le, if◌then◌else◌, List, []}
-use Rattle.std.specs.Prelude.{◌∷◌, length, slice_index, codes, Option, Some, None}
+use Rattle.std.specs.Prelude.{nat_lt, if◌then◌else◌, List, [], ◌∷◌, length, map, slice_index, Option, Some, None}
 use Rattle.std.specs.Option.{option_map, option_and_then}
 use Rattle.source_defs.specs.Numbers.{decimal_up_to, hexadecimal_number}
+use Rattle.report_defs.specs.declared.limits.TheConstants.{MOST_BLOCKS, MOST_INSTRUCTIONS, MOST_STEPS}
+use Rattle.report_defs.specs.declared.command.TheConstants.{COMMANDS}
 use Rattle.report_defs.specs.declared.command.Command.{Command}
 use Rattle.report_defs.specs.declared.command.Command.TheVariants.{Asm, Gasm, Dis, Gdis, Link, Exec, Interp}
 use Rattle.report_defs.specs.declared.command.Command.TheVariants.{Run, Trace, Demo}
-use Rattle.source_defs.specs.Names.{same_text}
+use Rattle.report_defs.specs.declared.command.CommandName.{CommandName}
+use Rattle.report_defs.specs.declared.command.CommandName.TheVariants as named
+use Rattle.report_defs.specs.CommandTables.{CommandRow, command_named}
 
 -- a 0 with more after it
 abbrev pub has_leading_zero : List ℕ → Bool
@@ -20,45 +23,26 @@ number_word limit word =
 
 -- Profile: exec makes at most 10,000,000 instructions.
 abbrev pub most_instructions : ℕ
-most_instructions = 10000000
-
-abbrev pub exec_command : List ℕ → Option Command
-exec_command word = option_map Exec (number_word most_instructions word)
+most_instructions = MOST_INSTRUCTIONS
 
 -- Profile: run and trace make at most 100,000 steps.
 abbrev pub most_steps : ℕ
-most_steps = 100000
-
-abbrev pub run_command : List ℕ → Option Command
-run_command word = option_map Run (number_word most_steps word)
-
-abbrev pub trace_command : List ℕ → Option Command
-trace_command word = option_map Trace (number_word most_steps word)
+most_steps = MOST_STEPS
 
 -- Profile: demo makes its program from a number from 1 to 500.
 abbrev pub most_blocks : ℕ
-most_blocks = 500
+most_blocks = MOST_BLOCKS
 
 abbrev pub demo_of : ℕ → Option Command
 demo_of number = if number == 0 then None else Some (Demo number)
-
-abbrev pub demo_command : List ℕ → Option Command
-demo_command word = option_and_then demo_of (number_word most_blocks word)
 
 -- Profile: an address is four hexadecimal digits of either case.
 abbrev pub address_word : List ℕ → Option ℕ
 address_word word = if length word == 4 then hexadecimal_number word else None
 
--- Profile: a listing of memory begins at an even address.
+-- Profile: a listing of memory begins at an even address, and one of GROM at any.
 abbrev pub dis_at : ℕ → Option Command
 dis_at address = if address % 2 == 0 then Some (Dis address) else None
-
-abbrev pub dis_command : List ℕ → Option Command
-dis_command word = option_and_then dis_at (address_word word)
-
--- Profile: a listing of GROM begins at any address.
-abbrev pub gdis_command : List ℕ → Option Command
-gdis_command word = option_map Gdis (address_word word)
 
 -- a command keeps the limit of its number, where it has one
 abbrev pub KeepsLimit : Command → Type 0
@@ -68,34 +52,39 @@ KeepsLimit (Trace limit) = limit ≤ most_steps
 KeepsLimit (Demo number) = number ≤ most_blocks
 KeepsLimit command = ⊤
 
--- words in any other shape are no command of `bench`
+abbrev pub commands : List (CommandRow CommandName)
+commands = map (λ row. (row.0.now, row.1.now, row.2)) COMMANDS
+
+-- a command of one word
+abbrev pub command_alone : CommandName → Option Command
+command_alone named.Asm = Some Asm
+command_alone named.Gasm = Some Gasm
+command_alone named.Link = Some Link
+command_alone named.Interp = Some Interp
+command_alone name = None
+
+-- a command with a word after its name
+abbrev pub command_with : CommandName → List ℕ → Option Command
+command_with named.Exec word = option_map Exec (number_word most_instructions word)
+command_with named.Run word = option_map Run (number_word most_steps word)
+command_with named.Trace word = option_map Trace (number_word most_steps word)
+command_with named.Demo word = option_and_then demo_of (number_word most_blocks word)
+command_with named.Dis word = option_and_then dis_at (address_word word)
+command_with named.Gdis word = option_map Gdis (address_word word)
+command_with name word = None
+
+-- a command with the words after its name; those in any other shape are no command of `bench`
+abbrev pub command_on : List (List ℕ) → CommandName → Option Command
+command_on [] name = command_alone name
+command_on (word ∷ []) name = command_with name word
+command_on (word ∷ next ∷ others) name = None
+
 abbrev pub command_of : List (List ℕ) → Option Command
 command_of [] = None
-command_of (name ∷ []) =
-    if same_text name (codes "asm") then Some Asm
-    else if same_text name (codes "gasm") then Some Gasm
-    else if same_text name (codes "link") then Some Link
-    else if same_text name (codes "interp") then Some Interp
-    else None
-command_of (name ∷ word ∷ []) =
-    if same_text name (codes "exec") then exec_command word
-    else if same_text name (codes "run") then run_command word
-    else if same_text name (codes "trace") then trace_command word
-    else if same_text name (codes "demo") then demo_command word
-    else if same_text name (codes "dis") then dis_command word
-    else if same_text name (codes "gdis") then gdis_command word
-    else None
-command_of (name ∷ word ∷ next ∷ others) = None
+command_of (word ∷ words) = option_and_then (command_on words) (command_named commands word)
 
 -- Profile: each command reads its input but interp and demo.
 abbrev pub reads : Command → Bool
-reads Asm = true
-reads Gasm = true
-reads (Dis at) = true
-reads (Gdis at) = true
-reads Link = true
-reads (Exec limit) = true
 reads Interp = false
-reads (Run limit) = true
-reads (Trace limit) = true
 reads (Demo number) = false
+reads command = true

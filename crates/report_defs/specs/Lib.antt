@@ -1,8 +1,9 @@
 pub mod Rows
+pub mod CommandTables
+pub mod Commands
 pub mod FaultLine
 pub mod SourceFaults
 pub mod GromListing
-pub mod Commands
 pub mod Dump
 pub mod Exec
 pub mod Program

@@ -1,6 +1,6 @@
 -- The words of the program's command line.
-use Rattle.std.specs.Prelude.{ℕ, ◌+◌, Bool, ◌&&◌, nat_eq, nat_le, if◌then◌else◌, List, [], ◌∷◌, ◌++◌, length, take}
-use Rattle.std.specs.Prelude.{drop, slice_index, codes, Option, Some, None}
+use Rattle.std.specs.Prelude.{ℕ, ◌+◌, Bool, ◌&&◌, nat_eq, nat_le, if◌then◌else◌, List, [], ◌∷◌, length, take}
+use Rattle.std.specs.Prelude.{drop, map, slice_index, codes, Option, Some, None}
 use Rattle.std.specs.Option.{option_map, option_and_then}
 use Rattle.std.specs.List.{list_all}
 use Rattle.source_defs.specs.Names.{same_text}
@@ -12,7 +12,10 @@ use Rattle.watch_defs.specs.declared.item.Item.TheVariants.{Range, Pc}
 use Rattle.watch_defs.specs.Items.{base_of, size_of, most_items}
 use Rattle.report_defs.specs.declared.command.Command.{Command}
 use Rattle.report_defs.specs.declared.command.Command.TheVariants as command
-use Rattle.report_defs.specs.Commands.{number_word, most_steps, address_word, command_of}
+use Rattle.report_defs.specs.declared.command.CommandName.{CommandName}
+use Rattle.report_defs.specs.declared.command.CommandName.TheVariants as named
+use Rattle.report_defs.specs.CommandTables.{command_named, shown, usage_of}
+use Rattle.report_defs.specs.Commands.{number_word, most_steps, address_word, commands, command_on}
 
 -- What only the program with files has: `asm`, whose source may copy files; `link` with names of files; and `watch`
 -- with a number of steps and with items.
@@ -81,20 +84,16 @@ abbrev pub over_input : Command → ProgramCommand
 over_input command.Asm = OverFiles AsmFiles
 over_input found = Plain found
 
-abbrev pub input_command : List (List ℕ) → Option ProgramCommand
-input_command words = option_map over_input (command_of words)
-
 -- Profile: words in any other shape are no command.
+abbrev pub program_command_on : List (List ℕ) → CommandName → Option ProgramCommand
+program_command_on (word ∷ words) named.Link = option_map OverFiles (link_command (word ∷ words))
+program_command_on words named.Watch = option_map OverFiles (watch_command words)
+program_command_on words name = option_map over_input (command_on words name)
+
 abbrev pub program_command : List (List ℕ) → Option ProgramCommand
 program_command [] = None
-program_command (name ∷ []) = input_command (name ∷ [])
-program_command (name ∷ word ∷ words) =
-    if same_text name (codes "link") then option_map OverFiles (link_command (word ∷ words))
-    else if same_text name (codes "watch") then option_map OverFiles (watch_command (word ∷ words))
-    else input_command (name ∷ word ∷ words)
+program_command (word ∷ words) = option_and_then (program_command_on words) (command_named commands word)
 
 -- Profile: words that are no command are answered by how the program is called.
 unfoldable pub program_usage : List ℕ
-program_usage =
-    codes "usage: ti_bench asm|link [NAME ...]|dis ADDR|exec N|gasm|gdis ADDR|interp|run N|trace N|demo K"
-    ++ codes "|watch N ITEM ...\n"
+program_usage = usage_of (codes "ti_bench") (map shown commands)

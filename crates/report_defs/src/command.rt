@@ -1,4 +1,4 @@
-//! The commands of the program.
+//! The commands of `ti_bench`.
 
 /// A command, as the words of the command line say it.
 #[derive(Clone, Copy, Debug, PartialEq, Eq)]
@@ -42,3 +42,36 @@ pub enum Command {
         number: u32,
     },
 }
+
+/// A command by its name alone.
+#[derive(Clone, Copy, Debug, PartialEq, Eq)]
+pub enum CommandName {
+    Asm,
+    Link,
+    Dis,
+    Exec,
+    Gasm,
+    Gdis,
+    Interp,
+    Run,
+    Trace,
+    Demo,
+    /// Only the program with files has it.
+    Watch,
+}
+
+/// The commands of `ti_bench`, in the order of its usage line: the word that names each, and what the usage line shows
+/// after it. `link` takes names of files only in the program with files.
+pub const COMMANDS: [(&[u8], &[u8], CommandName); 11] = [
+    (b"asm", b"", CommandName::Asm),
+    (b"link", b" [NAME ...]", CommandName::Link),
+    (b"dis", b" ADDR", CommandName::Dis),
+    (b"exec", b" N", CommandName::Exec),
+    (b"gasm", b"", CommandName::Gasm),
+    (b"gdis", b" ADDR", CommandName::Gdis),
+    (b"interp", b"", CommandName::Interp),
+    (b"run", b" N", CommandName::Run),
+    (b"trace", b" N", CommandName::Trace),
+    (b"demo", b" K", CommandName::Demo),
+    (b"watch", b" N ITEM ...", CommandName::Watch),
+];

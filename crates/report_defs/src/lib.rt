@@ -7,8 +7,8 @@ mod limits;
 mod status;
 mod summary;
 
-pub use command::Command;
+pub use command::{COMMANDS, Command, CommandName};
 pub use fault::Fault;
-pub use limits::LARGEST_INPUT;
+pub use limits::{LARGEST_INPUT, MOST_BLOCKS, MOST_INSTRUCTIONS, MOST_STEPS};
 pub use status::Status;
 pub use summary::Summary;

@@ -1,4 +1,13 @@
-//! How much the program reads.
+//! How much the programs read and execute.
 
 /// The most bytes that an input has, and a file that `link` reads.
 pub const LARGEST_INPUT: usize = 1_048_576;
+
+/// The most instructions that `exec` and `steps` execute.
+pub const MOST_INSTRUCTIONS: u32 = 10_000_000;
+
+/// The most steps that the interpreter makes for a command.
+pub const MOST_STEPS: u32 = 100_000;
+
+/// The most blocks of the program that `demo` makes.
+pub const MOST_BLOCKS: u32 = 500;

@@ -7,8 +7,9 @@ ghost use Rattle.watch_defs.specs.Items.{IsItem};
 
 use crate::item::item_word;
 use crate::items::{MOST_ITEMS, WatchedItems};
-use command_words::{MOST_STEPS, number_word};
+use command_words::number_word;
 use gpl_watch::Item;
+use report_defs::MOST_STEPS;
 
 /// The most steps and the items that the words after `watch` say: a number up to 100,000, and the words of one to
 /// eight items. It takes no memory.

@@ -1,9 +1,13 @@
--- Words that are names of files.
-use Rattle.std.proofs.Common.{◌≡◌, ◌<◌, ◌≤◌, ℕ, suc, List, [], ◌∷◌, Vec, Global, map, length, false}
-use Rattle.std.proofs.Common.{refl, ap, subst, arith}
+-- The words of the program: which are names of files, and which say a command over an input.
+use Rattle.std.proofs.Common.{◌≡◌, ◌≤◌, ℕ, suc, List, [], ◌∷◌, Vec, Global, map, length, false, Some, option_map}
+use Rattle.std.proofs.Common.{refl, ap, arith}
 use Rattle.std.specs.Prelude.{nat_le}
 use Rattle.std.proofs.lemmas.Bool.Decides.{nat_tests}
-use Rattle.report_defs.specs.ProgramCommands.{are_file_names, input_command, program_command}
+use Rattle.report_defs.specs.declared.command.CommandName.{CommandName}
+use Rattle.report_defs.specs.declared.command.CommandName.TheVariants.{Link, Watch}
+use Rattle.report_defs.specs.CommandTables.{command_named}
+use Rattle.report_defs.specs.Commands.{commands, command_of, command_on}
+use Rattle.report_defs.specs.ProgramCommands.{are_file_names, over_input, program_command, program_command_on}
 
 abbrev pub texts : List (Vec ℕ Global) → List (List ℕ)
 texts words = map (λ (word : Vec ℕ Global). word.items) words
@@ -18,10 +22,16 @@ many_names first words many =
     let past : nat_le (suc (length (texts words))) 16 ≡ false = grind (arith, nat_tests) in
     rw past refl
 
--- one word says a command over an input, or none
-pub one_word : (list : List (Vec ℕ Global)) (words : List (List ℕ)) → length list < 2 → texts list ≡ words
-    → input_command words ≡ program_command words
-one_word [] words few is = subst (λ (w : List (List ℕ)). input_command w ≡ program_command w) is refl
-one_word (word ∷ []) words few is =
-    subst (λ (w : List (List ℕ)). input_command w ≡ program_command w) is refl
-one_word (word ∷ next ∷ list) words few is = absurd (omega (arith, few))
+over_input_on : (name : CommandName) (words : List (List ℕ)) → (name ≡ Link → ⊥) → (name ≡ Watch → ⊥)
+    → option_map over_input (command_on words name) ≡ program_command_on words name
+over_input_on Link words not_link not_watch = absurd (not_link refl)
+over_input_on Watch words not_link not_watch = absurd (not_watch refl)
+over_input_on _ [] not_link not_watch = refl
+over_input_on _ (word ∷ words) not_link not_watch = refl
+
+-- words of which the first names neither `link` nor `watch` say a command over an input, or none
+pub over_input_alone : (all : List (List ℕ)) (word : List ℕ) (words : List (List ℕ)) (name : CommandName)
+    → all ≡ word ∷ words → command_named commands word ≡ Some name → (name ≡ Link → ⊥) → (name ≡ Watch → ⊥)
+    → option_map over_input (command_of all) ≡ program_command all
+over_input_alone all word words name are is not_link not_watch =
+    rw (are, is) (over_input_on name words not_link not_watch)

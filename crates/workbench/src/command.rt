@@ -1,14 +1,14 @@
 //! Which command the words say, those over files among them.
 
 ghost use Rattle.std.specs.Prelude.{◌≡◌, ◌∷◌, map, option_map, IfSome};
-ghost use Rattle.source_defs.specs.Names.{same_text};
+ghost use Rattle.report_defs.specs.Commands.{command_of};
 ghost use Rattle.report_defs.specs.ProgramCommands as spec;
 ghost use Rattle.workbench.specs.Asked.{model_of_command, model_of_over, IsWithin};
 
 use crate::names::{FileNames, MOST_FILES};
 use bench_shelf::FileName;
-use command_words::{Words, read_command};
-use report_defs::Command;
+use command_words::{Words, command_name, read_command};
+use report_defs::{Command, CommandName};
 use watch_command::{WatchedItems, watch_words};
 
 /// What only the program with files has.
@@ -41,23 +41,15 @@ pub(crate) fn read_program_command(words: &Words) -> Option<ProgramCommand>
     ensures command { option_map model_of_command result ≡ spec.program_command words.now }
     ensures within { IfSome result IsWithin }
 {
-    match words.as_slice() {
-        [] | [_] => input_command(words),
-        [name, first, others @ ..] if is_word(name, b"link") => {
-            Some(ProgramCommand::OverFiles(link_command(first, others)?))
-        }
-        [name, others @ ..] if is_word(name, b"watch") => {
-            Some(ProgramCommand::OverFiles(watch_command(others)?))
-        }
+    let (word, others) = words.as_slice().split_first()?;
+    match command_name(word.as_slice())? {
+        CommandName::Link => match others {
+            [] => input_command(words),
+            [first, others @ ..] => Some(ProgramCommand::OverFiles(link_command(first, others)?)),
+        },
+        CommandName::Watch => Some(ProgramCommand::OverFiles(watch_command(others)?)),
         _ => input_command(words),
     }
-}
-
-/// Whether a word is this one.
-fn is_word(word: &Vec<u8>, name: &[u8]) -> bool
-    ensures { result ≡ same_text word.now.items name.now }
-{
-    word.as_slice() == name
 }
 
 /// `link` with the names that a word and those after it say, where each says one and they are not too many.
@@ -86,7 +78,7 @@ fn watch_command(words: &[Vec<u8>]) -> Option<FileCommand>
 
 /// A command over one input.
 fn input_command(words: &Words) -> Option<ProgramCommand>
-    ensures command { option_map model_of_command result ≡ spec.input_command words.now }
+    ensures command { option_map model_of_command result ≡ option_map spec.over_input (command_of words.now) }
     ensures within { IfSome result IsWithin }
 {
     match read_command(words)? {

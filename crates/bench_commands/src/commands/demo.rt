@@ -7,9 +7,8 @@ ghost use Rattle.report_defs.specs.Report as spec;
 ghost use Rattle.reports.specs.Answers.{answer, WantsMemory, Reported};
 
 use crate::commands::program::{load_program, run_session};
-use command_words::MOST_STEPS;
 use demo_program::{demo_text, summarize};
-use report_defs::Command;
+use report_defs::{Command, MOST_STEPS};
 use reports::{CommandError, Report};
 use std::alloc::Global;
 use std::marker::Brand;
