@@ -12,25 +12,7 @@ use Rattle.asm_defs.specs.Growing.{declared_size}
 use Rattle.asm_defs.proofs.OutcomeSizes.{IsSized, outcome_size}
 use Rattle.asm_checks.specs.Defined.{model_of_statement, KeepsSkeleton}
 use Rattle.asm_checks.specs.declared.statement.Statement.{Statement}
-use Rattle.asm_checks.specs.declared.statement.Statement.TheVariants.{
-  Nothing,
-  Instruction,
-  Aorg,
-  Rorg,
-  Dorg,
-  Bss,
-  Bes,
-  Even,
-  Equ,
-  Data,
-  Byte,
-  Text,
-  Def,
-  Ref,
-  Idt,
-  Titl,
-  End,
-}
+use Rattle.asm_checks.specs.declared.statement.Statement.TheVariants.{Instruction}
 use Rattle.source_defs.specs.Refusals.{◌>>=◌}
 use Rattle.instruction_defs.specs.FirstChecks.{size_of}
 use Rattle.module_image.proofs.HoldingLaws.{contents_length}
@@ -41,22 +23,7 @@ use Rattle.asm_core.specs.Assembling.{GivesBytes}
 pub sized : (statement : Statement) → KeepsSkeleton statement → IsSized (model_of_statement statement)
 sized (Instruction line) is =
     ap (λ skeleton. skeleton >>= λ skeleton. Ok (size_of skeleton)) is.checked ∙ ap Ok is.sized
-sized Nothing is = tt
-sized (Aorg text) is = tt
-sized (Rorg text) is = tt
-sized (Dorg text) is = tt
-sized (Bss text) is = tt
-sized (Bes text) is = tt
-sized Even is = tt
-sized (Equ text) is = tt
-sized (Data field) is = tt
-sized (Byte field) is = tt
-sized (Text text) is = tt
-sized (Def field) is = tt
-sized (Ref field) is = tt
-sized (Idt text) is = tt
-sized (Titl text) is = tt
-sized (End text) is = tt
+sized _ is = tt
 
 pub comes_within : (look : List ℕ → Option Value) (at : Location) (statement : Statement) (found : Outcome) → KeepsSkeleton statement
     → outcome look at (model_of_statement statement) ≡ Ok found → bytes_in found ≡ declared_size (model_of_statement statement)

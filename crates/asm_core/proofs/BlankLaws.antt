@@ -62,17 +62,13 @@ module _ (at : Location) where
     placed_same part p = ap (λ b. b || is_placed earlier part p) (covers_none part p)
 
     word_same : (part : Part) (w : ℕ) → has_word (nothing_placed ∷ earlier) part w ≡ has_word earlier part w
-    word_same part w =
-        ap (λ b. b || is_placed (nothing_placed ∷ earlier) part (2 * w + 1)) (placed_same part (2 * w))
-        ∙ ap (λ b. is_placed earlier part (2 * w) || b) (placed_same part (2 * w + 1))
+    word_same part w = rw (covers_none part (2 * w), covers_none part (2 * w + 1)) refl
 
     words_same : (part : Part) → words_in (nothing_placed ∷ earlier) part ≡ words_in earlier part
     words_same part = count_same (has_word earlier part) (has_word (nothing_placed ∷ earlier) part) 0 part_words (λ w le. word_same part w)
 
     count_same_here : word_count (nothing_placed ∷ earlier) ≡ word_count earlier
-    count_same_here =
-        ap (λ count. count + words_in (nothing_placed ∷ earlier) part.Absolute) (words_same part.Relocatable)
-        ∙ ap (λ count. words_in earlier part.Relocatable + count) (words_same part.Absolute)
+    count_same_here = rw (words_same part.Relocatable, words_same part.Absolute) refl
 
     pub room_for_nothing : word_count earlier ≤ 32768 → with_room earlier nothing_placed ≡ Ok nothing_placed
     room_for_nothing most = has_room earlier nothing_placed (omega (arith, most, count_same_here)) refl

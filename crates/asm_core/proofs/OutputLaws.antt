@@ -1,6 +1,6 @@
 -- A line that comes to the place that was held for it.
 use Rattle.std.proofs.Common.{◌≡◌, ◌+◌, ◌≤◌, Bool, true, false, List, [], Some, None, Ok, Err, length, refl, sym, ap, subst, ◌∙◌, arith}
-use Rattle.std.specs.Prelude.{Option, Result, map, OnOk, OnErr, if◌then◌else◌}
+use Rattle.std.specs.Prelude.{Option, Result, map, OnErr, if◌then◌else◌}
 use Rattle.object_defs.specs.Modules.{Reference}
 use Rattle.object_tags.specs.Seen.{model_of_ref}
 use Rattle.asm_defs.specs.declared.content.Content.{Content}
@@ -67,7 +67,3 @@ first_image founds image empty none = λ references. subst (λ lines. IsImage re
 pub on_err : {A E P : Type 0} (result : Result A E) → P → OnErr result P
 on_err (Ok value) holds = tt
 on_err (Err error) holds = holds
-
-pub on_ok : {A E P : Type 0} (result : Result A E) → P → OnOk result P
-on_ok (Ok value) holds = holds
-on_ok (Err error) holds = tt

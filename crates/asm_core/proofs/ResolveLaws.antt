@@ -49,8 +49,7 @@ module _ (known : Names) where
   pub answer_is : (before : List Line) (line : Line) (pending : Pending) → IsOf before line pending
       → answer_to known pending ≡ outcome (look_up known) (place before line) line.statement
   answer_is before line pending is =
-      ap (λ parsed. parsed >>= outcome (look_up known) pending.at) is.parsed
-      ∙ ap (λ (at : Location). outcome (look_up known) at line.statement) is.at
+      rw (is.parsed, is.at) refl
 
   pub assemble_by : (before : List Line) (line : Line) (done : List AssembledLine) (answer : Result Outcome AsmCause)
       → outcome (look_up known) (place before line) line.statement ≡ answer
@@ -107,52 +106,16 @@ module _ (known : Names) where
 pub refuses_by : {A B : Type 0} (failure : Failure) (number : ℕ) (answer : Result A AsmCause) (whole : Result B (Refusal AsmCause)) → Fails failure answer
     → ((refused : AsmCause) → answer ≡ Err refused → whole ≡ Err (record { line = number; cause = refused })) → RefusesAt (refusal_at number failure) whole
 refuses_by Memory number answer whole fails goes = tt
-refuses_by (Refused (cause.Text error)) number answer whole fails goes = goes (cause.Text error) fails
-refuses_by (Refused (cause.Expr expr.BadToken)) number answer whole fails goes = goes _ fails
-refuses_by (Refused (cause.Expr expr.UnknownName)) number answer whole fails goes = goes _ fails
-refuses_by (Refused (cause.Expr expr.BadRelocation)) number answer whole fails goes = goes _ fails
-refuses_by (Refused (cause.Expr expr.TooLarge)) number answer whole fails goes = goes _ fails
-refuses_by (Refused (cause.Expr expr.DivideByZero)) number answer whole fails goes = goes _ fails
 refuses_by (Refused (cause.Expr expr.Memory)) number answer whole fails goes = absurd fails
-refuses_by (Refused (cause.Form form.UnknownOperation)) number answer whole fails goes = goes _ fails
-refuses_by (Refused (cause.Form form.OperandCount)) number answer whole fails goes = goes _ fails
-refuses_by (Refused (cause.Form form.BadOperand)) number answer whole fails goes = goes _ fails
-refuses_by (Refused (cause.Form form.JumpTooFar)) number answer whole fails goes = goes _ fails
 refuses_by (Refused (cause.Form form.Memory)) number answer whole fails goes = absurd fails
-refuses_by (Refused (cause.Form (form.Expr expr.BadToken))) number answer whole fails goes = goes _ fails
-refuses_by (Refused (cause.Form (form.Expr expr.UnknownName))) number answer whole fails goes = goes _ fails
-refuses_by (Refused (cause.Form (form.Expr expr.BadRelocation))) number answer whole fails goes = goes _ fails
-refuses_by (Refused (cause.Form (form.Expr expr.TooLarge))) number answer whole fails goes = goes _ fails
-refuses_by (Refused (cause.Form (form.Expr expr.DivideByZero))) number answer whole fails goes = goes _ fails
 refuses_by (Refused (cause.Form (form.Expr expr.Memory))) number answer whole fails goes = absurd fails
-refuses_by (Refused cause.DuplicateLabel) number answer whole fails goes = goes _ fails
-refuses_by (Refused cause.BadDirective) number answer whole fails goes = goes _ fails
-refuses_by (Refused cause.Overflow) number answer whole fails goes = goes _ fails
-refuses_by (Refused cause.Overlap) number answer whole fails goes = goes _ fails
+refuses_by _ number answer whole fails goes = goes _ fails
 
 -- a refusal goes on
 pub refuses_on : {A B : Type 0} (refused : AsmError) (defined : Result A (Refusal AsmCause)) (whole : Result B (Refusal AsmCause))
     → ((refusal : Refusal AsmCause) → defined ≡ Err refusal → whole ≡ Err refusal) → RefusesAt refused defined → RefusesAt refused whole
 refuses_on error.Memory defined whole goes refuses = tt
-refuses_on (error.At line (cause.Text error)) defined whole goes refuses = goes _ refuses
-refuses_on (error.At line (cause.Expr expr.BadToken)) defined whole goes refuses = goes _ refuses
-refuses_on (error.At line (cause.Expr expr.UnknownName)) defined whole goes refuses = goes _ refuses
-refuses_on (error.At line (cause.Expr expr.BadRelocation)) defined whole goes refuses = goes _ refuses
-refuses_on (error.At line (cause.Expr expr.TooLarge)) defined whole goes refuses = goes _ refuses
-refuses_on (error.At line (cause.Expr expr.DivideByZero)) defined whole goes refuses = goes _ refuses
-refuses_on (error.At line (cause.Form form.UnknownOperation)) defined whole goes refuses = goes _ refuses
-refuses_on (error.At line (cause.Form form.OperandCount)) defined whole goes refuses = goes _ refuses
-refuses_on (error.At line (cause.Form form.BadOperand)) defined whole goes refuses = goes _ refuses
-refuses_on (error.At line (cause.Form form.JumpTooFar)) defined whole goes refuses = goes _ refuses
-refuses_on (error.At line (cause.Form (form.Expr expr.BadToken))) defined whole goes refuses = goes _ refuses
-refuses_on (error.At line (cause.Form (form.Expr expr.UnknownName))) defined whole goes refuses = goes _ refuses
-refuses_on (error.At line (cause.Form (form.Expr expr.BadRelocation))) defined whole goes refuses = goes _ refuses
-refuses_on (error.At line (cause.Form (form.Expr expr.TooLarge))) defined whole goes refuses = goes _ refuses
-refuses_on (error.At line (cause.Form (form.Expr expr.DivideByZero))) defined whole goes refuses = goes _ refuses
-refuses_on (error.At line cause.DuplicateLabel) defined whole goes refuses = goes _ refuses
-refuses_on (error.At line cause.BadDirective) defined whole goes refuses = goes _ refuses
-refuses_on (error.At line cause.Overflow) defined whole goes refuses = goes _ refuses
-refuses_on (error.At line cause.Overlap) defined whole goes refuses = goes _ refuses
 refuses_on (error.At line (cause.Expr expr.Memory)) defined whole goes refuses = absurd refuses
 refuses_on (error.At line (cause.Form form.Memory)) defined whole goes refuses = absurd refuses
 refuses_on (error.At line (cause.Form (form.Expr expr.Memory))) defined whole goes refuses = absurd refuses
+refuses_on _ defined whole goes refuses = goes _ refuses

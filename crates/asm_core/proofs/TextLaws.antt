@@ -15,18 +15,17 @@ use Rattle.object_defs.specs.Modules.{Module, Definition, Reference, HasText, St
 use Rattle.asm_defs.specs.declared.causes.AsmCause.{AsmCause}
 use Rattle.asm_defs.specs.declared.causes.AsmCause.TheVariants.{Overflow, Overlap}
 use Rattle.asm_defs.specs.declared.content.Content.{Content}
-use Rattle.asm_defs.specs.declared.content.Content.TheVariants.{Byte, First, Second}
+use Rattle.asm_defs.specs.declared.content.Content.TheVariants.{Second}
 use Rattle.asm_defs.specs.declared.location.Part.{Part}
 use Rattle.asm_defs.specs.declared.location.Part.TheVariants as part
 use Rattle.asm_defs.specs.declared.location.Location.{Location}
-use Rattle.asm_defs.specs.Statements.{Statement, Nothing, Instruction, Aorg, Rorg, Dorg, Bss, Bes, Even, Equ, Data, Byte as ByteLine, Text, Def, Ref, Idt}
-use Rattle.asm_defs.specs.Statements.{Titl, End}
+use Rattle.asm_defs.specs.Statements.{Statement, Def, Ref}
 use Rattle.asm_defs.specs.Locations.{Line, place}
 use Rattle.asm_defs.specs.FirstChecks.{check, names, checked, known_of, line_of, lists_too_many, has_too_many, defs, refs, defs_in, refs_in}
 use Rattle.asm_defs.specs.SecondChecks.{Outcome, Words, Bytes, Entry, outcome}
 use Rattle.asm_defs.specs.SecondChecks as second
 use Rattle.asm_defs.specs.Memory.{AssembledLine, spot_by, joined, pieces_at, pieces_from, pieces_in, content_at, has_word, words_in, word_count, count_from}
-use Rattle.asm_defs.specs.Memory.{part_words, with_use, behind_word, behind_by, references_of, is_placed_in, is_placed, overlaps}
+use Rattle.asm_defs.specs.Memory.{part_words, with_use, behind_word, behind_by, references_of, is_placed_in, overlaps}
 use Rattle.asm_defs.proofs.PlacedWords.{behind_words}
 use Rattle.asm_defs.specs.Modules.{assembled_line, module_by, module_of, definition_in, unused}
 use Rattle.asm_defs.proofs.CheckLaws.{bound, checked_few}
@@ -42,8 +41,7 @@ all_append P (item ∷ first) second all others = (all.0, all_append P first sec
 
 spot_even : (at : Part) (w : ℕ) → number_of (spot_by at (2 * w)) % 2 ≡ 0
 spot_even part.Relocatable w = omega arith
-spot_even part.Absolute w = omega arith
-spot_even part.Dummy w = omega arith
+spot_even _ w = omega arith
 
 words_even : (at : Part) (w : ℕ) (words : List Spot) → AllByRecursion StandsEven (map (λ word. record { at = spot_by at (2 * w); word = word }) words)
 words_even at w [] = tt
@@ -58,10 +56,8 @@ pieces_even content at first (suc n) =
 -- there are as many as words are placed
 joined_length : (high low : Option Content) → length (joined high low) ≡ one_if (is_some high || is_some low)
 joined_length None None = refl
-joined_length None (Some content) = refl
-joined_length (Some (Byte byte)) low = refl
-joined_length (Some (First word)) low = refl
 joined_length (Some Second) low = refl
+joined_length _ low = refl
 
 abbrev holds_word : (ℕ → Option Content) → ℕ → Bool
 holds_word content w = is_some (content (2 * w)) || is_some (content (2 * w + 1))
@@ -80,9 +76,7 @@ pieces_length content at first (suc n) =
 
 module _ (start : List Reference) (lines : List AssembledLine) where
   some_word : (at : Part) (w : ℕ) → holds_word (content_at start lines at) w ≡ has_word lines at w
-  some_word at w =
-      ap (λ b. b || is_some (content_at start lines at (2 * w + 1))) (content_some start lines at (2 * w))
-      ∙ ap (λ b. is_placed lines at (2 * w) || b) (content_some start lines at (2 * w + 1))
+  some_word at w = rw (content_some start lines at (2 * w), content_some start lines at (2 * w + 1)) refl
 
   pieces_count : (at : Part) → length (pieces_in (content_at start lines at) at) ≡ words_in lines at
   unfolding part_words
@@ -149,21 +143,7 @@ none_more before le = omega (arith, le, length-append before [])
 fits : (before : List Line) (statement : Statement) → AtMost before → lists_too_many (known_of before) statement ≡ false → Fits before statement
 fits before (Def names) most e = record { defs = few (defs before) names e; refs = none_more (refs before) most.refs }
 fits before (Ref names) most e = record { defs = none_more (defs before) most.defs; refs = few (refs before) names e }
-fits before Nothing most e = record { defs = none_more (defs before) most.defs; refs = none_more (refs before) most.refs }
-fits before (Instruction size operation field) most e = record { defs = none_more (defs before) most.defs; refs = none_more (refs before) most.refs }
-fits before (Aorg text) most e = record { defs = none_more (defs before) most.defs; refs = none_more (refs before) most.refs }
-fits before (Rorg text) most e = record { defs = none_more (defs before) most.defs; refs = none_more (refs before) most.refs }
-fits before (Dorg text) most e = record { defs = none_more (defs before) most.defs; refs = none_more (refs before) most.refs }
-fits before (Bss text) most e = record { defs = none_more (defs before) most.defs; refs = none_more (refs before) most.refs }
-fits before (Bes text) most e = record { defs = none_more (defs before) most.defs; refs = none_more (refs before) most.refs }
-fits before Even most e = record { defs = none_more (defs before) most.defs; refs = none_more (refs before) most.refs }
-fits before (Equ text) most e = record { defs = none_more (defs before) most.defs; refs = none_more (refs before) most.refs }
-fits before (Data texts) most e = record { defs = none_more (defs before) most.defs; refs = none_more (refs before) most.refs }
-fits before (ByteLine texts) most e = record { defs = none_more (defs before) most.defs; refs = none_more (refs before) most.refs }
-fits before (Text quoted) most e = record { defs = none_more (defs before) most.defs; refs = none_more (refs before) most.refs }
-fits before (Idt text) most e = record { defs = none_more (defs before) most.defs; refs = none_more (refs before) most.refs }
-fits before (Titl text) most e = record { defs = none_more (defs before) most.defs; refs = none_more (refs before) most.refs }
-fits before (End text) most e = record { defs = none_more (defs before) most.defs; refs = none_more (refs before) most.refs }
+fits before _ most e = record { defs = none_more (defs before) most.defs; refs = none_more (refs before) most.refs }
 
 line_most : (before : List Line) (number : ℕ) (text : List ℕ) (line : Line) → AtMost before → check before number text ≡ Ok line → AtMost (line ∷ before)
 line_most before number text line most e =

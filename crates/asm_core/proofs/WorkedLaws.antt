@@ -133,9 +133,7 @@ module _ (known more : Names) (grows : Grows known more) (lines : List Line) (li
         found = record { at = place lines line; outcome = comes.found }
 
         outcome_is : outcome (look_up known) (place lines line) line.statement ≡ Ok comes.found
-        outcome_is =
-            ap (λ (at : Location). outcome (look_up known) at line.statement) (sym is_at)
-            ∙ (ap (λ (statement : Statement). outcome (look_up known) at statement) (sym is_statement) ∙ comes.comes)
+        outcome_is = rw (← is_at, ← is_statement) comes.comes
 
         is_known : IsKnown more (onto [] going.order) line found
         is_known =
@@ -218,9 +216,7 @@ module _ (known more : Names) (grows : Grows known more) (lines : List Line) (li
       module _ (statement : Statement) (is_statement : statement ≡ line.statement) (cause : AsmCause) (refused : IsRefused known at statement cause)
           (is_waiting : old.waiting.items ≡ waiting) where
         answer_is : outcome (look_up known) at statement ≡ outcome (look_up known) (place lines line) line.statement
-        answer_is =
-            ap (λ (at : Location). outcome (look_up known) at statement) is_at
-            ∙ ap (λ (statement : Statement). outcome (look_up known) (place lines line) statement) is_statement
+        answer_is = rw (is_at, is_statement) refl
 
         refused_is : outcome (look_up known) (place lines line) line.statement ≡ Err cause
         refused_is = sym answer_is ∙ caused cause (outcome (look_up known) at statement) refused.causes

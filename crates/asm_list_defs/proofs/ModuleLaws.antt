@@ -1,8 +1,9 @@
 -- The listing of an accepted source shows its module.
-use Rattle.std.proofs.Common.{◌≡◌, ℕ, zero, suc, ◌+◌, ◌-◌, ◌<◌, ◌≤◌, Bool, true, false, ◌&&◌, ◌||◌, List, [], ◌∷◌, ◌++◌, Some, Ok, Err, refl, sym, ap, subst, ◌∙◌, arith}
+use Rattle.std.proofs.Common.{inl, inr, ◌≡◌, ℕ, zero, suc, ◌+◌, ◌-◌, ◌<◌, ◌≤◌, Bool, true, false, ◌&&◌, List, [], ◌∷◌}
+use Rattle.std.proofs.Common.{◌++◌, Some, Ok, Err, refl, sym, ap, subst, ◌∙◌, arith}
 use Rattle.std.specs.Prelude.{⊤, Result, map, if◌then◌else◌, nat_le, nat_lt, slice_get}
 use Rattle.std.proofs.lemmas.Bool.Decides.{nat_tests}
-use Rattle.std.proofs.lemmas.Bool.{and_parts, or_parts, or_right}
+use Rattle.std.proofs.lemmas.Bool.{and_parts, or_parts, or_right, cases_lt}
 use Rattle.source_defs.specs.Refusals.{Refusal, at_line}
 use Rattle.expression_defs.specs.Symbols.{Names, look_up}
 use Rattle.expression_defs.specs.Layout.{assembled_lines}
@@ -74,16 +75,14 @@ module _ (known : Names) where
         room = (one.1, others.room);
       })
 
--- no number among some has a property that none of them has
-free_by : (f : ℕ → Bool) (from p : ℕ) (b : Bool) → nat_lt from p ≡ b → from ≤ p → f from ≡ false → (from + 1 ≤ p → f p ≡ false) → f p ≡ false
-free_by f from p true e ge here later = let more : from + 1 ≤ p = grind (arith, nat_tests, e) in later more
-free_by f from p false e ge here later = let same : from ≡ p = grind (arith, nat_tests, e, ge) in ap f (sym same) ∙ here
-
 each_free : (f : ℕ → Bool) (from n p : ℕ) → any_from f from n ≡ false → from ≤ p → p < from + n → f p ≡ false
 each_free f from zero p free ge lt = absurd (omega (arith, ge, lt))
 each_free f from (suc n) p free ge lt =
     let parts = or_parts (f from) (any_from f (from + 1) n) free in
-    free_by f from p (nat_lt from p) refl ge parts.0 (λ later. each_free f (from + 1) n p parts.1 later (omega (arith, lt)))
+    elim (cases_lt from p) [
+      inl less ↦ each_free f (from + 1) n p parts.1 (omega arith) (omega arith)
+    | inr most ↦ let same : from ≡ p = omega arith in ap f (sym same) ∙ parts.0
+    ]
 
 abbrev same_parts : Part → Part → Type 0
 same_parts a b = a ≡ b
@@ -106,7 +105,7 @@ covers_own line k placed lt =
 
 -- they are placed behind it too
 still_placed : (later before : List AssembledLine) (line : AssembledLine) (p : Part) (n : ℕ) → covers line p n ≡ true → is_placed (later ++ line ∷ before) p n ≡ true
-still_placed [] before line p n own = ap (λ b. b || is_placed before p n) own
+still_placed [] before line p n own = rw own refl
 still_placed (other ∷ later) before line p n own = or_right (covers other p n) (is_placed (later ++ line ∷ before) p n) (still_placed later before line p n own)
 
 -- a line that has room covers no place of those before it
@@ -124,9 +123,6 @@ apart_by earlier other p n true free placed e =
     let not_placed : is_placed earlier p n ≡ false = ap (λ (found : Part). is_placed earlier found n) (sym same) ∙ none in
     cc (placed, not_placed)
 
-chosen : {A : Type 0} (test b : Bool) (one other : A) → test ≡ b → (if test then one else other) ≡ (if b then one else other)
-chosen test b one other e = ap (λ b. if b then one else other) e
-
 module _ (references : List Reference) (line : AssembledLine) (before : List AssembledLine) (k : ℕ) (placed : is_placed_in line.at.part ≡ true)
     (within : k < bytes_in line.outcome) where
   abbrev p : Part
@@ -142,11 +138,10 @@ module _ (references : List Reference) (line : AssembledLine) (before : List Ass
       → content_at references (later ++ line ∷ before) p n ≡ slice_get (contents references before line) k
   stands [] room =
       let back : line.at.number + k - line.at.number ≡ k = omega arith in
-      chosen (covers line p n) true (slice_get (contents references before line) (n - line.at.number)) (content_at references before p n) own
-      ∙ ap (slice_get (contents references before line)) back
+      rw (own, back) refl
   stands (other ∷ later) room =
       let apart = apart_by (later ++ line ∷ before) other p n (covers other p n) room.0 (still_placed later before line p n own) refl in
-      chosen (covers other p n) false _ (content_at references (later ++ line ∷ before) p n) apart ∙ stands later room.1
+      rw apart (stands later room.1)
 
 all_stand : (references : List Reference) (found : List AssembledLine) → AllRoom found → StandAtTheirPlaces references found
 all_stand references found room later before line k is placed within =

@@ -44,8 +44,7 @@ joined_applies p a x y (c ∷ cs) = by (nat_eq c.at (length p + 1)) (nat_eq c.by
         let byte : c.byte ≡ y = grind (arith, nat_tests) in
         ap (applied cs) (more p a x y c.count
         ∙ ap₂ (λ (k : ℕ) (z : ℕ). changed (record { at = k; byte = z; count = c.count }) (p ++ y ∷ a)) (sym at) (sym byte))
-    by true false e f = ap (λ t. applied cs (changed c t)) (one p a x y)
-    by false same e f = ap (λ t. applied cs (changed c t)) (one p a x y)
+    by _ _ e f = ap (λ t. applied cs (changed c t)) (one p a x y)
 
 -- one byte more in the front, by what holds of the rest
 ahead : (p a b : List ℕ) (z : ℕ) → applied (changes_from (length (p ++ z ∷ [])) a b) ((p ++ z ∷ []) ++ a) ≡ (p ++ z ∷ []) ++ b

@@ -1,28 +1,23 @@
 -- The changes of the steps of a run give its states.
-use Rattle.std.proofs.Common.{◌≡◌, ℕ, zero, suc, ◌+◌, List, Some, Result, Ok, Err, refl, sym, ap, ◌∙◌, arith}
+use Rattle.std.proofs.Common.{◌≡◌, ℕ, zero, suc, ◌+◌, Some, Result, Ok, Err, refl, sym, ap, ◌∙◌, arith}
 use Rattle.std.specs.Prelude.{IfOk}
 use Rattle.gpl_step_defs.specs.declared.reason.Reason.{Reason}
 use Rattle.gpl_step_defs.specs.State.{GplState, IsState}
 use Rattle.gpl_step_defs.specs.Step.{step}
 use Rattle.gpl_step_defs.specs.Run.{GplRun, one_more, run}
 use Rattle.gpl_step_defs.proofs.KeptSteps.{steps_keep_states}
-use Rattle.report_defs.specs.Trace.{SeenState, seen_state}
-use Rattle.change_defs.specs.Changes.{changes, applied}
+use Rattle.report_defs.specs.Trace.{seen_state}
 use Rattle.change_defs.specs.Steps.{step_changes, state_applied, changes_after, RunChangesLead}
 use Rattle.change_defs.proofs.Lead.{changes_lead}
-
-abbrev seen : List ℕ → List ℕ → List ℕ → SeenState
-seen c v r = record { cells = c; vdp = v; registers = r }
 
 state_changes_lead : (s next : GplState) → IsState s → IsState next
     → state_applied (step_changes (seen_state s) (seen_state next)) (seen_state s) ≡ seen_state next
 state_changes_lead s next p q =
-    ap (λ c. seen c (applied (changes s.vdp next.vdp) s.vdp) (applied (changes s.registers next.registers) s.registers))
-    (changes_lead s.cells next.cells (p.cells.size ∙ sym q.cells.size))
-    ∙ ap (λ v. seen next.cells v (applied (changes s.registers next.registers) s.registers))
-    (changes_lead s.vdp next.vdp (p.vdp.size ∙ sym q.vdp.size))
-    ∙ ap (λ r. seen next.cells next.vdp r)
-    (changes_lead s.registers next.registers (p.registers.size ∙ sym q.registers.size))
+    rw (
+      changes_lead s.cells next.cells (p.cells.size ∙ sym q.cells.size),
+      changes_lead s.vdp next.vdp (p.vdp.size ∙ sym q.vdp.size),
+      changes_lead s.registers next.registers (p.registers.size ∙ sym q.registers.size),
+    ) refl
 
 abbrev pub LeavesState : GplRun → Type 0
 LeavesState r = IsState r.last

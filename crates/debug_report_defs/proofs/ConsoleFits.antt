@@ -1,5 +1,5 @@
 -- Every instruction leaves a machine whose bytes and words fit.
-use Rattle.std.proofs.Common.{ℕ, zero, suc, ◌+◌, ◌%◌, ◌<◌, Bool, true, false, List, Option, Some, None, arith}
+use Rattle.std.proofs.Common.{ℕ, zero, suc, ◌+◌, ◌%◌, ◌<◌, Bool, true, false, List, Option, Some, None, arith, rules}
 use Rattle.std.specs.Prelude.{slice_index, IfSome}
 use Rattle.tms_defs.specs.Words.{even, high, low}
 use Rattle.tms_defs.specs.Bytes.{HoldsBytes, word_in, with_word_in}
@@ -24,33 +24,19 @@ word_set count bytes at w lt h = set_keeps count _ (at + 1) (low w) (set_keeps c
 
 module _ (m : Memory) (is : IsMemory m) where
   with_vdp : (v : VdpState) → IsVdp v → IsMemory (record m { vdp = v })
-  with_vdp v k = record {
-    scratchpad = is.scratchpad;
-    low_expansion = is.low_expansion;
-    high_expansion = is.high_expansion;
-    rom = is.rom;
-    vdp = k;
-    grom = is.grom;
-  }
+  with_vdp v k = search rules
 
   with_grom : (g : GromState) → IsGrom g → IsMemory (record m { grom = g })
-  with_grom g k = record {
-    scratchpad = is.scratchpad;
-    low_expansion = is.low_expansion;
-    high_expansion = is.high_expansion;
-    rom = is.rom;
-    vdp = is.vdp;
-    grom = k;
-  }
+  with_grom g k = search rules
 
   pub with_pad : (bytes : List ℕ) → HoldsBytes 256 bytes → IsMemory (record m { scratchpad = bytes })
-  with_pad bytes k = record { scratchpad = k; low_expansion = is.low_expansion; high_expansion = is.high_expansion; rom = is.rom; vdp = is.vdp; grom = is.grom }
+  with_pad bytes k = search rules
 
   pub with_low : (bytes : List ℕ) → HoldsBytes 8192 bytes → IsMemory (record m { low_expansion = bytes })
-  with_low bytes k = record { scratchpad = is.scratchpad; low_expansion = k; high_expansion = is.high_expansion; rom = is.rom; vdp = is.vdp; grom = is.grom }
+  with_low bytes k = search rules
 
   pub with_high : (bytes : List ℕ) → HoldsBytes 24576 bytes → IsMemory (record m { high_expansion = bytes })
-  with_high bytes k = record { scratchpad = is.scratchpad; low_expansion = is.low_expansion; high_expansion = k; rom = is.rom; vdp = is.vdp; grom = is.grom }
+  with_high bytes k = search rules
 
   read : (r : Region) (a : ℕ) → Holds (λ (w : ℕ). w < 65536) (word_read_in r m a)
   read (Rom at) a = holds _ (word_in_fits 8192 m.rom at is.rom)

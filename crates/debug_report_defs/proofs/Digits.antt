@@ -10,6 +10,11 @@ use Rattle.source_defs.specs.Digits.{byte_digits, word_digits}
 use Rattle.listed_lines.proofs.DigitLaws.{digits_pass, digit_passes, eqb_same}
 use Rattle.debug_report_defs.specs.LineFronts.{decimal_value, hexadecimal_value}
 
+-- what both branches have
+pub cond_both : {A : Type 0} (P : A → Type 0) (b : Bool) (x y : A) → P x → P y → P (cond b x y)
+cond_both P true x y p q = p
+cond_both P false x y p q = q
+
 -- ---- tests
 
 -- a test that every decimal digit passes
@@ -18,17 +23,12 @@ decimals_pass p = agree_below (λ d. p (digit_glyph false d)) (λ d. true) 10
 
 onto_passes : (p : ℕ → Bool) → decimals_pass p ≡ true → (k n : ℕ) (acc : List ℕ) → list_all p acc ≡ true → list_all p (digits_onto k 10 false n acc) ≡ true
 onto_passes p e zero n acc all = all
-onto_passes p e (suc k) n acc all = by (nat_eq (n / 10) 0) (onto_passes p e k (n / 10) (digit_glyph false (n % 10) ∷ acc))
-  where
-    more : list_all p (digit_glyph false (n % 10) ∷ acc) ≡ true
-    more = let glyph : p (digit_glyph false (n % 10)) ≡ true = agree_below_at (λ d. p (digit_glyph false d)) (λ d. true) 10 (n % 10) e
-        (omega arith) in rw glyph all
-
-    by : (last : Bool) → (list_all p (digit_glyph false (n % 10) ∷ acc) ≡ true → list_all p
-        (digits_onto k 10 false (n / 10) (digit_glyph false (n % 10) ∷ acc)) ≡ true)
-        → list_all p (cond last (digit_glyph false (n % 10) ∷ acc) (digits_onto k 10 false (n / 10) (digit_glyph false (n % 10) ∷ acc))) ≡ true
-    by true rest = more
-    by false rest = rest more
+onto_passes p e (suc k) n acc all =
+    let glyph : p (digit_glyph false (n % 10)) ≡ true =
+    agree_below_at (λ d. p (digit_glyph false d)) (λ d. true) 10 (n % 10) e (omega arith) in
+    let more : list_all p (digit_glyph false (n % 10) ∷ acc) ≡ true = rw glyph all in
+    cond_both (λ text. list_all p text ≡ true) (nat_eq (n / 10) 0) _ _ more
+    (onto_passes p e k (n / 10) (digit_glyph false (n % 10) ∷ acc) more)
 
 pub decimal_passes : (p : ℕ → Bool) (n : ℕ) → decimals_pass p ≡ true → list_all p (decimal n) ≡ true
 unfolding digits
@@ -53,18 +53,18 @@ digit_back d =
     eqb_same _ _
     (agree_below_at (λ d. eqb (digit_value (hexadecimal_digit d)) d) (λ d. true) 16 (d % 16) refl (omega arith))
 
+pub decimal_digit_back : (d : ℕ) → d < 10 → digit_value (0x30 + d) ≡ d
+decimal_digit_back d lt = eqb_same _ _ (agree_below_at (λ d. eqb (digit_value (0x30 + d)) d) (λ d. true) 10 d refl lt)
+
 pub decimal_back : (n : ℕ) → n < 2 ^ 64 → decimal_value (decimal n) ≡ n
 decimal_back n lt = decimal_by_steps (λ n text. decimal_value text ≡ n) one more n lt
   where
-    digit : (d : ℕ) → d < 10 → digit_value (48 + d) ≡ d
-    digit d lt = eqb_same _ _ (agree_below_at (λ d. eqb (digit_value (48 + d)) d) (λ d. true) 10 d refl lt)
-
     one : (n : ℕ) → n < 10 → decimal_value ((48 + n) ∷ []) ≡ n
-    one n lt = omega (arith, digit n lt)
+    one n lt = omega (arith, decimal_digit_back n lt)
 
     more : (n : ℕ) (ds : List ℕ) → 10 ≤ n → decimal_value ds ≡ n / 10 → decimal_value (ds ++ ((48 + n % 10) ∷ [])) ≡ n
     more n ds ge rest =
-        let last : digit_value (48 + n % 10) ≡ n % 10 = digit (n % 10) (omega arith) in
+        let last : digit_value (48 + n % 10) ≡ n % 10 = decimal_digit_back (n % 10) (omega arith) in
         value_append 10 0 ds ((48 + n % 10) ∷ []) ∙ omega (arith, rest, last)
 
 pub word_back : (n : ℕ) → n < 65536 → hexadecimal_value (word_digits n) ≡ n

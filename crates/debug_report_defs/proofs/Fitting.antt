@@ -1,5 +1,6 @@
 -- The changes of a step can be written.
-use Rattle.std.proofs.Common.{◌≡◌, ℕ, suc, ◌+◌, ◌^◌, ◌<◌, ◌≤◌, Bool, true, false, cond, nat_eq, ◌&&◌, List, [], ◌∷◌, length, refl, arith}
+use Rattle.std.proofs.Common.{◌≡◌, ℕ, suc, ◌+◌, ◌^◌, ◌<◌, ◌≤◌, Bool, true, cond, nat_eq, ◌&&◌, List, [], ◌∷◌, length}
+use Rattle.std.proofs.Common.{refl, arith}
 use Rattle.std.specs.Prelude.{slice_index}
 use Rattle.std.proofs.lemmas.Bool.Decides.{nat_tests}
 use Rattle.tms_defs.specs.Bytes.{HoldsBytes}
@@ -10,6 +11,7 @@ use Rattle.change_defs.specs.declared.part.Part.TheVariants.{Cells, Video, Regis
 use Rattle.change_defs.specs.Changes.{Change, joined, changes_from, changes}
 use Rattle.change_defs.specs.Steps.{step_changes}
 use Rattle.change_defs.specs.Text.{size_of}
+use Rattle.debug_report_defs.proofs.Digits.{cond_both}
 use Rattle.debug_report_defs.proofs.TextRead.{AllFit, FitSteps}
 
 -- a change is inside of a size, and has a byte
@@ -31,18 +33,13 @@ joined_inside size at byte (c ∷ cs) is_byte le all = by (nat_eq c.at (at + 1))
     by true true e =
         let place : c.at ≡ at + 1 = grind (arith, nat_tests) in
         (record { byte = is_byte; some = omega arith; end = omega (arith, all.0.end, place) }, all.1)
-    by true false e = (record { byte = is_byte; some = omega arith; end = le }, all)
-    by false same e = (record { byte = is_byte; some = omega arith; end = le }, all)
+    by _ _ e = (record { byte = is_byte; some = omega arith; end = le }, all)
 
 pub changes_inside : (size at : ℕ) (before after : List ℕ) → ((k : ℕ) → slice_index after k < 256) → at + length after ≤ size
     → AllInside size (changes_from at before after)
 changes_inside size at (x ∷ before) (y ∷ after) fits le =
-    by (nat_eq x y) (changes_inside size (at + 1) before after (λ k. fits (suc k)) (omega arith))
-  where
-    by : (same : Bool) → AllInside size (changes_from (at + 1) before after)
-        → AllInside size (cond same (changes_from (at + 1) before after) (joined at y (changes_from (at + 1) before after)))
-    by true rest = rest
-    by false rest = joined_inside size at y (changes_from (at + 1) before after) (fits 0) (omega arith) rest
+    let rest = changes_inside size (at + 1) before after (λ k. fits (suc k)) (omega arith) in
+    cond_both (AllInside size) (nat_eq x y) _ _ rest (joined_inside size at y _ (fits 0) (omega arith) rest)
 changes_inside size at _ _ fits le = tt
 
 small : (part : Part) → size_of part < 2 ^ 64

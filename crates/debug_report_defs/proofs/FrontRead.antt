@@ -1,21 +1,20 @@
 -- The fronts of lines are found and read.
-use Rattle.std.proofs.Common.{◌≡◌, ℕ, zero, suc, ◌-◌, ◌/◌, ◌%◌, ◌^◌, ◌<◌, Bool, true, false, cond, nat_eq, List, [], ◌∷◌, ◌++◌}
+use Rattle.std.proofs.Common.{◌≡◌, ℕ, zero, suc, ◌-◌, ◌/◌, ◌%◌, ◌^◌, ◌<◌, true, false, nat_eq, List, [], ◌∷◌, ◌++◌}
 use Rattle.std.proofs.Common.{length, replicate, refl, ap, ◌∙◌, append_assoc, arith}
 use Rattle.std.specs.Prelude.{◌==◌, codes, drop}
 use Rattle.std.specs.List.{list_all}
 use Rattle.std.specs.Fmt.{decimal, digits, digits_onto, digit_glyph}
 use Rattle.source_defs.specs.Digits.{word_digits, byte_digits, hex_word}
 use Rattle.report_defs.specs.Trace.{number_text}
-use Rattle.listed_lines.proofs.Scans.{and_left, and_right, not_true}
-use Rattle.debug_report_defs.proofs.Digits.{decimal_passes, decimal_back, word_back}
+use Rattle.listed_lines.proofs.Scans.{all_both, and_left, and_right, not_true}
+use Rattle.debug_report_defs.proofs.Digits.{cond_both, decimal_passes, decimal_back, word_back}
 use Rattle.debug_report_defs.specs.LineFronts.{decimal_value, after_blanks, first_word, after_word, number_in, after_number, word_digits_at}
 use Rattle.debug_report_defs.proofs.LineSplit.{in_front, in_word}
 
 -- ---- bytes of a front
 
 pub front_all : (xs ys : List ℕ) → list_all in_front xs ≡ true → list_all in_front ys ≡ true → list_all in_front (xs ++ ys) ≡ true
-front_all [] ys e f = f
-front_all (x ∷ xs) ys e f = rw (and_left (in_front x) (list_all in_front xs) e) (front_all xs ys (and_right (in_front x) (list_all in_front xs) e) f)
+front_all = all_both in_front
 
 blanks_front : (n : ℕ) → list_all in_front (replicate n 0x20) ≡ true
 blanks_front zero = refl
@@ -45,20 +44,14 @@ at_word (byte ∷ word) rest some e = rw (not_true (byte == 0x20) (and_left (in_
 
 onto_some : (k n : ℕ) (acc : List ℕ) → 0 < length acc → 0 < length (digits_onto k 10 false n acc)
 onto_some zero n acc some = some
-onto_some (suc k) n acc some = by (nat_eq (n / 10) 0) (onto_some k (n / 10) (digit_glyph false (n % 10) ∷ acc) (omega arith))
-  where
-    by : (last : Bool) → 0 < length (digits_onto k 10 false (n / 10) (digit_glyph false (n % 10) ∷ acc))
-        → 0 < length (cond last (digit_glyph false (n % 10) ∷ acc) (digits_onto k 10 false (n / 10) (digit_glyph false (n % 10) ∷ acc)))
-    by true rest = omega arith
-    by false rest = rest
+onto_some (suc k) n acc some =
+    let acc = digit_glyph false (n % 10) ∷ acc in
+    cond_both (λ text. 0 < length text) (nat_eq (n / 10) 0) acc _ (omega arith) (onto_some k (n / 10) acc (omega arith))
 
 first_some : (k n : ℕ) → 0 < length (digits_onto (suc k) 10 false n [])
-first_some k n = by (nat_eq (n / 10) 0) (onto_some k (n / 10) (digit_glyph false (n % 10) ∷ []) (omega arith))
-  where
-    by : (last : Bool) → 0 < length (digits_onto k 10 false (n / 10) (digit_glyph false (n % 10) ∷ []))
-        → 0 < length (cond last (digit_glyph false (n % 10) ∷ []) (digits_onto k 10 false (n / 10) (digit_glyph false (n % 10) ∷ [])))
-    by true rest = omega arith
-    by false rest = rest
+first_some k n =
+    let acc = digit_glyph false (n % 10) ∷ [] in
+    cond_both (λ text. 0 < length text) (nat_eq (n / 10) 0) acc _ (omega arith) (onto_some k (n / 10) acc (omega arith))
 
 decimal_some : (n : ℕ) → 0 < length (decimal n)
 unfolding digits

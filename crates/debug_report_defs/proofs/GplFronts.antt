@@ -1,5 +1,5 @@
 -- The fronts of lines of `gsteps` have no equals sign and no line feed, and are read.
-use Rattle.std.proofs.Common.{◌≡◌, ℕ, ◌^◌, ◌<◌, ◌∙◌, true, List, [], ◌∷◌, ◌++◌, refl, ap, subst, sym}
+use Rattle.std.proofs.Common.{◌≡◌, ℕ, ◌^◌, ◌<◌, ◌∙◌, true, List, [], ◌∷◌, ◌++◌, refl, ap, subst, sym, rules}
 use Rattle.std.specs.Prelude.{codes, slice_index}
 use Rattle.std.specs.List.{list_all}
 use Rattle.source_defs.specs.Digits.{hex_word, byte_digits}
@@ -41,8 +41,7 @@ clean_name (named.Two _ true) = refl
 clean_name _ = refl
 
 alphabet : Alphabet in_front
-alphabet =
-    record { digits = refl; sign = refl; at_sign = refl; star = refl; video = refl; opens = refl; closes = refl; grom = refl; register = refl }
+alphabet = search rules
 
 clean_with : (name : List ℕ) (tokens : List Token) → list_all in_front name ≡ true → list_all in_front (with_operands name (shown tokens)) ≡ true
 clean_with name [] e = e

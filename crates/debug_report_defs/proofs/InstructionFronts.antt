@@ -1,5 +1,5 @@
 -- The text of an instruction has no equals sign and no line feed.
-use Rattle.std.proofs.Common.{◌≡◌, ℕ, ◌+◌, Bool, true, false, cond, nat_eq, List, ◌∷◌, ◌++◌, length, Option, Some, None, refl}
+use Rattle.std.proofs.Common.{◌≡◌, ℕ, ◌+◌, true, false, nat_eq, List, ◌∷◌, ◌++◌, length, Option, Some, None, refl}
 use Rattle.std.specs.Prelude.{ℤ, pos, negsuc, nat_le, slice_index, codes}
 use Rattle.std.specs.List.{list_all}
 use Rattle.std.specs.Fmt.{decimal}
@@ -25,8 +25,8 @@ use Rattle.tms_defs.specs.declared.instruction.Instr.TheVariants.{Two, Reg, Shif
 use Rattle.instruction_defs.specs.Operations.{name_of}
 use Rattle.instruction_defs.specs.Operands.{following_words, has_immediate, has_value, size_in_words}
 use Rattle.instruction_defs.specs.Printed.{register_text, signed_text, symbolic_text, operand_text, number_text}
-use Rattle.instruction_defs.specs.Printed.{target_text, instr_text, printed_word, printed_where, printed}
-use Rattle.debug_report_defs.proofs.Digits.{decimal_passes, word_digits_pass}
+use Rattle.instruction_defs.specs.Printed.{Printed, target_text, instr_text, printed_where, printed}
+use Rattle.debug_report_defs.proofs.Digits.{cond_both, decimal_passes, word_digits_pass}
 use Rattle.debug_report_defs.proofs.LineSplit.{in_front}
 use Rattle.debug_report_defs.proofs.FrontRead.{front_all}
 
@@ -58,23 +58,18 @@ clean_signed (pos n) = clean_decimal n
 clean_signed (negsuc n) = clean_decimal _
 
 clean_symbolic : (address register : ℕ) → Clean (symbolic_text address register)
-clean_symbolic address register = by (nat_eq register 0)
-  where
-    by : (none : Bool) → Clean (cond none (0x40 ∷ hex_word address) (0x40 ∷ (hex_word address ++ (0x28 ∷ (register_text register ++ codes ")")))))
-    by true = clean_word address
-    by false = front_all (hex_word address) (0x28 ∷ (register_text register ++ codes ")")) (clean_word address)
-        (front_all (register_text register) (codes ")") (clean_register register) refl)
+clean_symbolic address register =
+    cond_both Clean (nat_eq register 0) _ _ (clean_word address)
+    (front_all (hex_word address) (0x28 ∷ (register_text register ++ codes ")")) (clean_word address)
+    (front_all (register_text register) (codes ")") (clean_register register) refl))
 
 clean_operand : (place : Place) (word : ℕ) → Clean (operand_text place word)
 unfolding operand_text
-clean_operand place word = by (nat_eq place.mode 0) (nat_eq place.mode 1) (nat_eq place.mode 2)
-  where
-    by : (a b c : Bool) → Clean (cond a (register_text place.reg)
-        (cond b (0x2A ∷ register_text place.reg) (cond c (symbolic_text word place.reg) (0x2A ∷ (register_text place.reg ++ codes "+")))))
-    by true b c = clean_register place.reg
-    by false true c = clean_register place.reg
-    by false false true = clean_symbolic word place.reg
-    by false false false = front_all (register_text place.reg) (codes "+") (clean_register place.reg) refl
+clean_operand place word =
+    cond_both Clean (nat_eq place.mode 0) _ _ (clean_register place.reg)
+    (cond_both Clean (nat_eq place.mode 1) _ _ (clean_register place.reg)
+    (cond_both Clean (nat_eq place.mode 2) _ _ (clean_symbolic word place.reg)
+    (front_all (register_text place.reg) (codes "+") (clean_register place.reg) refl)))
 
 clean_two : (first second : List ℕ) → Clean first → Clean second → Clean (two_texts first second)
 clean_two first second e f = front_all first (0x2C ∷ second) e f
@@ -107,16 +102,15 @@ clean_instr (One op place) at words =
 clean_instr (Jump op disp) at words =
     front_all (name_of (operation.Jump op)) _ (clean_name (operation.Jump op)) (clean_target op (plus at 2) disp)
 clean_instr (Imm op number) at words =
-    front_all (name_of (operation.Imm op)) _ (clean_name (operation.Imm op)) (by (has_immediate op))
-  where
-    by : (b : Bool) → Clean (cond b (two_texts (register_text number) (hex_word (slice_index words 1))) (register_text number))
-    by true = clean_two (register_text number) (hex_word (slice_index words 1)) (clean_register number) (clean_word (slice_index words 1))
-    by false = clean_register number
-clean_instr (Bare op) at words = by (has_value op)
-  where
-    by : (b : Bool) → Clean (with_operands (name_of (operation.Bare op)) (cond b (Some (hex_word (slice_index words 1))) None))
-    by true = front_all (name_of (operation.Bare op)) _ (clean_name (operation.Bare op)) (clean_word (slice_index words 1))
-    by false = clean_name (operation.Bare op)
+    front_all (name_of (operation.Imm op)) _ (clean_name (operation.Imm op))
+    (cond_both Clean (has_immediate op) _ _
+    (clean_two (register_text number) (hex_word (slice_index words 1)) (clean_register number)
+    (clean_word (slice_index words 1)))
+    (clean_register number))
+clean_instr (Bare op) at words =
+    cond_both (λ operands. Clean (with_operands (name_of (operation.Bare op)) operands)) (has_value op) _ _
+    (front_all (name_of (operation.Bare op)) _ (clean_name (operation.Bare op)) (clean_word (slice_index words 1)))
+    (clean_name (operation.Bare op))
 
 pub clean_printed : (words : List ℕ) (at : ℕ) → list_all in_front (printed words at).text ≡ true
 unfolding printed
@@ -124,8 +118,6 @@ clean_printed words at = by (instr_at (slice_index words 0))
   where
     by : (found : Option Instr) → Clean (printed_where found at words).text
     by None = clean_word (slice_index words 0)
-    by (Some found) = whole (nat_le (size_in_words found) (length words))
-      where
-        whole : (b : Bool) → Clean (cond b (record { text = instr_text found at words; count = size_in_words found }) (printed_word (slice_index words 0))).text
-        whole true = clean_instr found at words
-        whole false = clean_word (slice_index words 0)
+    by (Some found) =
+        cond_both (λ (shown : Printed). Clean shown.text) (nat_le (size_in_words found) (length words)) _ _
+        (clean_instr found at words) (clean_word (slice_index words 0))

@@ -1,5 +1,5 @@
 -- The words and the entry of linked memory have 16 bits.
-use Rattle.std.proofs.Common.{◌≡◌, ℕ, ◌<◌, Bool, true, false, cond, List, [], ◌∷◌, ◌++◌, length, map, Option, Some}
+use Rattle.std.proofs.Common.{◌≡◌, ℕ, ◌<◌, List, [], ◌∷◌, ◌++◌, length, map, Option, Some}
 use Rattle.std.proofs.Common.{None, Result, Ok, Err, refl, sym, ◌∙◌, subst, arith}
 use Rattle.std.specs.List.{flat_map, AllByRecursion}
 use Rattle.std.specs.Option.{unwrap_or, option_to_list}
@@ -21,6 +21,7 @@ use Rattle.link_defs.specs.LinkedMemory.{LinkedMemory, value_in, is_defined_agai
 use Rattle.link_defs.specs.LinkedMemory.{is_unresolved, first_entry, word_for, filled, linked_parts, linked}
 use Rattle.report_defs.specs.ObjectFaults.{link_line}
 use Rattle.report_defs.specs.ObjectInput.{told, linked_modules, linked_input}
+use Rattle.debug_report_defs.proofs.Digits.{cond_both}
 
 -- addresses with their words, each of 16 bits
 abbrev pub AreWords : List (ℕ × ℕ) → Type 0
@@ -65,11 +66,9 @@ entries_fit all =
 
 value_fits : (defs : List (List ℕ × ℕ)) (name : List ℕ) → AreValues defs → unwrap_or (value_in defs name) 0 < 65536
 value_fits [] name all = omega arith
-value_fits (d ∷ defs) name all = by (eq_by_cmp (slice_cmp nat_cmp) name d.0) (value_fits defs name all.1)
-  where
-    by : (b : Bool) → unwrap_or (value_in defs name) 0 < 65536 → unwrap_or (cond b (Some d.1) (value_in defs name)) 0 < 65536
-    by true rest = all.0
-    by false rest = rest
+value_fits (d ∷ defs) name all =
+    cond_both (λ found. unwrap_or found 0 < 65536) (eq_by_cmp (slice_cmp nat_cmp) name d.0) (Some d.1) _ all.0
+    (value_fits defs name all.1)
 
 filled_fit : (defs : List (List ℕ × ℕ)) (uses : Uses) (words : List (ℕ × ℕ)) → AreValues defs → AreWords words → AreWords (map (filled defs uses) words)
 filled_fit defs uses [] values all = tt

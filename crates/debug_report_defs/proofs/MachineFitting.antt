@@ -1,5 +1,5 @@
 -- The changes of an instruction can be written.
-use Rattle.std.proofs.Common.{ℕ, zero, suc, ◌+◌, ◌*◌, ◌<◌, ◌≤◌, Bool, true, false, cond, nat_eq, ◌&&◌, List, [], ◌∷◌, ◌++◌, Option, Some, None, arith}
+use Rattle.std.proofs.Common.{ℕ, zero, suc, ◌+◌, ◌*◌, ◌<◌, ◌≤◌, nat_eq, ◌&&◌, List, [], ◌++◌, Option, Some, None, arith}
 use Rattle.std.specs.Prelude.{slice_index, slice_range, IfSome}
 use Rattle.std.specs.List.{flat_map, range_with_len}
 use Rattle.std.specs.Option.{option_map}
@@ -10,7 +10,8 @@ use Rattle.change_defs.specs.Changes.{changes}
 use Rattle.machine_change_defs.specs.declared.area.Area.{Area}
 use Rattle.machine_change_defs.specs.declared.area.Area.TheVariants.{Scratchpad, LowExpansion, HighExpansion, Video, Registers}
 use Rattle.machine_change_defs.specs.Seen.{SeenMemory, seen_memory, area_bytes, workspace_place, workspace_at}
-use Rattle.machine_change_defs.specs.Changes.{RegisterChange, register_change, new_number, new_held, memory_changes}
+use Rattle.machine_change_defs.specs.Changes.{register_change, new_number, new_held, memory_changes}
+use Rattle.debug_report_defs.proofs.Digits.{cond_both}
 use Rattle.debug_report_defs.proofs.Fitting.{AllInside, changes_inside}
 use Rattle.debug_report_defs.proofs.MachineRead.{AllRegistersFit, FitsBelow, HeldFits, ChangesFit}
 
@@ -38,33 +39,21 @@ registers_fit : (before after : List ℕ) → ((k : ℕ) → slice_index after k
     → AllRegistersFit (flat_map (register_change before after) (range_with_len n count))
 registers_fit before after fits n zero le = tt
 registers_fit before after fits n (suc count) le =
-    by (nat_eq (slice_index before (2 * n)) (slice_index after (2 * n))) (nat_eq (slice_index before (2 * n + 1)) (slice_index after (2 * n + 1)))
-    (registers_fit before after fits (n + 1) count (omega arith))
-  where
-    others : List RegisterChange
-    others = flat_map (register_change before after) (range_with_len (n + 1) count)
-
-    by : (s t : Bool) → AllRegistersFit others
-        → AllRegistersFit (cond (s && t) [] (record { number = n; high = slice_index after (2 * n); low = slice_index after (2 * n + 1) } ∷ []) ++ others)
-    by true true rest = rest
-    by _ _ rest = (record { number = omega arith; high = fits (2 * n); low = fits (2 * n + 1) }, rest)
+    let rest = registers_fit before after fits (n + 1) count (omega arith) in
+    cond_both (λ own. AllRegistersFit (own ++ flat_map (register_change before after) (range_with_len (n + 1) count)))
+    (nat_eq (slice_index before (2 * n)) (slice_index after (2 * n))
+    && nat_eq (slice_index before (2 * n + 1)) (slice_index after (2 * n + 1)))
+    [] _ rest (record { number = omega arith; high = fits (2 * n); low = fits (2 * n + 1) }, rest)
 
 -- ---- what the ports hold
 
 number_fits : (most old new : ℕ) → new < most → FitsBelow most (new_number old new)
-number_fits most old new lt = by (nat_eq old new)
-  where
-    by : (same : Bool) → FitsBelow most (cond same None (Some new))
-    by true = tt
-    by false = lt
+number_fits most old new lt = cond_both (FitsBelow most) (nat_eq old new) None (Some new) tt lt
 
 held_fits : (old new : Option ℕ) → IfSome new (λ byte. byte < 256) → HeldFits (new_held old new)
 held_fits None (Some new) lt = lt
-held_fits (Some old) (Some new) lt = by (nat_eq old new)
-  where
-    by : (same : Bool) → HeldFits (option_map Some (cond same None (Some new)))
-    by true = tt
-    by false = lt
+held_fits (Some old) (Some new) lt =
+    cond_both (λ found. HeldFits (option_map Some found)) (nat_eq old new) None (Some new) tt lt
 held_fits _ _ lt = tt
 
 -- the changes to a memory

@@ -24,7 +24,8 @@ use Rattle.debug_report_defs.specs.MachineReader.{with_latches, Reading, reading
 use Rattle.debug_report_defs.specs.MachineReader.{with_more, after_piece, after_pieces, no_latch_changes, no_changes}
 use Rattle.debug_report_defs.proofs.Opening.{plain, all_plain}
 use Rattle.debug_report_defs.proofs.Fitting.{Inside, AllInside}
-use Rattle.debug_report_defs.proofs.Digits.{decimal_passes, word_digits_pass, byte_digits_pass, decimal_back, word_back, byte_back, bytes_back}
+use Rattle.debug_report_defs.proofs.Digits.{cond_both, decimal_passes, word_digits_pass, byte_digits_pass, decimal_back}
+use Rattle.debug_report_defs.proofs.Digits.{word_back, byte_back, bytes_back}
 
 -- ---- pieces
 
@@ -106,10 +107,9 @@ one_register made c f =
     (let l = f.low in omega arith)))
 
 registers_read : (made : MemoryChanges) (cs : List RegisterChange) → AllRegistersFit cs → Reads made (flat_map register_text cs) (with_registers cs made)
-registers_read made [] all = subst (λ (l : List RegisterChange). Reads made [] (record made { workspace = l })) (sym (append-nil made.workspace))
-    (reads_none made)
+registers_read made [] all = rw append-nil (reads_none made)
 registers_read made (c ∷ cs) all =
-    subst (λ (l : List RegisterChange). Reads made (flat_map register_text (c ∷ cs)) (record made { workspace = l })) (append_assoc made.workspace (c ∷ []) cs)
+    rw (← append_assoc made.workspace (c ∷ []) cs)
     (reads_then made (with_registers (c ∷ []) made) (with_registers cs (with_registers (c ∷ []) made)) (register_text c) (flat_map register_text cs)
     (one_register made c all.0) (registers_read (with_registers (c ∷ []) made) cs all.1))
 
@@ -140,11 +140,9 @@ place_named Registers at lt =
 
 run_plain : (byte count : ℕ) → list_all plain (repeated_text byte count) ≡ true
 unfolding repeated_text
-run_plain byte count = all_plain (byte_digits byte) _ (byte_digits_pass plain byte refl) (by (nat_eq count 1))
-  where
-    by : (one : Bool) → list_all plain (cond one [] (codes "*" ++ decimal count)) ≡ true
-    by true = refl
-    by false = decimal_passes plain count refl
+run_plain byte count =
+    all_plain (byte_digits byte) _ (byte_digits_pass plain byte refl)
+    (cond_both (λ text. list_all plain text ≡ true) (nat_eq count 1) _ _ refl (decimal_passes plain count refl))
 
 run_back : (at byte count : ℕ) → byte < 256 → count < 2 ^ 64 → run_at at (repeated_text byte count) ≡ record { at = at; byte = byte; count = count }
 unfolding repeated_text byte_digits
@@ -208,23 +206,12 @@ with_runs Video cs made = record made { others = record made.others { video = ma
 with_runs Registers cs made = record made { others = record made.others { registers = made.others.registers ++ cs } }
 
 one_more : (area : Area) (c : Change) (cs : List Change) (made : MemoryChanges) → with_runs area cs (with_run area c made) ≡ with_runs area (c ∷ cs) made
-one_more Scratchpad c cs made = ap (λ (l : List Change). record made { others = record made.others { scratchpad = l } })
-    (append_assoc made.others.scratchpad (c ∷ []) cs)
-one_more LowExpansion c cs made = ap (λ (l : List Change). record made { others = record made.others { low_expansion = l } })
-    (append_assoc made.others.low_expansion (c ∷ []) cs)
-one_more HighExpansion c cs made = ap (λ (l : List Change). record made { others = record made.others { high_expansion = l } })
-    (append_assoc made.others.high_expansion (c ∷ []) cs)
-one_more Video c cs made = ap (λ (l : List Change). record made { others = record made.others { video = l } }) (append_assoc made.others.video (c ∷ []) cs)
-one_more Registers c cs made = ap (λ (l : List Change). record made { others = record made.others { registers = l } })
-    (append_assoc made.others.registers (c ∷ []) cs)
+one_more Scratchpad c cs made = rw append_assoc refl
+one_more _ c cs made = rw append_assoc refl
 
 none_more : (area : Area) (made : MemoryChanges) → with_runs area [] made ≡ made
-none_more Scratchpad made = ap (λ (l : List Change). record made { others = record made.others { scratchpad = l } }) (append-nil made.others.scratchpad)
-none_more LowExpansion made = ap (λ (l : List Change). record made { others = record made.others { low_expansion = l } }) (append-nil made.others.low_expansion)
-none_more HighExpansion made = ap (λ (l : List Change). record made { others = record made.others { high_expansion = l } })
-    (append-nil made.others.high_expansion)
-none_more Video made = ap (λ (l : List Change). record made { others = record made.others { video = l } }) (append-nil made.others.video)
-none_more Registers made = ap (λ (l : List Change). record made { others = record made.others { registers = l } }) (append-nil made.others.registers)
+none_more Scratchpad made = rw append-nil refl
+none_more _ made = rw append-nil refl
 
 small : (area : Area) → size_of area < 2 ^ 64
 small Scratchpad = omega arith

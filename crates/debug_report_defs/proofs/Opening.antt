@@ -1,8 +1,10 @@
 -- Texts that the changes of a line may begin with.
-use Rattle.std.proofs.Common.{◌≡◌, ℕ, Bool, true, false, not, cond, nat_eq, ◌&&◌, ◌||◌, List, [], ◌∷◌, ◌++◌, refl, sym, ap, ◌∙◌, subst, append_assoc}
-use Rattle.std.specs.Prelude.{◌==◌, codes}
+use Rattle.std.proofs.Common.{◌≡◌, ℕ, Bool, true, false, not, cond, nat_eq, ◌&&◌, List, [], ◌∷◌, ◌++◌, sym, ap, ◌∙◌}
+use Rattle.std.proofs.Common.{subst, append_assoc, arith}
+use Rattle.std.specs.Prelude.{codes}
 use Rattle.std.specs.List.{list_all}
-use Rattle.listed_lines.proofs.Scans.{and_left, and_right}
+use Rattle.std.proofs.lemmas.Bool.Decides.{nat_tests}
+use Rattle.listed_lines.proofs.Scans.{all_both, all_also}
 use Rattle.change_defs.specs.Changes.{Change}
 use Rattle.change_defs.specs.Text.{repeated_text, placed_change}
 use Rattle.debug_report_defs.specs.MachineReader.{begins_piece}
@@ -13,20 +15,10 @@ abbrev pub plain : ℕ → Bool
 plain byte = not (begins_piece byte)
 
 pub all_plain : (xs ys : List ℕ) → list_all plain xs ≡ true → list_all plain ys ≡ true → list_all plain (xs ++ ys) ≡ true
-all_plain [] ys e f = f
-all_plain (x ∷ xs) ys e f = rw (and_left (plain x) (list_all plain xs) e) (all_plain xs ys (and_right (plain x) (list_all plain xs) e) f)
+all_plain = all_both plain
 
 is_in_word : (name : List ℕ) → list_all plain name ≡ true → list_all in_word name ≡ true
-is_in_word [] e = refl
-is_in_word (byte ∷ name) e =
-    rw (one (and_left (plain byte) (list_all plain name) e)) (is_in_word name (and_right (plain byte) (list_all plain name) e))
-  where
-    one : plain byte ≡ true → in_word byte ≡ true
-    one p = by (nat_eq byte 0x20) p
-      where
-        by : (blank : Bool) → not (blank || (byte == 0x3D) || (byte == 0x2C) || (byte == 0x0A)) ≡ true → not blank ≡ true
-        by true p = absurd (cc)
-        by false p = refl
+is_in_word = all_also plain in_word (λ byte p. grind (arith, nat_tests))
 
 -- what it begins, if the changes of a line begin after it
 abbrev pub Opens : List ℕ → Type 0

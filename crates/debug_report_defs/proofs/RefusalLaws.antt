@@ -11,7 +11,7 @@ use Rattle.asm_defs.specs.Modules as modules
 use Rattle.asm_defs.specs.Modules.{assembled_line, module_behind}
 use Rattle.expression_defs.specs.Layout.{assembled_lines}
 use Rattle.shelf_defs.specs.Files.{Files, of_files}
-use Rattle.shelf_defs.specs.Copied.{PlacedLine, CopyRefusal, At, TooLarge, copied}
+use Rattle.shelf_defs.specs.Copied.{PlacedLine, CopyRefusal, At, copied}
 use Rattle.shelf_defs.specs.Assembly.{in_place, laid_copied, module_of_files}
 use Rattle.report_defs.specs.declared.fault.Fault.TheVariants as fault
 use Rattle.report_defs.specs.Report.{Report, Faulty, largest_input, status_of}

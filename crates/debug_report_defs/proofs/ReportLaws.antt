@@ -10,7 +10,6 @@ use Rattle.report_defs.proofs.Fronts.{begins_program, accepted}
 use Rattle.change_defs.specs.Text.{all_changes_text}
 use Rattle.debug_report_defs.specs.declared.command.DebugCommand.{DebugCommand}
 use Rattle.debug_report_defs.specs.declared.command.DebugCommand.TheVariants.{Gsteps, Steps}
-use Rattle.debug_report_defs.specs.declared.command.DebugCommand.TheVariants as command
 use Rattle.debug_report_defs.specs.Reports.{AcceptedReport}
 use Rattle.machine_change_defs.proofs.ReportLaws.{one_steps_report, steps_fronts_begin_reports}
 use Rattle.debug_report_defs.specs.Laws.{OneDebugReport, DebugFrontsBeginReports}

@@ -1,5 +1,5 @@
 -- What linked memory is loaded into is a machine.
-use Rattle.std.proofs.Common.{◌≡◌, ℕ, ◌<◌, List, [], ◌∷◌, Option, Ok, sym, subst, arith}
+use Rattle.std.proofs.Common.{◌≡◌, ℕ, ◌<◌, List, [], ◌∷◌, Option, Ok, sym, subst, arith, rules}
 use Rattle.std.specs.Prelude.{IfSome}
 use Rattle.std.specs.FinMap.{entries}
 use Rattle.tms_defs.specs.Words.{high, low}
@@ -46,15 +46,7 @@ new_memory_is m v image h new zeros =
     }
 
 placed_fits : (m : Memory) → IsMemory m → (r : Region) (w : ℕ) → w < 65536 → IsMemory (word_placed_in r m w)
-placed_fits m is (Rom at) w lt =
-    record {
-      scratchpad = is.scratchpad;
-      low_expansion = is.low_expansion;
-      high_expansion = is.high_expansion;
-      rom = word_set 8192 m.rom at w lt is.rom;
-      vdp = is.vdp;
-      grom = is.grom;
-    }
+placed_fits m is (Rom at) w lt = let rom = word_set 8192 m.rom at w lt is.rom in search rules
 placed_fits m is (LowExpansion at) w lt = with_low m is _ (word_set 8192 m.low_expansion at w lt is.low_expansion)
 placed_fits m is (HighExpansion at) w lt = with_high m is _ (word_set 24576 m.high_expansion at w lt is.high_expansion)
 placed_fits m is _ w lt = is

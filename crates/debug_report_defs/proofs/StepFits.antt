@@ -1,6 +1,6 @@
 -- A step leaves words and bytes that fit, if each access does.
 use Rattle.std.proofs.Common.{◌≡◌, ℕ, zero, suc, ◌+◌, ◌*◌, ◌/◌, ◌%◌, ◌<◌, ◌≤◌, List, [], ◌∷◌, ◌++◌, Bool, true, false, cond, refl, Option, Some, None, arith}
-use Rattle.std.specs.Prelude.{ℤ, nat_lt, bit_and, bit_or, unsigned_abs, pos, ◌-ℤ◌}
+use Rattle.std.specs.Prelude.{ℤ, nat_lt, bit_and, bit_or, unsigned_abs}
 use Rattle.std.specs.Int.Bits.{and_lt}
 use Rattle.std.proofs.lemmas.Nat.{or_lt, xor_lt}
 use Rattle.std.proofs.lemmas.Int.{ints}
@@ -26,34 +26,21 @@ use Rattle.tms_defs.specs.declared.instruction.TwoOp.TheVariants.{SZC, S, C, A, 
 use Rattle.tms_defs.specs.declared.instruction.RegOp.{RegOp}
 use Rattle.tms_defs.specs.declared.instruction.RegOp.TheVariants.{COC, CZC, XOR, XOP, LDCR, STCR, MPY, DIV}
 use Rattle.tms_defs.specs.declared.instruction.ShiftOp.{ShiftOp}
-use Rattle.tms_defs.specs.declared.instruction.ShiftOp.TheVariants.{SRA, SRL, SLA, SRC}
+use Rattle.tms_defs.specs.declared.instruction.ShiftOp.TheVariants.{SRA}
 use Rattle.tms_defs.specs.declared.instruction.OneOp.{OneOp}
 use Rattle.tms_defs.specs.declared.instruction.OneOp.TheVariants.{BLWP, B, X, CLR, NEG, INV, INC, INCT, DEC, DECT, BL, SWPB, SETO, ABS}
 use Rattle.tms_defs.specs.declared.instruction.ImmOp.{ImmOp}
 use Rattle.tms_defs.specs.declared.instruction.ImmOp.TheVariants.{LI, AI, ANDI, ORI, CI, STWP, STST}
 use Rattle.tms_defs.specs.declared.instruction.BareOp.{BareOp}
-use Rattle.tms_defs.specs.declared.instruction.BareOp.TheVariants.{LWPI, LIMI, IDLE, RSET, RTWP, CKON, CKOF, LREX}
+use Rattle.tms_defs.specs.declared.instruction.BareOp.TheVariants.{LWPI, LIMI, RTWP}
 use Rattle.tms_defs.specs.declared.instruction.Instr.{Instr}
 use Rattle.tms_defs.specs.declared.instruction.Instr.TheVariants as instr
-use Rattle.tms_defs.specs.Accesses.{Answer, Gives, AtPort, NoInstruction, ◌>>=◌, Accesses}
+use Rattle.tms_defs.specs.Accesses.{Answer, Gives, NoInstruction, Accesses}
 use Rattle.tms_defs.proofs.WordLaws.{join-fits, plus-fits, high-fits, low-fits}
 use Rattle.tms_defs.proofs.StatusLaws.{status_at-IsStatus}
 use Rattle.gpl_step_defs.proofs.Kept.{sum_fits, difference_fits, negation_fits, complement_fits}
-use Rattle.machine_change_defs.proofs.Keeping.{Holds, holds}
-
--- ---- answers
-
-none : {X : Type 0} {Q : X → Type 0} → Holds Q NoInstruction
-none = record { by = λ x e. absurd (cc) }
-
-holds_then : {X Y : Type 0} {Q : X → Type 0} {R : Y → Type 0} (a : Answer X) (f : X → Answer Y) → Holds Q a → ((x : X) → Q x → Holds R (f x)) → Holds R
-    (a >>= f)
-holds_then (Gives x) f h k = k x (h.by x refl)
-holds_then (AtPort p) f h k = record { by = λ x e. absurd (cc) }
-holds_then NoInstruction f h k = none
-
-holds_num : {X Y : Type 0} {R : Y → Type 0} (a : Answer X) (f : X → Answer Y) → ((x : X) → Holds R (f x)) → Holds R (a >>= f)
-holds_num a f k = holds_then {Q = λ x. Unit {0}} a f (record { by = λ x e. tt }) (λ x q. k x)
+use Rattle.machine_change_defs.proofs.Keeping.{Holds, holds, none, holds_then, holds_num}
+use Rattle.debug_report_defs.proofs.Digits.{cond_both}
 
 -- ---- numbers
 
@@ -67,17 +54,12 @@ or_fits Word x y p q = or_lt 16 x y p q
 
 absolute_fits : (x : ℕ) → x < 65536 → absolute_of Word x < 65536
 absolute_fits zero lt = lt
-absolute_fits (suc x) lt = by (nat_lt (suc x) (half Word))
-  where
-    by : (b : Bool) → unsigned_abs (cond b (pos (suc x)) (pos (suc x) -ℤ pos 65536)) < 65536
-    by true = lt
-    by false = omega (arith, ints)
+absolute_fits (suc x) lt =
+    cond_both (λ number. unsigned_abs number < 65536) (nat_lt (suc x) (half Word)) _ _ lt (omega (arith, ints))
 
 shifted_fits : (op : ShiftOp) (word count : ℕ) → shifted op word count < 65536
 shifted_fits SRA word count = omega arith
-shifted_fits SRL word count = omega arith
-shifted_fits SLA word count = omega arith
-shifted_fits SRC word count = omega arith
+shifted_fits _ word count = omega arith
 
 product_high : (x y : ℕ) → x < 65536 → y < 65536 → x * y / 65536 < 65536
 product_high x y p q = let less : x * y < 65536 * 65536 = grind arith in omega arith
@@ -317,11 +299,7 @@ module _ (M : Type 0) (access : Accesses M) (P : M → Type 0)
       holds_then _ _ (kept_fits x h) (λ w k.
       holds (record x { wp = even w.0; pc = even w.1; status = status_at w.2 })
       (record { memory = h.memory; pc = (let lt = k.1 in omega arith); wp = (let lt = k.0 in omega arith); status = status_at-IsStatus w.2 }))
-  do_bare x h IDLE = none
-  do_bare x h RSET = none
-  do_bare x h CKON = none
-  do_bare x h CKOF = none
-  do_bare x h LREX = none
+  do_bare x h _ = none
 
   do_instr : (x : Cpu M) → Fit P x → (i : Instr) → Kept (executed M access i x)
   do_instr x h (instr.Two o b d s) =
@@ -337,11 +315,7 @@ module _ (M : Type 0) (access : Accesses M) (P : M → Type 0)
 
   do_where : (x : Cpu M) → Fit P x → (i : Option Instr) → Kept (executed_where M access i x)
   do_where x h None = none
-  do_where x h (Some i) = by (is_unsupported i)
-    where
-      by : (b : Bool) → Kept (cond b NoInstruction (executed M access i x))
-      by true = none
-      by false = do_instr x h i
+  do_where x h (Some i) = cond_both Kept (is_unsupported i) NoInstruction _ none (do_instr x h i)
 
   do_execution : (x : Cpu M) → Fit P x → Holds (λ (r : ℕ × Cpu M). Fit P r.1) (execution M access x)
   do_execution x h =
@@ -349,8 +323,7 @@ module _ (M : Type 0) (access : Accesses M) (P : M → Type 0)
 
   ended : (x : Cpu M) → Fit P x → (a : Answer (ℕ × Cpu M)) → Holds (λ (r : ℕ × Cpu M). Fit P r.1) a → Fit P (step_end M access x a).1
   ended x h (Gives r) k = k.by r refl
-  ended x h (AtPort p) k = h
-  ended x h NoInstruction k = h
+  ended x h _ k = h
 
   -- a step leaves what fits
   pub step_fits : (x : Cpu M) → Fit P x → Fit P (step M access x).1

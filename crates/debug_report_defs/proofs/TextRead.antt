@@ -1,21 +1,21 @@
 -- The text of the changes of a step determines them.
-use Rattle.std.proofs.Common.{◌≡◌, ℕ, ◌+◌, ◌/◌, ◌%◌, ◌^◌, ◌<◌, ◌≤◌, Bool, true, false, not, eqb, cond, nat_eq, ◌&&◌}
+use Rattle.std.proofs.Common.{◌≡◌, ℕ, ◌+◌, ◌/◌, ◌%◌, ◌^◌, ◌<◌, ◌≤◌, Bool, true, false, not, cond, nat_eq, ◌&&◌}
 use Rattle.std.proofs.Common.{List, [], ◌∷◌, ◌++◌, refl, sym, ap, ap₂, ◌∙◌, subst, append_assoc, append-nil, arith}
 use Rattle.std.specs.Prelude.{◌==◌, codes}
 use Rattle.std.specs.Fmt.{decimal}
 use Rattle.std.proofs.lemmas.Fmt.{decimal_by_steps}
 use Rattle.std.proofs.lemmas.Bool.{agree_below_at}
 use Rattle.std.proofs.lemmas.Bool.Decides.{nat_tests}
-use Rattle.source_defs.specs.Numbers.{hexadecimal_digit, is_hexadecimal_digit, digit_value}
+use Rattle.source_defs.specs.Numbers.{hexadecimal_digit, is_hexadecimal_digit}
 use Rattle.source_defs.specs.Digits.{byte_digits, word_digits, hex_word}
-use Rattle.listed_lines.proofs.DigitLaws.{digit_passes, eqb_same}
+use Rattle.listed_lines.proofs.DigitLaws.{digit_passes}
 use Rattle.change_defs.specs.declared.part.Part.{Part}
 use Rattle.change_defs.specs.declared.part.Part.TheVariants.{Cells, Video, Registers}
 use Rattle.change_defs.specs.Changes.{Change}
 use Rattle.change_defs.specs.Steps.{StepChanges}
 use Rattle.change_defs.specs.Text.{size_of, place_text, repeated_text, change_text, change_texts, part_text, step_text}
 use Rattle.debug_report_defs.specs.Reader.{Digit, sign_of, Reading, Phase, Place, Byte, Times, with_change, between, ended, after_sign, read_from, changes_of_text}
-use Rattle.debug_report_defs.proofs.Digits.{digit_back}
+use Rattle.debug_report_defs.proofs.Digits.{digit_back, decimal_digit_back}
 
 read_append : (r : Reading) (a b : List ℕ) → read_from r (a ++ b) ≡ read_from (read_from r a) b
 read_append r [] b = refl
@@ -23,6 +23,12 @@ read_append r (x ∷ a) b = read_append (after_sign (sign_of x) r) a b
 
 sign_digit : (d : ℕ) → sign_of (hexadecimal_digit (d % 16)) ≡ Digit (d % 16)
 sign_digit d = rw (digit_passes is_hexadecimal_digit d refl, digit_back d) refl
+
+sign_decimal : (d : ℕ) → d < 10 → sign_of (0x30 + d) ≡ Digit d
+sign_decimal d lt =
+    let is : is_hexadecimal_digit (0x30 + d) ≡ true =
+    agree_below_at (λ d. is_hexadecimal_digit (0x30 + d)) (λ d. true) 10 d refl lt in
+    rw (is, decimal_digit_back d lt) refl
 
 -- the reading of a number
 abbrev reading : StepChanges → Part → ℕ → ℕ → ℕ → Phase → Reading
@@ -43,28 +49,17 @@ module _ (made : StepChanges) (part : Part) (at : ℕ) where
   count_read : (byte n : ℕ) → n < 2 ^ 64 → read_from (reading made part at byte 0 Times) (decimal n) ≡ reading made part at byte n Times
   count_read byte n lt = decimal_by_steps (λ n text. read_from (reading made part at byte 0 Times) text ≡ reading made part at byte n Times) one more n lt
     where
-      digit : (d : ℕ) → d < 10 → sign_of (48 + d) ≡ Digit d
-      digit d lt = sign d lt
-        where
-          is : (d : ℕ) → d < 10 → is_hexadecimal_digit (48 + d) ≡ true
-          is d lt = agree_below_at (λ d. is_hexadecimal_digit (48 + d)) (λ d. true) 10 d refl lt
-
-          value : (d : ℕ) → d < 10 → digit_value (48 + d) ≡ d
-          value d lt = eqb_same _ _ (agree_below_at (λ d. eqb (digit_value (48 + d)) d) (λ d. true) 10 d refl lt)
-
-          sign : (d : ℕ) → d < 10 → sign_of (48 + d) ≡ Digit d
-          sign d lt = rw (is d lt, value d lt) refl
-
       one : (n : ℕ) → n < 10 → read_from (reading made part at byte 0 Times) ((48 + n) ∷ []) ≡ reading made part at byte n Times
       one n lt =
-          ap (λ s. after_sign s (reading made part at byte 0 Times)) (digit n lt) ∙ ap (λ k. reading made part at byte k Times) (omega arith)
+          ap (λ s. after_sign s (reading made part at byte 0 Times)) (sign_decimal n lt)
+          ∙ ap (λ k. reading made part at byte k Times) (omega arith)
 
       more : (n : ℕ) (ds : List ℕ) → 10 ≤ n → read_from (reading made part at byte 0 Times) ds ≡ reading made part at byte (n / 10) Times
           → read_from (reading made part at byte 0 Times) (ds ++ ((48 + n % 10) ∷ [])) ≡ reading made part at byte n Times
       more n ds ge rest =
           read_append (reading made part at byte 0 Times) ds ((48 + n % 10) ∷ [])
           ∙ ap (λ r. read_from r ((48 + n % 10) ∷ [])) rest
-          ∙ ap (λ s. after_sign s (reading made part at byte (n / 10) Times)) (digit (n % 10) (omega arith))
+          ∙ ap (λ s. after_sign s (reading made part at byte (n / 10) Times)) (sign_decimal (n % 10) (omega arith))
           ∙ ap (λ k. reading made part at byte k Times) (omega arith)
 
 -- a change that can be written
@@ -93,14 +88,9 @@ module _ (made : StepChanges) (old : ℕ) where
       ∙ ap (λ r. read_from r (codes "=")) (word_read made Video old at (omega (arith, lt)))
       ∙ ap (λ k. placed made Video k) (omega arith)
   place_read Registers at lt =
-      ap (λ s. read_from (after_sign s (reading made Registers old 0 0 Place)) (codes "=")) (sign at lt)
+      ap (λ s. read_from (after_sign s (reading made Registers old 0 0 Place)) (codes "="))
+      (sign_decimal at (omega (arith, lt)))
       ∙ ap (λ k. placed made Registers k) (omega arith)
-    where
-      sign : (d : ℕ) → d < 8 → sign_of (0x30 + d) ≡ Digit d
-      sign d lt =
-          let is : is_hexadecimal_digit (0x30 + d) ≡ true = agree_below_at (λ d. is_hexadecimal_digit (0x30 + d)) (λ d. true) 8 d refl lt in
-          let value : digit_value (0x30 + d) ≡ d = eqb_same _ _ (agree_below_at (λ d. eqb (digit_value (0x30 + d)) d) (λ d. true) 8 d refl lt) in
-          rw (is, value) refl
 
 -- the bytes of a change, and then the change is complete
 bytes_read : (made : StepChanges) (part : Part) (c : Change) → Fits part c
@@ -154,14 +144,12 @@ with_changes Video cs made = record made { vdp = made.vdp ++ cs }
 with_changes Registers cs made = record made { registers = made.registers ++ cs }
 
 one_more : (part : Part) (c : Change) (cs : List Change) (made : StepChanges) → with_changes part cs (with_change part c made) ≡ with_changes part (c ∷ cs) made
-one_more Cells c cs made = ap (λ (l : List Change). record made { cells = l }) (append_assoc made.cells (c ∷ []) cs)
-one_more Video c cs made = ap (λ (l : List Change). record made { vdp = l }) (append_assoc made.vdp (c ∷ []) cs)
-one_more Registers c cs made = ap (λ (l : List Change). record made { registers = l }) (append_assoc made.registers (c ∷ []) cs)
+one_more Cells c cs made = rw append_assoc refl
+one_more _ c cs made = rw append_assoc refl
 
 none_more : (part : Part) (made : StepChanges) → with_changes part [] made ≡ made
-none_more Cells made = ap (λ (l : List Change). record made { cells = l }) (append-nil made.cells)
-none_more Video made = ap (λ (l : List Change). record made { vdp = l }) (append-nil made.vdp)
-none_more Registers made = ap (λ (l : List Change). record made { registers = l }) (append-nil made.registers)
+none_more Cells made = rw append-nil refl
+none_more _ made = rw append-nil refl
 
 -- what was read ends with these changes
 abbrev EndsAt : Reading → StepChanges → Type 0

@@ -3,6 +3,5 @@ pub mod ReplayLaws
 pub mod LineLaws
 pub mod TakeLaws
 pub mod CountLaws
-pub mod FinishLaws
 pub mod TakenLaws
 pub mod EndedLines

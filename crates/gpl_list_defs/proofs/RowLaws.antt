@@ -41,8 +41,7 @@ pub names_give : (lines : List Line) → with_names predefined (name_rows lines)
 names_give [] = refl
 names_give (line ∷ before) =
     with_names_append predefined (name_rows before) (names_in line)
-    ∙ (ap (λ (known : Names). with_names known (names_in line)) (names_give before)
-    ∙ entries_in (names before) line.number line.names)
+    ∙ rw (names_give before) (entries_in (names before) line.number line.names)
 
 -- ---- the bytes of a line stand at its address
 
@@ -91,10 +90,8 @@ module _ (known : Names) (texts : List (ℕ × List ℕ)) where
       let at = place before line in
       let bytes : placed_bytes known at line.statement ≡ bytes_in found.outcome = ap outcome_bytes came.came in
       with_rows_append empty (shown before) (row (placed_bytes known) texts before line ∷ [])
-      ∙ (ap (λ (to : Image). placed to (address at line.statement) (placed_bytes known at line.statement)) is
-      ∙ (ap (λ bytes. placed (image earlier) (address at line.statement) bytes) bytes
-      ∙ (at_address (look_up known) at line.statement (image earlier) found.outcome came.came
-      ∙ ap (λ at. placed (image earlier) at (bytes_in found.outcome)) (sym came.at_is))))
+      ∙ rw (is, bytes)
+      (rw (at_address (look_up known) at line.statement (image earlier) found.outcome came.came, came.at_is) refl)
 
   pub rows_give : (lines : List Line) (found : List AssembledLine) → assembled_lines (assembled_line known) lines ≡ Ok found → with_rows empty (shown lines) ≡ image found
   rows_give [] found e = let same : [] ≡ found = cc e in ap image same

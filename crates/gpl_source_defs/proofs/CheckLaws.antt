@@ -10,7 +10,7 @@ use Rattle.source_defs.proofs.RefusalLaws.{bound}
 use Rattle.gpl_source_defs.specs.declared.causes.GplCause.{GplCause}
 use Rattle.gpl_source_defs.specs.declared.causes.GplCause.TheVariants.{DuplicateLabel, GromFull, BadDirective}
 use Rattle.gpl_source_defs.specs.declared.location.Location.{Location}
-use Rattle.gpl_source_defs.specs.Statements.{Statement, Nothing, Instruction, Grom, Aorg, Equ, Bss, Data, Byte, Text, End, statement_at, declared_size}
+use Rattle.gpl_source_defs.specs.Statements.{Statement, Nothing, Grom, Aorg, Equ, Bss, End, statement_at, declared_size}
 use Rattle.gpl_source_defs.specs.Locations.{address_of, origin_of, behind, passes, IsInGrom}
 use Rattle.gpl_source_defs.specs.FirstChecks.{Checked, as_text, checked, is_bad, is_full, is_taken, parsed}
 use Rattle.grom_defs.specs.declared.size.TheConstants.{GROM_SIZE}
@@ -78,13 +78,10 @@ leads here (Some name) (Grom address) is le fits fine = at_start address le fine
 leads here None (Aorg offset) is le fits fine = at_offset here offset is fine
 leads here (Some name) (Aorg offset) is le fits fine = at_offset here offset is fine
 leads here label Nothing is le fits fine = fitting here 0 is fits
-leads here label (Instruction skeleton) is le fits fine = fitting here _ is fits
 leads here label (Equ number) is le fits fine = fitting here 0 is fits
 leads here label (Bss number) is le fits fine = fitting here number is fits
-leads here label (Data texts) is le fits fine = fitting here _ is fits
-leads here label (Byte texts) is le fits fine = fitting here _ is fits
-leads here label (Text quoted) is le fits fine = fitting here _ is fits
 leads here label (End text) is le fits fine = fitting here 0 is fits
+leads here label _ is le fits fine = fitting here _ is fits
 
 pub most_number : (here : Location) → IsInGrom here → here.number ≤ 65536
 most_number here is = omega (arith, is.aligned, is.address, is.within)

@@ -23,13 +23,14 @@ use Rattle.gpl_source_defs.specs.declared.mnemonic.Mnemonic.{Mnemonic}
 use Rattle.gpl_source_defs.specs.declared.mnemonic.Mnemonic.TheVariants as instr
 use Rattle.gpl_source_defs.specs.Directives.{directive}
 use Rattle.gpl_source_defs.specs.Mnemonics.{mnemonic}
-use Rattle.gpl_source_defs.specs.Forms.{Memory, Form, InMemory, InGrom, Register, Alone, takes_two, takes_move}
+use Rattle.gpl_source_defs.specs.Forms.{Memory, Form, InMemory, InGrom, Register, takes_two, takes_move}
 use Rattle.gpl_source_defs.specs.Values.{as_expr, number, numbers, index_value, operand}
 use Rattle.gpl_source_defs.specs.Skeletons.{Source, At, Immediate, Route, Within, ToMemory, ToRegisters, Skeleton, Plain, Jump, Branch, One, Two, Move, as_operand}
 use Rattle.gpl_source_defs.specs.Skeletons.{one_form, two_forms, move_forms, where_taken, operand_in, source_in, route_in, two_skeleton}
 use Rattle.gpl_source_defs.specs.Skeletons.{move_skeleton, skeleton}
 use Rattle.gpl_source_defs.specs.Skeletons as skeletons
-use Rattle.gpl_source_defs.specs.Statements.{Statement, Nothing, Instruction, Grom, Aorg, Equ, Bss, Data, Text, End, number_of_one, directive_statement}
+use Rattle.gpl_source_defs.specs.Statements.{Statement, Instruction, Data, Text, End, number_of_one}
+use Rattle.gpl_source_defs.specs.Statements.{directive_statement}
 use Rattle.gpl_source_defs.specs.Statements.{instruction_statement, statement_by, statement_at}
 use Rattle.gpl_source_defs.specs.Statements as statements
 use Rattle.gpl_source_defs.specs.Locations.{address_of}
@@ -79,15 +80,11 @@ module _ (look more : List ℕ → Option Value) (grows : (name : List ℕ) (val
 
     operand_in_stays : (form : Form) → Stays is_unresolved (operand_in look here form) (operand_in more here form)
     operand_in_stays (InMemory memory) = operand_stays memory
-    operand_in_stays (InGrom address index) = stays_same is_unresolved _
-    operand_in_stays (Register number) = stays_same is_unresolved _
-    operand_in_stays (Alone text) = stays_same is_unresolved _
+    operand_in_stays _ = stays_same is_unresolved _
 
     source_in_stays : (form : Form) → Stays is_unresolved (source_in look here form) (source_in more here form)
-    source_in_stays (Alone text) = stays_same is_unresolved _
     source_in_stays (InMemory memory) = on (operand look here memory) (operand more here memory) _ (operand_stays memory)
-    source_in_stays (InGrom address index) = stays_same is_unresolved _
-    source_in_stays (Register number) = stays_same is_unresolved _
+    source_in_stays _ = stays_same is_unresolved _
 
     route_stays : (to from : Form) → Stays is_unresolved (route_in look here to from) (route_in more here to from)
     route_stays (InMemory to) (InMemory from) =
@@ -124,14 +121,11 @@ module _ (look more : List ℕ → Option Value) (grows : (name : List ℕ) (val
     one_stays texts = behind (as_operand (one_operand texts)) _ _ number_stays
 
     directive_stays : (found : Directive) (texts : List (List ℕ)) → Stays is_unresolved (directive_statement look here found texts) (directive_statement more here found texts)
-    directive_stays named.Grom texts = on (number_of_one look here texts) (number_of_one more here texts) _ (one_stays texts)
-    directive_stays named.Aorg texts = on (number_of_one look here texts) (number_of_one more here texts) _ (one_stays texts)
-    directive_stays named.Equ texts = on (number_of_one look here texts) (number_of_one more here texts) _ (one_stays texts)
-    directive_stays named.Bss texts = on (number_of_one look here texts) (number_of_one more here texts) _ (one_stays texts)
     directive_stays named.Data texts = stays_same is_unresolved _
     directive_stays named.Byte texts = stays_same is_unresolved _
     directive_stays named.Text texts = stays_same is_unresolved _
     directive_stays named.End texts = stays_same is_unresolved _
+    directive_stays _ texts = on (number_of_one look here texts) (number_of_one more here texts) _ (one_stays texts)
 
     instruction_stays : (found : Option Mnemonic) (field : List ℕ) → Stays is_unresolved (instruction_statement look here found field) (instruction_statement more here found field)
     instruction_stays (Some found) field = on (skeleton look here found field) (skeleton more here found field) _ (skeleton_stays found field)

@@ -17,7 +17,7 @@ use Rattle.gpl_source_defs.specs.Values.{number, numbers, checked_byte, checked_
 use Rattle.gpl_source_defs.specs.Skeletons.{Source, At, Immediate, Route, Within, ToMemory, ToRegisters, Skeleton, Plain, Jump, Branch, One, Two, Move}
 use Rattle.gpl_source_defs.specs.Skeletons.{source_by_zero, length_by_zero, move_by_zero, instr_by_zero, size_of}
 use Rattle.gpl_source_defs.specs.Skeletons as skeletons
-use Rattle.gpl_source_defs.specs.Statements.{Statement, Nothing, Instruction, Grom, Aorg, Equ, Bss, Data, Text, End, declared_size}
+use Rattle.gpl_source_defs.specs.Statements.{Statement, Instruction, Data, Text, End, declared_size}
 use Rattle.gpl_source_defs.specs.Statements as statements
 use Rattle.gpl_source_defs.specs.Locations.{address_of, branch_offset}
 use Rattle.gpl_source_defs.specs.SecondChecks.{Outcome, Bytes, Entry, immediate_of, register_of, value, source_value, length_value, moved, instruction, outcome}
@@ -150,14 +150,9 @@ module _ (look : List ℕ → Option Value) (at : Location) where
 
   pub outcome_size : (statement : Statement) (found : Outcome) → outcome look at statement ≡ Ok found → length (bytes_in found) ≤ declared_size statement
   unfolding outcome
-  outcome_size Nothing found e = none_placed found _ e
   outcome_size (Instruction skeleton) found e =
       let a = bound (instruction look at skeleton) _ found e in
       placed_length (gpl.bytes_of a.0) found (size_of skeleton) a.2 (instr_length skeleton a.0 a.1)
-  outcome_size (Grom number) found e = none_placed found _ e
-  outcome_size (Aorg number) found e = none_placed found _ e
-  outcome_size (Equ number) found e = none_placed found _ e
-  outcome_size (Bss number) found e = none_placed found _ e
   outcome_size (Data texts) found e =
       let a = bound (numbers look (address_of at) texts) _ found e in
       placed_length (flat_map gpl.word_bytes a.0) found (2 * length texts) a.2
@@ -172,3 +167,4 @@ module _ (look : List ℕ → Option Value) (at : Location) where
       let a = bound (value look at text) _ found e in
       let same : Entry a.0 ≡ found = cc a.2 in
       omega (arith, ap (λ outcome. length (bytes_in outcome)) same)
+  outcome_size _ found e = none_placed found _ e

@@ -1,7 +1,7 @@
 -- The pieces of words that stand one behind the other, and their linked memory.
 use Rattle.std.proofs.Common.{◌≡◌, ℕ, zero, suc, ◌+◌, ◌-◌, ◌*◌, ◌/◌, ◌%◌, ◌<◌, ◌≤◌, Bool, true, false, cond, List, []}
 use Rattle.std.proofs.Common.{◌∷◌, ◌++◌, Some, None, Ok, length, refl, sym, ap, ◌∙◌, arith, nat_cmp, eqb-true}
-use Rattle.std.specs.Prelude.{Option, ◌&&◌, not, is_some, ◌==◌, nat_le, if◌then◌else◌, map, slice_get}
+use Rattle.std.specs.Prelude.{Option, ◌&&◌, not, ◌==◌, nat_le, if◌then◌else◌, map, slice_get}
 use Rattle.std.specs.List.{list_all}
 use Rattle.std.proofs.lemmas.Bool.Decides.{nat_tests}
 use Rattle.std.proofs.lemmas.Cmp.{nat_cmp_total}
@@ -10,6 +10,7 @@ use Rattle.std.specs.Cmp.{unsigned_tied}
 use Rattle.std.specs.FinMap.{find, get, from_entries, get-from_entries}
 use Rattle.std.specs.FinMap.Entries.{find-append}
 use Rattle.std.proofs.lemmas.List.{append-nil}
+use Rattle.std.proofs.Common.{append_assoc}
 use Rattle.object_defs.specs.declared.spot.Spot.{Spot}
 use Rattle.object_defs.specs.declared.spot.Spot.TheVariants as spot
 use Rattle.object_defs.specs.declared.spot.Piece.{Piece}
@@ -23,14 +24,10 @@ use Rattle.link_defs.specs.First.{first, first_behind}
 use Rattle.link_defs.specs.LinkedMemory.{LinkedMemory, linked, linked_parts, filled, is_outside, is_taken, is_loadable}
 use Rattle.line_laws.specs.KnownLines.{pieces_of}
 use Rattle.line_laws.proofs.PlacedWords.{HoldWords, content_of, cells, cells_length}
-use Rattle.line_laws.proofs.Small.{both, chosen, get_past}
+use Rattle.line_laws.proofs.Small.{both, get_past}
 
 abbrev piece_at : Part → ℕ → Spot → Piece
 piece_at found w word = record { at = spot_by found (2 * w); word = word }
-
-assoc : (a b c : List Piece) → a ++ (b ++ c) ≡ (a ++ b) ++ c
-assoc [] b c = refl
-assoc (x ∷ a) b c = ap (λ rest. x ∷ rest) (assoc a b c)
 
 module _ (f : ℕ → Option Content) where
   pub pieces_split : (found : Part) (first m n : ℕ) → pieces_from f found first (m + n) ≡ pieces_from f found first m ++ pieces_from f found (first + m) n
@@ -41,21 +38,16 @@ module _ (f : ℕ → Option Content) where
   pieces_split found first (suc m) n =
       let sum : suc m + n ≡ suc (m + n) = omega arith in
       let next : first + 1 + m ≡ first + suc m = omega arith in
-      ap (pieces_from f found first) sum
-      ∙ (ap (λ rest. pieces_at f found first ++ rest)
-      (pieces_split found (first + 1) m n ∙ ap (λ behind. pieces_from f found (first + 1) m ++ pieces_from f found behind n) next)
-      ∙ assoc (pieces_at f found first) (pieces_from f found (first + 1) m) (pieces_from f found (first + suc m) n))
+      rw (sum, ← next, pieces_split found (first + 1) m n, append_assoc) refl
 
   pub at_word : (found : Part) (w : ℕ) (high low : Option Content) → f (2 * w) ≡ high → f (2 * w + 1) ≡ low → pieces_at f found w ≡ map (piece_at found w) (joined high low)
-  at_word found w high low a b =
-      ap (λ byte. map (piece_at found w) (joined byte (f (2 * w + 1)))) a ∙ ap (λ byte. map (piece_at found w) (joined high byte)) b
+  at_word found w high low a b = rw (a, b) refl
 
   pub none_from : (found : Part) (first n : ℕ) → ((p : ℕ) → 2 * first ≤ p → p < 2 * (first + n) → f p ≡ None) → pieces_from f found first n ≡ []
   none_from found first zero none = refl
   none_from found first (suc n) none =
-      ap (λ pieces. pieces ++ pieces_from f found (first + 1) n)
-      (at_word found first None None (none (2 * first) (omega arith) (omega arith)) (none (2 * first + 1) (omega arith) (omega arith)))
-      ∙ none_from found (first + 1) n (λ p le lt. none p (omega (arith, le)) (omega (arith, lt)))
+      rw (none (2 * first) (omega arith) (omega arith), none (2 * first + 1) (omega arith) (omega arith))
+      (none_from found (first + 1) n (λ p le lt. none p (omega (arith, le)) (omega (arith, lt))))
 
 -- what stands behind the first word
 content_behind : (a : ℕ) (word : ℕ) (words : List ℕ) (p : ℕ) → 2 * (a + 1) ≤ p → content_of (2 * a) (word ∷ words) p ≡ content_of (2 * (a + 1)) words p
@@ -63,13 +55,13 @@ content_behind a word words p le =
     let here : nat_le (2 * a) p ≡ true = grind (arith, nat_tests, le) in
     let there : nat_le (2 * (a + 1)) p ≡ true = grind (arith, nat_tests, le) in
     let place : p - 2 * a ≡ suc (suc (p - 2 * (a + 1))) = omega (arith, le) in
-    chosen _ true _ _ here ∙ (ap (slice_get (cells (word ∷ words))) place ∙ sym (chosen _ true _ _ there))
+    rw (here, there, place) refl
 
 content_first : (a : ℕ) (word : ℕ) (words : List ℕ) (k p : ℕ) → p ≡ 2 * a + k → content_of (2 * a) (word ∷ words) p ≡ slice_get (cells (word ∷ words)) k
 content_first a word words k p e =
     let here : nat_le (2 * a) p ≡ true = grind (arith, nat_tests, e) in
     let place : p - 2 * a ≡ k = omega (arith, e) in
-    chosen _ true _ _ here ∙ ap (slice_get (cells (word ∷ words))) place
+    rw (here, place) refl
 
 pub pieces_there : (f : ℕ → Option Content) (a : ℕ) (words : List ℕ) → ((p : ℕ) → 2 * a ≤ p → f p ≡ content_of (2 * a) words p)
     → pieces_from f part.Absolute a (length words) ≡ pieces_of (2 * a) words
@@ -87,18 +79,17 @@ pub content_none : (from : ℕ) (words : List ℕ) (p : ℕ) → from + 2 * leng
 content_none from words p le =
     let size = cells_length words in
     let here : nat_le from p ≡ true = grind (arith, nat_tests, le) in
-    chosen _ true _ _ here ∙ get_past (cells words) (p - from) (omega (arith, le, size))
+    rw here (get_past (cells words) (p - from) (omega (arith, le, size)))
 
 pub content_not_yet : (from : ℕ) (words : List ℕ) (p : ℕ) → p < from → content_of from words p ≡ None
 content_not_yet from words p lt =
-    let here : nat_le from p ≡ false = grind (arith, nat_tests, lt) in chosen _ false _ _ here
+    let here : nat_le from p ≡ false = grind (arith, nat_tests, lt) in rw here refl
 
 pub nothing_before : (front pieces : List Piece) → front ≡ [] → front ++ pieces ≡ pieces
 nothing_before front pieces e = ap (λ front. front ++ pieces) e
 
 nothing_behind : (pieces rest : List Piece) → rest ≡ [] → pieces ++ rest ≡ pieces
-nothing_behind [] rest e = e
-nothing_behind (piece ∷ pieces) rest e = ap (λ pieces. piece ∷ pieces) (nothing_behind pieces rest e)
+nothing_behind pieces rest e = rw e (append-nil pieces)
 
 all_pieces : (f : ℕ → Option Content) (a rest most : ℕ) (words : List ℕ) → a + (length words + rest) ≡ most
     → ((p : ℕ) → f p ≡ content_of (2 * a) words p) → pieces_from f part.Absolute 0 most ≡ pieces_of (2 * a) words
@@ -134,8 +125,7 @@ pairs_there base from [] fit = refl
 pairs_there base from (word ∷ words) fit =
     let b = both (nat_le word 0xFFFF) (are_words words) fit in
     let same : word % 65536 ≡ word = grind (arith, nat_tests, b.0) in
-    ap (λ word. (from, word) ∷ map (word_at base) (pieces_of (from + 2) words)) same
-    ∙ ap (λ rest. (from, word) ∷ rest) (pairs_there base (from + 2) words b.1)
+    rw (same, pairs_there base (from + 2) words b.1) refl
 
 -- the words of low memory expansion
 loadable : (a : ℕ) → 0x1000 ≤ a → a < 0x2000 → is_loadable (2 * a) ≡ true
@@ -146,9 +136,8 @@ none_outside before a [] from to = refl
 none_outside before a (word ∷ words) from to =
     let inside : not (is_loadable (2 * a)) ≡ false = ap not (loadable a from (omega (arith, to))) in
     let next : 2 * (a + 1) ≡ 2 * a + 2 = omega arith in
-    chosen (not (is_loadable (2 * a))) false (Some (2 * a, word)) _ inside
-    ∙ (ap (λ from. first_behind is_outside (before ++ (2 * a, word) ∷ []) (pairs_of from words)) (sym next)
-    ∙ none_outside (before ++ (2 * a, word) ∷ []) (a + 1) words (omega (arith, from)) (omega (arith, to)))
+    rw (inside, ← next)
+    (none_outside (before ++ (2 * a, word) ∷ []) (a + 1) words (omega (arith, from)) (omega (arith, to)))
 
 not_tied : (at other : ℕ) → other < at → eq_by_cmp nat_cmp at other ≡ false
 not_tied at other lt = grind (arith, nat_tests)
@@ -160,8 +149,7 @@ none_taken before from (word ∷ words) free =
     let next : (at : ℕ) → from + 2 ≤ at → find nat_cmp at (before ++ (from, word) ∷ []) ≡ None = λ at le.
     find-append nat_cmp nat_cmp_total before from word at none
     ∙ (ap (λ tied. cond tied (Some word) (find nat_cmp at before)) (not_tied at from (omega (arith, le))) ∙ free at (omega (arith, le))) in
-    chosen (is_some (find nat_cmp from before)) false (Some (from, word)) _ (ap is_some none)
-    ∙ none_taken (before ++ (from, word) ∷ []) (from + 2) words next
+    rw none (none_taken (before ++ (from, word) ∷ []) (from + 2) words next)
 
 pub all_filled : (from : ℕ) (words : List ℕ) → map (filled [] []) (pairs_of from words) ≡ pairs_of from words
 all_filled from [] = refl
@@ -220,7 +208,7 @@ pair_found from (word ∷ words) at = by (eq_by_cmp nat_cmp at from) refl (pair_
         let same : at ≡ from = eqb-true at from (sym (unsigned_tied at from) ∙ e) in
         let here : stands_in from at ≡ true = grind (arith, nat_tests, same) in
         let place : (at - from) / 2 ≡ 0 = omega (arith, same) in
-        sym (chosen _ true _ _ here ∙ ap (slice_get (word ∷ words)) place)
+        rw (here, place) refl
     by false e ih =
         let apart : at ≡ from → ⊥ = λ same. let tied : eq_by_cmp nat_cmp at from ≡ true = unsigned_tied at from ∙ grind (arith, nat_tests, same) in cc (tied, e) in
         ih ∙ later apart (stands_in (from + 2) at) (stands_in from at) refl refl

@@ -5,7 +5,8 @@ use Rattle.std.specs.Prelude.{Option, ◌⊎◌, ◌&&◌, ◌||◌, nat_le, nat
 use Rattle.std.specs.Option.{option_map}
 use Rattle.std.proofs.lemmas.Bool.Decides.{nat_tests}
 use Rattle.std.proofs.lemmas.Bool.{false_from_ne_true}
-use Rattle.expression_defs.specs.Expression.{Value, Absolute, Relocatable}
+use Rattle.std.proofs.lemmas.List.{length-map}
+use Rattle.expression_defs.specs.Expression.{Value, Absolute}
 use Rattle.object_defs.specs.declared.spot.Spot.TheVariants as spot
 use Rattle.object_defs.specs.Modules.{Reference}
 use Rattle.asm_defs.specs.declared.content.Content.{Content}
@@ -19,7 +20,7 @@ use Rattle.asm_defs.proofs.PlacedWords.{word_contents}
 use Rattle.asm_defs.specs.Memory.{content_at, any_from, count_from, has_word, words_in, word_count, part_words}
 use Rattle.line_laws.specs.KnownLines.{numbers_of, outcome_words, is_at, is_absolute}
 use Rattle.source_defs.specs.OperandLists.{is_empty}
-use Rattle.line_laws.proofs.Small.{both, chosen, map_length, get_past}
+use Rattle.line_laws.proofs.Small.{both, chosen, get_past}
 use Rattle.count_defs.specs.Counts.{one_if}
 
 -- the bytes of absolute words
@@ -61,7 +62,7 @@ pub placed_size : (outcome : Outcome) (words : List ℕ) → outcome_words outco
 placed_size Nothing words e = let same : ◌≡◌ {A = List ℕ} [] words = cc e in ap (λ words. 2 * length words) same
 placed_size (Words values) words e =
     let are = are_numbers values words e in
-    ap (λ values. 2 * length values) are ∙ ap (λ n. 2 * n) (map_length Absolute words)
+    ap (λ values. 2 * length values) are ∙ ap (λ n. 2 * n) (length-map words Absolute)
 placed_size _ words e = cc e
 
 -- and which
@@ -69,8 +70,7 @@ pub placed_contents : (references : List Reference) (at : Location) (outcome : O
     → contents_by at references outcome ≡ cells words
 placed_contents references at Nothing words e absolute = let same : ◌≡◌ {A = List ℕ} [] words = cc e in ap cells same
 placed_contents references at (Words values) words e absolute =
-    ap (λ (found : Part). word_contents found references at.number values) absolute
-    ∙ (ap (word_contents part.Absolute references at.number) (are_numbers values words e) ∙ contents_of_numbers references at.number words)
+    rw (absolute, are_numbers values words e) (contents_of_numbers references at.number words)
 placed_contents references at _ words e absolute = cc e
 
 -- what stands at a place of memory that holds words from a place on
@@ -98,9 +98,7 @@ module _ (from : ℕ) (words more : List ℕ) where
       let inside : nat_le from p ≡ true = grind (arith, nat_tests) in
       let size = cells_length words in
       let split : p - from ≡ length (cells words) + (p - reached) = omega (arith, size, le) in
-      chosen _ true _ _ inside
-      ∙ (ap (λ items. slice_get items (p - from)) (cells_append words more)
-      ∙ (ap (slice_get (cells words ++ cells more)) split ∙ get_behind (cells words) (cells more) (p - reached)))
+      rw (inside, cells_append words more, split) (get_behind (cells words) (cells more) (p - reached))
 
   -- at another
   content_before : (p : ℕ) → p < reached → content_of from (words ++ more) p ≡ content_of from words p
@@ -110,10 +108,9 @@ module _ (from : ℕ) (words more : List ℕ) where
       by true e =
           let le : from ≤ p = grind (arith, nat_tests, e) in
           let size = cells_length words in
-          chosen _ true _ _ e
-          ∙ (ap (λ items. slice_get items (p - from)) (cells_append words more)
-          ∙ (get_before (cells words) (cells more) (p - from) (omega (arith, size, lt, le)) ∙ sym (chosen _ true _ _ e)))
-      by false e = chosen _ false _ _ e ∙ sym (chosen _ false _ _ e)
+          rw (e, cells_append words more)
+          (get_before (cells words) (cells more) (p - from) (omega (arith, size, lt, le)))
+      by false e = rw e refl
 
   content_past : (p : ℕ) → reached + 2 * length more ≤ p → content_of from (words ++ more) p ≡ content_of from words p
   content_past p le =
@@ -225,19 +222,18 @@ module _ (line : AssembledLine) (at : ℕ) (more : List ℕ) (next : ComesNext l
     pub hold_more : HoldWords references (line ∷ lines) from (words ++ more)
     hold_more = record {
       absolute = absolute_more;
-      relocatable = λ p. chosen _ false _ _ (not_relocatable p) ∙ hold.relocatable p;
+      relocatable = λ p. rw (not_relocatable p) (hold.relocatable p);
       free = λ p le.
           let total = length-append words more in
-          ap (λ b. b || is_placed lines part.Absolute p) (not_behind p (omega (arith, le, total, ends)))
-          ∙ hold.free p (omega (arith, le, total, ends));
-      none = λ p. ap (λ b. b || is_placed lines part.Relocatable p) (not_relocatable p) ∙ hold.none p;
+          rw (not_behind p (omega (arith, le, total, ends))) (hold.free p (omega (arith, le, total, ends)));
+      none = λ p. rw (not_relocatable p) (hold.none p);
     }
 
 pub any_none : (f : ℕ → Bool) (from n : ℕ) → ((p : ℕ) → from ≤ p → p < from + n → f p ≡ false) → any_from f from n ≡ false
 any_none f from zero free = refl
 any_none f from (suc n) free =
-    ap (λ b. b || any_from f (from + 1) n) (free from (omega arith) (omega arith))
-    ∙ any_none f (from + 1) n (λ p le lt. free p (omega (arith, le)) (omega (arith, lt)))
+    rw (free from (omega arith) (omega arith))
+    (any_none f (from + 1) n (λ p le lt. free p (omega (arith, le)) (omega (arith, lt))))
 
 count_none : (f : ℕ → Bool) (first n : ℕ) → ((w : ℕ) → f w ≡ false) → count_from f first n ≡ 0
 count_none f first zero none = refl

@@ -8,7 +8,7 @@ use Rattle.std.specs.FinMap.{get-from_entries}
 use Rattle.std.proofs.lemmas.Bool.{false_from_ne_true}
 use Rattle.source_defs.specs.Refusals.{◌>>=◌, at_line}
 use Rattle.expression_defs.specs.Symbols.{look_up, predefined, registers}
-use Rattle.expression_defs.specs.Expression.{Value, Absolute, Relocatable}
+use Rattle.expression_defs.specs.Expression.{Value, Absolute}
 use Rattle.source_defs.specs.Lines.{numbered}
 use Rattle.expression_defs.specs.Layout.{assembled_lines, laid, with_names}
 use Rattle.expression_defs.proofs.LaidLaws.{laid_more}

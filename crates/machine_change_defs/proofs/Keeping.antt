@@ -9,16 +9,16 @@ use Rattle.tms_defs.specs.MultiplyDivide.{product_of, division_of, by_division}
 use Rattle.tms_defs.specs.Instructions.{instr_at}
 use Rattle.tms_defs.specs.declared.flags.Flags.{Flags}
 use Rattle.tms_defs.specs.declared.instruction.TwoOp.{TwoOp}
-use Rattle.tms_defs.specs.declared.instruction.TwoOp.TheVariants.{SZC, S, C, A, MOV, SOC}
+use Rattle.tms_defs.specs.declared.instruction.TwoOp.TheVariants.{C, MOV}
 use Rattle.tms_defs.specs.declared.instruction.RegOp.{RegOp}
 use Rattle.tms_defs.specs.declared.instruction.RegOp.TheVariants.{COC, CZC, XOR, XOP, LDCR, STCR, MPY, DIV}
 use Rattle.tms_defs.specs.declared.instruction.ShiftOp.{ShiftOp}
 use Rattle.tms_defs.specs.declared.instruction.OneOp.{OneOp}
-use Rattle.tms_defs.specs.declared.instruction.OneOp.TheVariants.{BLWP, B, X, CLR, NEG, INV, INC, INCT, DEC, DECT, BL, SWPB, SETO, ABS}
+use Rattle.tms_defs.specs.declared.instruction.OneOp.TheVariants.{BLWP, B, X, CLR, BL, SWPB, SETO}
 use Rattle.tms_defs.specs.declared.instruction.ImmOp.{ImmOp}
-use Rattle.tms_defs.specs.declared.instruction.ImmOp.TheVariants.{LI, AI, ANDI, ORI, CI, STWP, STST}
+use Rattle.tms_defs.specs.declared.instruction.ImmOp.TheVariants.{LI, CI, STWP, STST}
 use Rattle.tms_defs.specs.declared.instruction.BareOp.{BareOp}
-use Rattle.tms_defs.specs.declared.instruction.BareOp.TheVariants.{LWPI, LIMI, IDLE, RSET, RTWP, CKON, CKOF, LREX}
+use Rattle.tms_defs.specs.declared.instruction.BareOp.TheVariants.{LWPI, LIMI, RTWP}
 use Rattle.tms_defs.specs.declared.instruction.Instr.{Instr}
 use Rattle.tms_defs.specs.declared.instruction.Instr.TheVariants as instr
 use Rattle.tms_defs.specs.declared.step_end.StepEnd.TheVariants.{Done}
@@ -34,7 +34,8 @@ use Rattle.tms_defs.specs.Step.{step_end}
 given : {X : Type 0} (a b : X) → Gives a ≡ Gives b → a ≡ b
 given a b e = cc
 
-pick : {R : Type 0} (b : Bool) → (b ≡ true → R) → (b ≡ false → R) → R
+-- by both outcomes of a test
+pub pick : {R : Type 0} (b : Bool) → (b ≡ true → R) → (b ≡ false → R) → R
 pick true t f = t refl
 pick false t f = f refl
 
@@ -45,18 +46,20 @@ pub record Holds {X : Type 0} (Q : X → Type 0) (a : Answer X) : Type 0 where
 pub holds : {X : Type 0} {Q : X → Type 0} (x : X) → Q x → Holds Q (Gives x)
 holds {Q = Q} x q = record { by = λ y e. rw (← given x y e) q }
 
-none : {X : Type 0} {Q : X → Type 0} → Holds Q NoInstruction
+pub none : {X : Type 0} {Q : X → Type 0} → Holds Q NoInstruction
 none = record { by = λ x e. absurd (cc) }
 
-holds_then : {X Y : Type 0} {Q : X → Type 0} {R : Y → Type 0} (a : Answer X) (f : X → Answer Y) → Holds Q a → ((x : X) → Q x → Holds R (f x)) → Holds R (a >>= f)
+pub holds_then : {X Y : Type 0} {Q : X → Type 0} {R : Y → Type 0} (a : Answer X) (f : X → Answer Y) → Holds Q a
+    → ((x : X) → Q x → Holds R (f x)) → Holds R (a >>= f)
 holds_then (Gives x) f h k = k x (h.by x refl)
 holds_then (AtPort p) f h k = record { by = λ x e. absurd (cc) }
-holds_then NoInstruction f h k = record { by = λ x e. absurd (cc) }
+holds_then NoInstruction f h k = none
 
-holds_num : {X Y : Type 0} {R : Y → Type 0} (a : Answer X) (f : X → Answer Y) → ((x : X) → Holds R (f x)) → Holds R (a >>= f)
+pub holds_num : {X Y : Type 0} {R : Y → Type 0} (a : Answer X) (f : X → Answer Y) → ((x : X) → Holds R (f x))
+    → Holds R (a >>= f)
 holds_num (Gives x) f k = k x
 holds_num (AtPort p) f k = record { by = λ x e. absurd (cc) }
-holds_num NoInstruction f k = record { by = λ x e. absurd (cc) }
+holds_num NoInstruction f k = none
 
 -- A word stands for an operation that is not one on bytes, unless operations on bytes are allowed.
 abbrev pub FitsWidth : Bool → Width → Type 0
@@ -115,10 +118,7 @@ module _ (M : Type 0) (access : Accesses M) (P : M → Type 0) (bytes : Bool)
   do_two : (x : Cpu M) → P x.memory → (o : TwoOp) (b : Width) → FitsWidth bytes b → (v d : ℕ) → Kept (two M access o b v d x)
   do_two x h MOV b f v d = to_stored x h b f d v _
   do_two x h C b f v d = holds_then _ _ (at_value x h b f d) (λ u k. holds (record u.1 { status = with_order b v u.0 u.1.status }) k)
-  do_two x h A b f v d = holds_then _ _ (at_value x h b f d) (λ u k. to_stored u.1 k b f d _ _)
-  do_two x h S b f v d = holds_then _ _ (at_value x h b f d) (λ u k. to_stored u.1 k b f d _ _)
-  do_two x h SOC b f v d = holds_then _ _ (at_value x h b f d) (λ u k. to_stored u.1 k b f d _ _)
-  do_two x h SZC b f v d = holds_then _ _ (at_value x h b f d) (λ u k. to_stored u.1 k b f d _ _)
+  do_two x h _ b f v d = holds_then _ _ (at_value x h b f d) (λ u k. to_stored u.1 k b f d _ _)
 
   do_division : (x : Cpu M) → P x.memory → (o : Option (ℕ × ℕ)) (a : ℕ) → Kept (with_division M access o a x)
   do_division x h (Some q) a = to_words x h (in_row a q)
@@ -130,16 +130,10 @@ module _ (M : Type 0) (access : Accesses M) (P : M → Type 0) (bytes : Bool)
   do_one x h B a = holds (record x { pc = even a }) h
   do_one x h X a = none
   do_one x h CLR a = to_word x h a 0
-  do_one x h NEG a = holds_num _ _ (λ v. to_stored x h Word tt a _ _)
-  do_one x h INV a = holds_num _ _ (λ v. to_stored x h Word tt a _ _)
-  do_one x h INC a = holds_num _ _ (λ v. to_stored x h Word tt a _ _)
-  do_one x h INCT a = holds_num _ _ (λ v. to_stored x h Word tt a _ _)
-  do_one x h DEC a = holds_num _ _ (λ v. to_stored x h Word tt a _ _)
-  do_one x h DECT a = holds_num _ _ (λ v. to_stored x h Word tt a _ _)
   do_one x h BL a = holds_then _ _ (to_word x h (register 11 x) x.pc) (λ z k. holds (record z { pc = even a }) k)
   do_one x h SWPB a = holds_num _ _ (λ v. to_word x h a (swapped v))
   do_one x h SETO a = to_word x h a 0xFFFF
-  do_one x h ABS a = holds_num _ _ (λ v. to_stored x h Word tt a _ _)
+  do_one x h _ a = holds_num _ _ (λ v. to_stored x h Word tt a _ _)
 
   do_reg : (x : Cpu M) → P x.memory → (o : RegOp) (n s : ℕ) → Kept (reg M access o n s x)
   do_reg x h COC n s = holds_num _ _ (λ v. holds (with_flags x (by_ones v.1 v.0 x.status.flags)) h)
@@ -171,22 +165,16 @@ module _ (M : Type 0) (access : Accesses M) (P : M → Type 0) (bytes : Bool)
 
   do_imm : (x : Cpu M) → P x.memory → (o : ImmOp) (n : ℕ) → Kept (imm M access o n x)
   do_imm x h LI n = holds_then _ _ (at_pc x h) (λ w k. to_stored w.1 k Word tt (register n w.1) _ _)
-  do_imm x h AI n = holds_then _ _ (do_immediate x h n) (λ w k. to_stored w.2 k Word tt (register n w.2) _ _)
-  do_imm x h ANDI n = holds_then _ _ (do_immediate x h n) (λ w k. to_stored w.2 k Word tt (register n w.2) _ _)
-  do_imm x h ORI n = holds_then _ _ (do_immediate x h n) (λ w k. to_stored w.2 k Word tt (register n w.2) _ _)
   do_imm x h CI n = holds_then _ _ (do_immediate x h n) (λ w k. holds (record w.2 { status = with_order Word w.1 w.0 w.2.status }) k)
   do_imm x h STWP n = to_word x h (register n x) x.wp
   do_imm x h STST n = to_word x h (register n x) (status_word x.status)
+  do_imm x h _ n = holds_then _ _ (do_immediate x h n) (λ w k. to_stored w.2 k Word tt (register n w.2) _ _)
 
   do_bare : (x : Cpu M) → P x.memory → (o : BareOp) → Kept (bare M access o x)
   do_bare x h LWPI = holds_then _ _ (at_pc x h) (λ w k. holds (record w.1 { wp = even w.0 }) k)
   do_bare x h LIMI = holds_then _ _ (at_pc x h) (λ w k. holds (record w.1 { status = with_mask w.0 w.1.status }) k)
   do_bare x h RTWP = holds_num _ _ (λ w. holds (record x { wp = even w.0; pc = even w.1; status = status_at w.2 }) h)
-  do_bare x h IDLE = none
-  do_bare x h RSET = none
-  do_bare x h CKON = none
-  do_bare x h CKOF = none
-  do_bare x h LREX = none
+  do_bare x h _ = none
 
   do_instr : (x : Cpu M) → P x.memory → (i : Instr) → Allowed bytes (Some i) → Kept (executed M access i x)
   do_instr x h (instr.Two o b d s) f =
@@ -217,8 +205,7 @@ module _ (M : Type 0) (access : Accesses M) (P : M → Type 0) (bytes : Bool)
   ended : (x : Cpu M) → P x.memory → (a : Answer (ℕ × Cpu M)) → KeptIf a
       → ((word : ℕ) → (step_end M access x a).0 ≡ Done word → Allowed bytes (instr_at word)) → P (step_end M access x a).1.memory
   ended x h (Gives r) k allowed = k.by r refl (allowed r.0 refl)
-  ended x h (AtPort p) k allowed = h
-  ended x h NoInstruction k allowed = h
+  ended x h _ k allowed = h
 
   -- a step of an instruction that is allowed keeps it
   pub step_keeps : (x : Cpu M) → P x.memory → ((word : ℕ) → (step M access x).0 ≡ Done word → Allowed bytes (instr_at word))
@@ -232,13 +219,7 @@ all_allowed (Some (instr.Two o b d s)) = by (byte_or_word b)
     by : (w : Width) → FitsWidth true w
     by Byte = refl
     by Word = tt
-all_allowed (Some (instr.Reg o d s)) = tt
-all_allowed (Some (instr.Shift o c n)) = tt
-all_allowed (Some (instr.One o s)) = tt
-all_allowed (Some (instr.Jump o d)) = tt
-all_allowed (Some (instr.Imm o n)) = tt
-all_allowed (Some (instr.Bare o)) = tt
-all_allowed None = tt
+all_allowed _ = tt
 
 -- ---- jumps
 module _ (M : Type 0) (access : Accesses M) where
@@ -271,8 +252,7 @@ module _ (M : Type 0) (access : Accesses M) where
   jump_ended : (x : Cpu M) (a : Answer (ℕ × Cpu M)) → Holds (λ (r : ℕ × Cpu M). IsJump r.0 → r.1.memory ≡ x.memory) a
       → ((word : ℕ) → (step_end M access x a).0 ≡ Done word → IsJump word) → (step_end M access x a).1.memory ≡ x.memory
   jump_ended x (Gives r) k jump = k.by r refl (jump r.0 refl)
-  jump_ended x (AtPort p) k jump = refl
-  jump_ended x NoInstruction k jump = refl
+  jump_ended x _ k jump = refl
 
   -- a jump leaves the memory
   pub jump_leaves : (x : Cpu M) → ((word : ℕ) → (step M access x).0 ≡ Done word → IsJump word) → (step M access x).1.memory ≡ x.memory

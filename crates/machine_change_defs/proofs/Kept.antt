@@ -1,5 +1,6 @@
 -- What every instruction leaves: how many bytes each part of the memory has, the ROM, and the bytes of the GROMs.
 use Rattle.std.proofs.Common.{◌≡◌, ℕ, zero, suc, ◌+◌, Bool, true, false, List, length, Option, Some, None, refl, ◌∙◌}
+use Rattle.std.proofs.Common.{rules}
 use Rattle.std.proofs.Math.ListN.{set}
 use Rattle.std.proofs.lemmas.List.{length-set}
 use Rattle.tms_defs.specs.Words.{even, high, low}
@@ -15,23 +16,26 @@ use Rattle.machine_change_defs.specs.Laws.{Keeps}
 use Rattle.machine_change_defs.proofs.Keeping.{Holds, holds, step_keeps, all_allowed}
 
 same : (first : Memory) → Keeps first first
-same first = record { scratchpad = refl; low_expansion = refl; high_expansion = refl; video = refl; registers = refl; rom = refl; image = refl }
+same first = search rules
 
 module _ (first m : Memory) (k : Keeps first m) where
   with_vdp : (v : VdpState) → length v.memory ≡ length m.vdp.memory → length v.registers ≡ length m.vdp.registers → Keeps first (record m { vdp = v })
-  with_vdp v memory registers = record { scratchpad = k.scratchpad; low_expansion = k.low_expansion; high_expansion = k.high_expansion; video = memory ∙ k.video; registers = registers ∙ k.registers; rom = k.rom; image = k.image }
+  with_vdp v memory registers =
+      let video : length v.memory ≡ length first.vdp.memory = memory ∙ k.video in
+      let others : length v.registers ≡ length first.vdp.registers = registers ∙ k.registers in
+      search rules
 
   with_grom : (g : GromState) → g.image ≡ m.grom.image → Keeps first (record m { grom = g })
-  with_grom g image = record { scratchpad = k.scratchpad; low_expansion = k.low_expansion; high_expansion = k.high_expansion; video = k.video; registers = k.registers; rom = k.rom; image = image ∙ k.image }
+  with_grom g image = let same : g.image ≡ first.grom.image = image ∙ k.image in search rules
 
   with_pad : (bytes : List ℕ) → length bytes ≡ length m.scratchpad → Keeps first (record m { scratchpad = bytes })
-  with_pad bytes size = record { scratchpad = size ∙ k.scratchpad; low_expansion = k.low_expansion; high_expansion = k.high_expansion; video = k.video; registers = k.registers; rom = k.rom; image = k.image }
+  with_pad bytes size = let same : length bytes ≡ length first.scratchpad = size ∙ k.scratchpad in search rules
 
   with_low : (bytes : List ℕ) → length bytes ≡ length m.low_expansion → Keeps first (record m { low_expansion = bytes })
-  with_low bytes size = record { scratchpad = k.scratchpad; low_expansion = size ∙ k.low_expansion; high_expansion = k.high_expansion; video = k.video; registers = k.registers; rom = k.rom; image = k.image }
+  with_low bytes size = let same : length bytes ≡ length first.low_expansion = size ∙ k.low_expansion in search rules
 
   with_high : (bytes : List ℕ) → length bytes ≡ length m.high_expansion → Keeps first (record m { high_expansion = bytes })
-  with_high bytes size = record { scratchpad = k.scratchpad; low_expansion = k.low_expansion; high_expansion = size ∙ k.high_expansion; video = k.video; registers = k.registers; rom = k.rom; image = k.image }
+  with_high bytes size = let same : length bytes ≡ length first.high_expansion = size ∙ k.high_expansion in search rules
 
   set_twice : (bytes : List ℕ) (i j x y : ℕ) → length (set (set bytes i x) j y) ≡ length bytes
   set_twice bytes i j x y = length-set (set bytes i x) j y ∙ length-set bytes i x

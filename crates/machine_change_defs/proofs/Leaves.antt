@@ -3,7 +3,7 @@ use Rattle.std.proofs.Common.{◌≡◌, ℕ, ◌∙◌, sym, ap, refl, false}
 use Rattle.tms_defs.specs.Words.{even}
 use Rattle.tms_defs.specs.Instructions.{instr_at}
 use Rattle.tms_defs.specs.declared.step_end.StepEnd.TheVariants.{Done}
-use Rattle.console_defs.specs.Memory.{Memory, console, Region, Rom, PortOf, Unmapped, region, word_written_in}
+use Rattle.console_defs.specs.Memory.{Memory, console, Region, PortOf, region, word_written_in}
 use Rattle.console_defs.specs.Machine.{MachineState, machine_step}
 use Rattle.machine_change_defs.proofs.Keeping.{Holds, holds, Allowed, step_keeps, IsJump, jump_leaves}
 
@@ -15,9 +15,7 @@ abbrev pub SamePorts : Memory → Memory → Type 0
 SamePorts first m = (m.vdp ≡ first.vdp) × (m.grom ≡ first.grom)
 
 written : (first m : Memory) → SamePorts first m → (r : Region) (a w : ℕ) → Holds (SamePorts first) (word_written_in r m a w)
-written first m k (Rom at) a w = holds m k
 written first m k (PortOf port) a w = record { by = λ n e. absurd (cc) }
-written first m k Unmapped a w = holds m k
 written first m k _ a w = holds _ k
 
 module _ (x : MachineState) (word : ℕ) (done : (machine_step x).0 ≡ Done word) where

@@ -1,12 +1,12 @@
 -- The changes of the instructions give the memory.
 use Rattle.std.proofs.Common.{◌≡◌, ℕ, zero, suc, ◌+◌, ◌-◌, ◌*◌, ◌≤◌, Bool, true, false, cond, nat_eq, ◌&&◌, List, [], ◌∷◌, ◌++◌, length, take, drop, get_or}
-use Rattle.std.proofs.Common.{Option, Some, None, refl, sym, ap, ap₂, ◌∙◌, append_assoc, length-append, length-drop, arith}
+use Rattle.std.proofs.Common.{Option, Some, None, refl, sym, ap, ap₂, ◌∙◌, append_assoc, length-append, length-drop}
+use Rattle.std.proofs.Common.{arith, rules}
 use Rattle.std.proofs.Math.ListN.{set}
 use Rattle.std.specs.List.{flat_map, range_with_len}
 use Rattle.std.specs.Prelude.{slice_range, nat_le}
 use Rattle.std.proofs.lemmas.Bool.Decides.{nat_tests}
 use Rattle.std.proofs.lemmas.List.{get_or-append_right, set-append_right, length-take-le}
-use Rattle.std.specs.Option.{option_map}
 use Rattle.change_defs.proofs.Lead.{changes_lead}
 use Rattle.console_defs.specs.Memory.{IsMemory}
 use Rattle.console_defs.specs.Machine.{MachineState}
@@ -18,6 +18,7 @@ use Rattle.machine_change_defs.specs.Seen.{SeenMemory, seen_memory, size_of, are
 use Rattle.machine_change_defs.specs.Changes.{RegisterChange, register_change, register_changes, registers_applied, new_number, new_held, new_mark, renewed}
 use Rattle.machine_change_defs.specs.Changes.{latch_changes, latches_applied, other_changes, others_applied, changes_at, changes_applied}
 use Rattle.machine_change_defs.specs.Laws.{ChangesGiveMemory, memory_by_changes}
+use Rattle.machine_change_defs.proofs.Keeping.{pick}
 use Rattle.machine_change_defs.proofs.Kept.{steps_leave}
 
 -- a list whose front has so many bytes
@@ -71,19 +72,13 @@ registers_lead b a bl al = registers_from [] [] b a 0 16 refl refl bl al
 
 -- ---- what the ports hold
 number_renewed : (old new : ℕ) → renewed (new_number old new) old ≡ new
-number_renewed old new = by (nat_eq old new) refl
-  where
-    by : (s : Bool) → nat_eq old new ≡ s → renewed (cond s None (Some new)) old ≡ new
-    by true e = grind (arith, nat_tests)
-    by false e = refl
+number_renewed old new = pick (nat_eq old new) (λ e. rw e (grind (arith, nat_tests))) (λ e. rw e refl)
 
 held_renewed : (old new : Option ℕ) → renewed (new_held old new) old ≡ new
 held_renewed None None = refl
-held_renewed (Some old) (Some new) = by (nat_eq old new) refl
-  where
-    by : (s : Bool) → nat_eq old new ≡ s → renewed (option_map Some (cond s None (Some new))) (Some old) ≡ Some new
-    by true e = ap Some (let same : old ≡ new = grind (arith, nat_tests) in same)
-    by false e = refl
+held_renewed (Some old) (Some new) =
+    pick (nat_eq old new)
+    (λ e. rw e (ap Some (let same : old ≡ new = grind (arith, nat_tests) in same))) (λ e. rw e refl)
 held_renewed _ _ = refl
 
 mark_renewed : (old new : Bool) → renewed (new_mark old new) old ≡ new
@@ -154,11 +149,8 @@ area_size Video m p = p.video
 area_size Registers m p = p.registers
 
 with_size : (area : Area) (bytes : List ℕ) (m : SeenMemory) → Sized m → length bytes ≡ size_of area → Sized (with_bytes area bytes m)
-with_size Scratchpad bytes m p size = record { scratchpad = size; low_expansion = p.low_expansion; high_expansion = p.high_expansion; video = p.video; registers = p.registers }
-with_size LowExpansion bytes m p size = record { scratchpad = p.scratchpad; low_expansion = size; high_expansion = p.high_expansion; video = p.video; registers = p.registers }
-with_size HighExpansion bytes m p size = record { scratchpad = p.scratchpad; low_expansion = p.low_expansion; high_expansion = size; video = p.video; registers = p.registers }
-with_size Video bytes m p size = record { scratchpad = p.scratchpad; low_expansion = p.low_expansion; high_expansion = p.high_expansion; video = size; registers = p.registers }
-with_size Registers bytes m p size = record { scratchpad = p.scratchpad; low_expansion = p.low_expansion; high_expansion = p.high_expansion; video = p.video; registers = size }
+with_size Scratchpad bytes m p size = search rules
+with_size _ bytes m p size = search rules
 
 changes_lead_at : (place : Option (Area × ℕ)) (m n : SeenMemory) → Within place → Sized m → Sized n → changes_applied place (changes_at place m n) m ≡ n
 changes_lead_at None m n within p q = others_lead m n p q
@@ -175,14 +167,9 @@ changes_lead_at (Some (area, at)) m n within p q =
 
 place_within : (wp : ℕ) → Within (workspace_place wp)
 place_within wp =
-    by (nat_le 0x8300 wp && nat_le wp 0x83E0) (nat_le 0x2000 wp && nat_le wp 0x3FE0) (nat_le 0xA000 wp && nat_le wp 0xFFE0) refl refl refl
-  where
-    by : (s t u : Bool) → (nat_le 0x8300 wp && nat_le wp 0x83E0) ≡ s → (nat_le 0x2000 wp && nat_le wp 0x3FE0) ≡ t → (nat_le 0xA000 wp && nat_le wp 0xFFE0) ≡ u
-        → Within (cond s (Some (Scratchpad, wp - 0x8300)) (cond t (Some (LowExpansion, wp - 0x2000)) (cond u (Some (HighExpansion, wp - 0xA000)) None)))
-    by true t u e f g = grind (arith, nat_tests)
-    by false true u e f g = grind (arith, nat_tests)
-    by false false true e f g = grind (arith, nat_tests)
-    by false false false e f g = tt
+    pick (nat_le 0x8300 wp && nat_le wp 0x83E0) (λ e. rw e (grind (arith, nat_tests))) (λ e.
+    pick (nat_le 0x2000 wp && nat_le wp 0x3FE0) (λ f. rw (e, f) (grind (arith, nat_tests))) (λ f.
+    pick (nat_le 0xA000 wp && nat_le wp 0xFFE0) (λ g. rw (e, f, g) (grind (arith, nat_tests))) (λ g. rw (e, f, g) tt)))
 
 module _ (x : MachineState) (is : IsMemory x.cpu.memory) where
   sized : (made : ℕ) → Sized (seen_memory (after_steps made x).cpu.memory)

@@ -1,5 +1,6 @@
 -- What holds of all reports of `steps`.
-use Rattle.std.proofs.Common.{◌≡◌, ℕ, ◌+◌, ◌-◌, ◌<◌, ◌≤◌, Bool, true, false, List, ◌++◌, None, Result, Ok, Err, refl, sym, ap, ◌∙◌, subst, append_assoc, arith}
+use Rattle.std.proofs.Common.{◌≡◌, ℕ, ◌+◌, ◌-◌, ◌<◌, ◌≤◌, List, ◌++◌, None, Result, Ok, Err, sym, ap, ◌∙◌, subst}
+use Rattle.std.proofs.Common.{append_assoc, arith}
 use Rattle.std.specs.Prelude.{nat_lt, map}
 use Rattle.std.specs.List.{range_with_len}
 use Rattle.std.proofs.lemmas.Bool.Decides.{nat_tests}
@@ -15,6 +16,7 @@ use Rattle.report_defs.proofs.OneReport.{one_start, one_number, same_run, some_a
 use Rattle.report_defs.proofs.Ranges.{mapped_split}
 use Rattle.machine_change_defs.specs.Lines.{line_after, step_lines, expansion_lines}
 use Rattle.machine_change_defs.specs.Reports.{ReportsSteps, StepsReport, ShowsInstructions, StepsFront}
+use Rattle.machine_change_defs.proofs.Keeping.{pick}
 use Rattle.machine_change_defs.specs.Laws.{OneStepsReport, StepsFrontsBeginReports}
 
 abbrev whole : MachineState → ℕ → RunEnd → MachineState → Report
@@ -49,11 +51,10 @@ lines_behind x few made le =
 -- a run is not shorter than what nothing ended
 not_shorter : (limit few made : ℕ) (x y : MachineState) (ending : RunEnd) → ((before : ℕ) → before < few → end_at None limit before x ≡ None)
     → IsRun None limit made x ending y → few ≤ made
-not_shorter limit few made x y ending goes run = by (nat_lt made few) refl
-  where
-    by : (less : Bool) → nat_lt made few ≡ less → few ≤ made
-    by true e = absurd (some_apart ending _ run.ends (goes made (grind (arith, nat_tests))))
-    by false e = grind (arith, nat_tests)
+not_shorter limit few made x y ending goes run =
+    pick (nat_lt made few)
+    (λ e. absurd (some_apart ending _ run.ends (goes made (grind (arith, nat_tests)))))
+    (λ e. grind (arith, nat_tests))
 
 begins_run : (limit : ℕ) (linked : LinkedMemory) (front report : Report) → ShowsInstructions limit linked front → ReportsSteps limit linked report → Begins front report
 begins_run limit linked front report p q =

@@ -60,17 +60,15 @@ put_step : (cells after : List (Option Content)) (from p : ℕ) (content : Conte
 put_step cells after from p content put found ih same other true d e f =
     let at : p ≡ from = grind (arith, nat_tests, e) in
     let front : p - from ≡ 0 = omega (arith, at) in
-    ih ∙ (chosen _ false _ _ (not_first from (length put) p at)
-    ∙ (same at ∙ sym (chosen _ true _ _ (first from (length put) p at) ∙ ap (slice_get (content ∷ put)) front)))
+    rw (first from (length put) p at, front) ((rw (not_first from (length put) p at) at ih) ∙ same at)
 put_step cells after from p content put found ih same other false true e f =
     let ne : p ≢ from = λ at. let here : nat_eq p from ≡ true = grind (arith, nat_tests, at) in cc (here, e) in
     let gt : from + 1 ≤ p = grind (arith, nat_tests, f) in
     let next : p - from ≡ suc (p - (from + 1)) = omega (arith, gt) in
-    ih ∙ (chosen _ true _ _ f
-    ∙ sym (chosen _ true _ _ (others from (length put) p true ne f) ∙ ap (slice_get (content ∷ put)) next))
+    rw (others from (length put) p true ne f, next) (rw f at ih)
 put_step cells after from p content put found ih same other false false e f =
     let ne : p ≢ from = λ at. let here : nat_eq p from ≡ true = grind (arith, nat_tests, at) in cc (here, e) in
-    ih ∙ (chosen _ false _ _ f ∙ (other ne ∙ sym (chosen _ false _ _ (others from (length put) p false ne f))))
+    rw (others from (length put) p false ne f) ((rw f at ih) ∙ other ne)
 
 -- what stands at a place behind some bytes
 pub put_cell : (cells : List (Option Content)) (from : ℕ) (put : List Content) (p : ℕ) → from + length put ≤ length cells
@@ -87,8 +85,7 @@ put_cell cells from (content ∷ put) p le =
 
 pub any_same : (f g : ℕ → Bool) (from n : ℕ) → ((w : ℕ) → f w ≡ g w) → any_from f from n ≡ any_from g from n
 any_same f g from zero same = refl
-any_same f g from (suc n) same =
-    ap (λ b. b || any_from f (from + 1) n) (same from) ∙ ap (λ b. g from || b) (any_same f g (from + 1) n same)
+any_same f g from (suc n) same = rw (same from, any_same f g (from + 1) n same) refl
 
 is_there : {A : Type 0} (items : List A) (at : ℕ) (item : A) → at < length items → is_some (slice_get items at) ≡ true
 is_there items at item lt = ap is_some (slice_get-get_or items at item lt)
@@ -100,9 +97,8 @@ module _ (unused : List Reference) where
   some_by line before part p true e ih =
       let size = contents_length line.at (references_of unused before) line.outcome in
       let within : p - line.at.number < length (contents unused before line) = grind (arith, nat_tests, e, size) in
-      ap is_some (chosen _ true _ _ e) ∙ (is_there (contents unused before line) (p - line.at.number) Second within
-      ∙ sym (ap (λ b. b || is_placed before part p) e))
-  some_by line before part p false e ih = ap is_some (chosen _ false _ _ e) ∙ (ih ∙ sym (ap (λ b. b || is_placed before part p) e))
+      rw e (is_there (contents unused before line) (p - line.at.number) Second within)
+  some_by line before part p false e ih = rw e ih
 
   pub content_some : (lines : List AssembledLine) (part : Part) (p : ℕ) → is_some (content_at unused lines part p) ≡ is_placed lines part p
   content_some [] part p = refl
@@ -125,9 +121,7 @@ module _ (unused : List Reference) where
   module _ (line : AssembledLine) (earlier : List AssembledLine) (part : Part) (old : List (Option Content)) (holds : (p : ℕ) → cell old p ≡ content_at unused earlier part p) where
     -- a line of another part
     pub holds_still : same_part line.at.part part ≡ false → (p : ℕ) → cell old p ≡ content_at unused (line ∷ earlier) part p
-    holds_still other p =
-        holds p ∙ sym (chosen (covers line part p) false (slice_get (contents unused earlier line) (p - line.at.number)) (content_at unused earlier part p)
-        (ap (λ b. b && nat_le line.at.number p && nat_lt p (line.at.number + bytes_in line.outcome)) other))
+    holds_still other p = rw other (holds p)
 
     -- a line of the part
     pub holds_more : same_part line.at.part part ≡ true → length old ≡ 65536 → line.at.number + bytes_in line.outcome ≤ 65536
@@ -135,24 +129,16 @@ module _ (unused : List Reference) where
     holds_more same full within p =
         let put = contents unused earlier line in
         let size : length put ≡ bytes_in line.outcome = contents_length line.at (references_of unused earlier) line.outcome in
-        let covered : covers line part p ≡ is_among line.at.number (length put) p =
-        ap (λ b. b && nat_le line.at.number p && nat_lt p (line.at.number + bytes_in line.outcome)) same
-        ∙ ap (λ n. is_among line.at.number n p) (sym size) in
-        put_cell old line.at.number put p (omega (arith, full, within, size))
-        ∙ (chosen (is_among line.at.number (length put) p) (covers line part p) (slice_get put (p - line.at.number)) (cell old p) (sym covered)
-        ∙ ap (λ other. if covers line part p then slice_get put (p - line.at.number) else other) (holds p))
+        put_cell old line.at.number put p (omega (arith, full, within, size)) ∙ rw (size, same, holds p) refl
 
 -- nothing is placed in the part of dummy lines
 never : (found : Part) → same_part found part.Dummy ≡ false
 never part.Relocatable = refl
-never part.Absolute = refl
-never part.Dummy = refl
+never _ = refl
 
 dummy_free : (lines : List AssembledLine) (p : ℕ) → is_placed lines part.Dummy p ≡ false
 dummy_free [] p = refl
-dummy_free (line ∷ before) p =
-    ap (λ b. b && nat_le line.at.number p && nat_lt p (line.at.number + bytes_in line.outcome) || is_placed before part.Dummy p) (never line.at.part)
-    ∙ dummy_free before p
+dummy_free (line ∷ before) p = rw (never line.at.part) (dummy_free before p)
 
 any_none : (f : ℕ → Bool) (from n : ℕ) → ((w : ℕ) → f w ≡ false) → any_from f from n ≡ false
 any_none f from zero free = refl
@@ -167,16 +153,11 @@ are_same a b = a ≡ b
 pub part_same : (a b : Part) → same_part a b ≡ true → are_same a b
 part_same part.Relocatable part.Relocatable e = refl
 part_same part.Absolute part.Absolute e = refl
-part_same part.Relocatable part.Absolute e = cc e
-part_same part.Relocatable part.Dummy e = cc e
-part_same part.Absolute part.Relocatable e = cc e
-part_same part.Absolute part.Dummy e = cc e
-part_same part.Dummy b e = cc e
+part_same _ _ e = cc e
 
 pub part_placed : (a b : Part) → same_part a b ≡ true → is_placed_in a ≡ true
-part_placed part.Relocatable b e = refl
-part_placed part.Absolute b e = refl
 part_placed part.Dummy b e = cc e
+part_placed _ b e = refl
 
 -- bytes that are laid behind lines
 module _ (references : List Reference) (earlier : List AssembledLine) (line : AssembledLine) (at : Location) (given : List Content) (is_at : line.at ≡ at) (is_given : is_placed_in at.part ≡ true → given ≡ contents references earlier line) (within : at.number + length given ≤ 65536) where

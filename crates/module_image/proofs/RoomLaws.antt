@@ -1,9 +1,8 @@
 -- Whether a line has room.
-use Rattle.std.proofs.Common.{◌≡◌, ◌+◌, ◌<◌, ◌≤◌, Bool, true, false, List, ◌∷◌, Ok, Err, length, refl, ap, ◌∙◌, arith}
-use Rattle.std.specs.Prelude.{nat_lt, if◌then◌else◌, Result}
+use Rattle.std.proofs.Common.{◌≡◌, ◌+◌, ◌<◌, ◌≤◌, true, false, List, ◌∷◌, Ok, Err, length, refl, arith}
+use Rattle.std.specs.Prelude.{nat_lt}
 use Rattle.std.proofs.lemmas.Bool.Decides.{nat_tests}
 use Rattle.object_defs.specs.Modules.{Reference}
-use Rattle.asm_defs.specs.declared.causes.AsmCause.{AsmCause}
 use Rattle.asm_defs.specs.declared.causes.AsmCause.TheVariants.{Overflow, Overlap}
 use Rattle.asm_defs.specs.declared.content.Content.{Content}
 use Rattle.asm_defs.specs.declared.location.Location.{Location}
@@ -16,22 +15,19 @@ use Rattle.module_image.specs.declared.image.Image.{Image}
 use Rattle.module_image.proofs.HoldingLaws.{part_holds, any_there, any_nowhere, words_are}
 
 module _ (earlier : List AssembledLine) (line : AssembledLine) where
-  abbrev room_by : Bool → Bool → Result AssembledLine AsmCause
-  room_by full overlap = if full then Err Overflow else if overlap then Err Overlap else Ok line
-
   pub is_full : 32768 < word_count (line ∷ earlier) → with_room earlier line ≡ Err Overflow
   is_full lt =
       let full : nat_lt 32768 (word_count (line ∷ earlier)) ≡ true = grind (arith, nat_tests, lt) in
-      ap (λ b. room_by b (overlaps earlier line)) full
+      rw full refl
 
   fits : word_count (line ∷ earlier) ≤ 32768 → nat_lt 32768 (word_count (line ∷ earlier)) ≡ false
   fits le = grind (arith, nat_tests, le)
 
   pub is_over : word_count (line ∷ earlier) ≤ 32768 → overlaps earlier line ≡ true → with_room earlier line ≡ Err Overlap
-  is_over le over = ap (λ b. room_by b (overlaps earlier line)) (fits le) ∙ ap (room_by false) over
+  is_over le over = rw (fits le, over) refl
 
   pub has_room : word_count (line ∷ earlier) ≤ 32768 → overlaps earlier line ≡ false → with_room earlier line ≡ Ok line
-  has_room le over = ap (λ b. room_by b (overlaps earlier line)) (fits le) ∙ ap (room_by false) over
+  has_room le over = rw (fits le, over) refl
 
 -- the words of both tables are those of the lines
 pub words_counted : (references : List Reference) (lines : List AssembledLine) (image : Image) → IsImage references lines image

@@ -4,19 +4,19 @@ use Rattle.std.proofs.Common.{inl, inr, arith}
 use Rattle.std.specs.Prelude.{◌⊎◌, Option, Result, nat_le, nat_lt, if◌then◌else◌, slice_get}
 use Rattle.std.specs.List.{list_all}
 use Rattle.std.proofs.lemmas.Bool.Decides.{nat_tests}
+use Rattle.std.proofs.lemmas.Bool.{and_parts, or_parts, or_left, or_right, cases_lt}
 use Rattle.source_defs.specs.Refusals.{◌>>=◌}
 use Rattle.source_defs.specs.Orders.{onto}
-use Rattle.expression_defs.specs.Expression.{Value, Absolute, Relocatable, External}
+use Rattle.expression_defs.specs.Expression.{Value, External}
 use Rattle.object_defs.specs.declared.spot.Spot.{Spot}
 use Rattle.object_defs.specs.Modules.{Reference}
 use Rattle.asm_defs.specs.declared.causes.AsmCause.{AsmCause}
 use Rattle.asm_defs.specs.declared.causes.AsmCause.TheVariants.{Overflow, Overlap}
 use Rattle.asm_defs.specs.declared.content.Content.{Content}
-use Rattle.asm_defs.specs.declared.content.Content.TheVariants.{First, Second}
 use Rattle.asm_defs.specs.declared.location.Part.{Part}
 use Rattle.asm_defs.specs.declared.location.Part.TheVariants as part
 use Rattle.asm_defs.specs.declared.location.Location.{Location}
-use Rattle.asm_defs.specs.SecondChecks.{Outcome, Nothing, Words, Bytes, Entry}
+use Rattle.asm_defs.specs.SecondChecks.{Outcome, Words, Entry}
 use Rattle.asm_defs.specs.Memory.{AssembledLine, same_part, covers, is_placed, has_word, words_in, word_count, overlaps, any_from, part_words, bytes_in}
 use Rattle.asm_defs.specs.Memory.{spot_by, word_of, behind_word, contents_by, contents, content_at, references_of, behind_by}
 use Rattle.asm_defs.specs.Memory.{is_placed_in}
@@ -30,79 +30,60 @@ use Rattle.module_image.specs.declared.image.Image.{Image}
 use Rattle.module_image.proofs.TableLaws.{count_same}
 use Rattle.module_image.proofs.HoldingLaws.{chosen, any_same, are_same, part_same, part_placed, put_cell, is_among, contents_length}
 
-both : (a b : Bool) → (a && b) ≡ true → (a ≡ true) × (b ≡ true)
-both true b e = (refl, e)
-both false b e = cc e
-
 -- lines that use no name of others
 own_word : (first second : List Reference) (value : Value) → is_own value ≡ true → word_of first value ≡ word_of second value
-own_word first second (Absolute number) own = refl
-own_word first second (Relocatable number) own = refl
 own_word first second (External name) own = cc own
+own_word first second _ own = refl
 
 own_use : (references : List Reference) (at : Spot) (value : Value) → is_own value ≡ true → behind_word references at value ≡ references
-own_use references at (Absolute number) own = refl
-own_use references at (Relocatable number) own = refl
 own_use references at (External name) own = cc own
+own_use references at _ own = refl
 
 own_words : (part : Part) (first second : List Reference) (at : ℕ) (words : List Value) → list_all is_own words ≡ true
     → word_contents part first at words ≡ word_contents part second at words
 own_words part first second at [] own = refl
 own_words part first second at (word ∷ words) own =
-    let each = both (is_own word) (list_all is_own words) own in
-    ap (λ spot. First spot ∷ Second ∷ word_contents part (behind_word first (spot_by part at) word) (at + 2) words) (own_word first second word each.0)
-    ∙ ap (λ rest. First (word_of second word) ∷ Second ∷ rest)
-    (ap (λ references. word_contents part references (at + 2) words) (own_use first (spot_by part at) word each.0)
-    ∙ (own_words part first second (at + 2) words each.1
-    ∙ ap (λ references. word_contents part references (at + 2) words) (sym (own_use second (spot_by part at) word each.0))))
+    let each = and_parts (is_own word) (list_all is_own words) own in
+    rw (own_word first second word each.0, own_use first (spot_by part at) word each.0)
+    (rw (own_use second (spot_by part at) word each.0, own_words part first second (at + 2) words each.1) refl)
 
 own_uses : (part : Part) (references : List Reference) (at : ℕ) (words : List Value) → list_all is_own words ≡ true
     → behind_words part references at words ≡ references
 own_uses part references at [] own = refl
 own_uses part references at (word ∷ words) own =
-    let each = both (is_own word) (list_all is_own words) own in
-    ap (λ references. behind_words part references (at + 2) words) (own_use references (spot_by part at) word each.0)
-    ∙ own_uses part references (at + 2) words each.1
+    let each = and_parts (is_own word) (list_all is_own words) own in
+    rw (own_use references (spot_by part at) word each.0) (own_uses part references (at + 2) words each.1)
 
 pub stands_alone : (at : Location) (first second : List Reference) (outcome : Outcome) → stands outcome ≡ true
     → contents_by at first outcome ≡ contents_by at second outcome
-stands_alone at first second Nothing own = refl
 stands_alone at first second (Words words) own = own_words at.part first second at.number words own
-stands_alone at first second (Bytes bytes) own = refl
-stands_alone at first second (Entry entry) own = refl
+stands_alone at first second _ own = refl
 
 either_same : (b : Bool) (first second : List Reference) → first ≡ second → (if b then first else second) ≡ second
 either_same true first second same = same
 either_same false first second same = refl
 
 pub uses_none : (at : Location) (references : List Reference) (outcome : Outcome) → stands outcome ≡ true → behind_by at references outcome ≡ references
-uses_none at references Nothing own = refl
 uses_none at references (Words words) own =
     either_same (is_placed_in at.part) (behind_words at.part references at.number words) references (own_uses at.part references at.number words own)
-uses_none at references (Bytes bytes) own = refl
-uses_none at references (Entry entry) own = refl
+uses_none at references _ own = refl
 
 pub enters_none : (entry : Option Spot) (outcome : Outcome) → stands outcome ≡ true → entry_by entry outcome ≡ entry
-enters_none entry Nothing own = refl
-enters_none entry (Words words) own = refl
-enters_none entry (Bytes bytes) own = refl
 enters_none entry (Entry found) own = cc own
+enters_none entry _ own = refl
 
 module _ (first second : List AssembledLine) (same : SamePlaces first second) where
   pub same_behind : (line : AssembledLine) → SamePlaces (line ∷ first) (line ∷ second)
   same_behind line part p = ap (λ b. covers line part p || b) (same part p)
 
   word_same : (part : Part) (w : ℕ) → has_word first part w ≡ has_word second part w
-  word_same part w =
-      ap (λ b. b || is_placed first part (2 * w + 1)) (same part (2 * w)) ∙ ap (λ b. is_placed second part (2 * w) || b) (same part (2 * w + 1))
+  word_same part w = rw (same part (2 * w), same part (2 * w + 1)) refl
 
   words_same : (part : Part) → words_in first part ≡ words_in second part
   words_same part = count_same (has_word second part) (has_word first part) 0 part_words (λ w le. word_same part w)
 
   count_is : word_count first ≡ word_count second
-  count_is =
-      ap (λ count. count + words_in first part.Absolute) (words_same part.Relocatable)
-      ∙ ap (λ count. words_in second part.Relocatable + count) (words_same part.Absolute)
+  count_is = rw (words_same part.Relocatable, words_same part.Absolute) refl
 
 abbrev room_of : ℕ → Bool → AssembledLine → Result AssembledLine AsmCause
 room_of count overlap line = if nat_lt 32768 count then Err Overflow else if overlap then Err Overlap else Ok line
@@ -122,36 +103,24 @@ stand_same first second (line ∷ lines) same all = (
 
 -- a line that has room overlaps no other
 room_apart : (full overlap : Bool) (line : AssembledLine) → (if full then Err Overflow else if overlap then Err Overlap else Ok line) ≡ Ok line → overlap ≡ false
-room_apart true overlap line e = cc e
-room_apart false true line e = cc e
 room_apart false false line e = refl
-
-left_free : (a b : Bool) → (a || b) ≡ false → (a ≡ false) × (b ≡ false)
-left_free true b e = cc e
-left_free false b e = (refl, e)
-
-free_by : (f : ℕ → Bool) (from p : ℕ) (b : Bool) → nat_lt from p ≡ b → from ≤ p → f from ≡ false → (from + 1 ≤ p → f p ≡ false) → f p ≡ false
-free_by f from p true e ge here later =
-    let more : from + 1 ≤ p = grind (arith, nat_tests, e) in
-    later more
-free_by f from p false e ge here later =
-    let same : from ≡ p = grind (arith, nat_tests, e, ge) in
-    ap f (sym same) ∙ here
+room_apart _ _ line e = cc e
 
 each_free : (f : ℕ → Bool) (from n p : ℕ) → any_from f from n ≡ false → from ≤ p → p < from + n → f p ≡ false
 each_free f from zero p free ge lt = absurd (omega (arith, ge, lt))
 each_free f from (suc n) p free ge lt =
-    let parts = left_free (f from) (any_from f (from + 1) n) free in
-    free_by f from p (nat_lt from p) refl ge parts.0 (λ later. each_free f (from + 1) n p parts.1 later (omega (arith, lt)))
+    let parts = or_parts (f from) (any_from f (from + 1) n) free in
+    elim (cases_lt from p) [
+      inl less ↦ each_free f (from + 1) n p parts.1 (omega arith) (omega arith)
+    | inr most ↦ let same : from ≡ p = omega arith in ap f (sym same) ∙ parts.0
+    ]
 
 module _ (references : List Reference) (done : List AssembledLine) (held line : AssembledLine) (fills : FillsPlace held line) where
   pub covers_same : (part : Part) (p : ℕ) → covers held part p ≡ covers line part p
-  covers_same part p =
-      ap (λ (at : Location). same_part at.part part && nat_le at.number p && nat_lt p (at.number + bytes_in held.outcome)) (sym fills.at)
-      ∙ ap (λ n. same_part line.at.part part && nat_le line.at.number p && nat_lt p (line.at.number + n)) (sym fills.size)
+  covers_same part p = rw (fills.at, fills.size) refl
 
   pub places_same : SamePlaces (held ∷ done) (line ∷ done)
-  places_same part p = ap (λ b. b || is_placed done part p) (covers_same part p)
+  places_same part p = rw (covers_same part p) refl
 
   -- what stands at a place once the line is there
   abbrev new_at : Part → ℕ → Option Content → Option Content
@@ -178,8 +147,10 @@ module _ (references : List Reference) (done : List AssembledLine) (held line : 
     apart_by : (part : Part) (p : ℕ) (b : Bool) → covers line part p ≡ b → covers found part p ≡ true → covers line part p ≡ false
     apart_by part p false e there = e
     apart_by part p true e there =
-        let ends = both (same_part found.at.part part && nat_le found.at.number p) (nat_lt p (found.at.number + bytes_in found.outcome)) there in
-        let tests = both (same_part found.at.part part) (nat_le found.at.number p) ends.0 in
+        let ends =
+        and_parts (same_part found.at.part part && nat_le found.at.number p)
+        (nat_lt p (found.at.number + bytes_in found.outcome)) there in
+        let tests = and_parts (same_part found.at.part part) (nat_le found.at.number p) ends.0 in
         let ge : found.at.number ≤ p = grind (arith, nat_tests, tests.1) in
         let lt : p < found.at.number + bytes_in found.outcome = grind (arith, nat_tests, ends.1) in
         let none : is_placed old found.at.part p ≡ false = each_free (is_placed old found.at.part) found.at.number (bytes_in found.outcome) p free ge lt in
@@ -202,23 +173,16 @@ module _ (references : List Reference) (done : List AssembledLine) (held line : 
         ∙ (swapped part p
         ∙ ap (new_at part p) (sym (chosen (covers found part p) false (slice_get (contents references old found) (p - found.at.number)) (content_at references old part p) e)))
 
-  right_true : (a b : Bool) → b ≡ true → (a || b) ≡ true
-  right_true true b e = refl
-  right_true false b e = e
-
   all_swapped : (old new founds : List AssembledLine) → IsSwapped old new → Has old → AllStand old founds → IsSwapped (onto old founds) (onto new founds)
   all_swapped old new [] swapped has all = swapped
   all_swapped old new (found ∷ founds) swapped has all =
       all_swapped (found ∷ old) (found ∷ new) founds (λ part p. next_by old new swapped has found all.0 part p (covers found part p) refl)
-      (λ part p there. right_true (covers found part p) (is_placed old part p) (has part p there)) all.1
-
-  left_true : (a b : Bool) → a ≡ true → (a || b) ≡ true
-  left_true a b e = ap (λ c. c || b) e
+      (λ part p there. or_right (covers found part p) (is_placed old part p) (has part p there)) all.1
 
   swapped : (founds : List AssembledLine) → AllStand (held ∷ done) founds → IsSwapped (onto (held ∷ done) founds) (onto (line ∷ done) founds)
   swapped founds all =
       all_swapped (held ∷ done) (line ∷ done) founds (λ part p. first_by part p (covers line part p) refl)
-      (λ part p there. left_true (covers held part p) (is_placed done part p) there) all
+      (λ part p there. or_left (covers held part p) (is_placed done part p) there) all
 
   module _ (founds : List AssembledLine) (all : AllStand (held ∷ done) founds) (given : List Content) (is_given : is_placed_in line.at.part ≡ true → given ≡ contents references done line) (within : line.at.number + length given ≤ 65536) where
     part_filled : (part : Part) (b : Bool) (old new : List (Option Content)) → same_part line.at.part part ≡ b → length old ≡ 65536
@@ -261,15 +225,12 @@ onto_same first second (line ∷ lines) same = onto_same (line ∷ first) (line 
 filled_by : (full overlap : Bool) (held line : AssembledLine)
     → (if full then Err Overflow else if overlap then Err Overlap else Ok line)
     ≡ ((if full then Err Overflow else if overlap then Err Overlap else Ok held) >>= λ held. Ok line)
-filled_by true overlap held line = refl
 filled_by false true held line = refl
-filled_by false false held line = refl
+filled_by _ _ held line = refl
 
 module _ (done : List AssembledLine) (held line : AssembledLine) (fills : FillsPlace held line) where
   over_same : overlaps done line ≡ overlaps done held
-  over_same =
-      ap (λ (at : Location). any_from (is_placed done at.part) at.number (bytes_in line.outcome)) fills.at
-      ∙ ap (any_from (is_placed done held.at.part) held.at.number) fills.size
+  over_same = rw (fills.at, fills.size) refl
 
   pub room_filled : with_room done line ≡ (with_room done held >>= λ held. Ok line)
   room_filled =
@@ -291,9 +252,8 @@ pub no_room : (earlier : List AssembledLine) (line : AssembledLine) (cause : Asm
 no_room earlier line cause e = room_refused (nat_lt 32768 (word_count (line ∷ earlier))) (overlaps earlier line) line cause e
 
 room_is : (full overlap : Bool) (line found : AssembledLine) → (if full then Err Overflow else if overlap then Err Overlap else Ok line) ≡ Ok found → line ≡ found
-room_is true overlap line found e = cc e
-room_is false true line found e = cc e
 room_is false false line found e = cc e
+room_is _ _ line found e = cc e
 
 pub has_own_room : (earlier : List AssembledLine) (line found : AssembledLine) → with_room earlier line ≡ Ok found → with_room earlier line ≡ Ok line
 has_own_room earlier line found e =

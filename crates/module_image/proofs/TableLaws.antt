@@ -3,6 +3,7 @@ use Rattle.std.proofs.Common.{◌≡◌, ℕ, zero, suc, ◌+◌, ◌*◌, ◌/�
 use Rattle.std.proofs.Common.{subst, arith}
 use Rattle.std.specs.Prelude.{Option, is_some, nat_eq, slice_set}
 use Rattle.std.proofs.lemmas.Bool.Decides.{nat_tests}
+use Rattle.std.proofs.lemmas.Bool.{or_left, or_right}
 use Rattle.std.proofs.lemmas.List.{get_or-set_same, get_or-set_other}
 use Rattle.asm_defs.specs.declared.content.Content.{Content}
 use Rattle.asm_defs.specs.Memory.{count_from, any_from, part_words}
@@ -42,13 +43,6 @@ count_more f g q (suc d) from (suc n) e lt unset here others =
 pub any_later : (f : ℕ → Bool) (from n m : ℕ) → n ≡ suc m → f from ≡ false → any_from f from n ≡ any_from f (from + 1) m
 any_later f from n m e unset = ap (any_from f from) e ∙ ap (λ b. b || any_from f (from + 1) m) unset
 
-left : (a b : Bool) → a ≡ true → (a || b) ≡ true
-left a b e = ap (λ c. c || b) e
-
-right : (a b : Bool) → b ≡ true → (a || b) ≡ true
-right true b e = refl
-right false b e = e
-
 module _ (cells : List (Option Content)) (place : ℕ) (content : Content) (size : length cells ≡ 65536) (within : place < 65536) where
   abbrev after : List (Option Content)
   after = slice_set cells place (Some content)
@@ -66,8 +60,8 @@ module _ (cells : List (Option Content)) (place : ℕ) (content : Content) (size
       ap (λ b. b || is_taken after (2 * w + 1)) low ∙ ap (λ b. is_taken cells (2 * w) || b) high
 
   word_by : (r : ℕ) → r < 2 → place ≡ 2 * (place / 2) + r → is_taken_word after (place / 2) ≡ true
-  word_by zero lt e = left _ _ (subst (λ p. is_taken after p ≡ true) (omega (arith, e)) here_taken)
-  word_by (suc zero) lt e = right _ _ (subst (λ p. is_taken after p ≡ true) (omega (arith, e)) here_taken)
+  word_by zero lt e = or_left _ _ (subst (λ p. is_taken after p ≡ true) (omega (arith, e)) here_taken)
+  word_by (suc zero) lt e = or_right _ _ (subst (λ p. is_taken after p ≡ true) (omega (arith, e)) here_taken)
   word_by (suc (suc r)) lt e = absurd (omega (arith, lt))
 
   word_taken : is_taken_word after (place / 2) ≡ true
@@ -95,10 +89,7 @@ pub count_none : (f : ℕ → Bool) (from n : ℕ) → ((w : ℕ) → f w ≡ fa
 count_none f from zero free = refl
 count_none f from (suc n) free = omega (arith, ap one_if (free from), count_none f (from + 1) n free)
 
-both_free : (a b : Bool) → a ≡ false → b ≡ false → (a || b) ≡ false
-both_free a b e f = ap (λ c. c || b) e ∙ f
-
 pub none_taken : (cells : List (Option Content)) → ((p : ℕ) → cell cells p ≡ None) → words_taken cells ≡ 0
 unfolding words_taken part_words
 none_taken cells free =
-    count_none (is_taken_word cells) 0 32768 (λ w. both_free _ _ (ap is_some (free (2 * w))) (ap is_some (free (2 * w + 1))))
+    count_none (is_taken_word cells) 0 32768 (λ w. rw (free (2 * w), free (2 * w + 1)) refl)

@@ -1,7 +1,9 @@
 -- The written text of a module reads as that module alone.
 use Rattle.std.proofs.Common.{◌≡◌, ℕ, ◌+◌, ◌-◌, ◌/◌, ◌%◌, ◌<◌, ◌≤◌, Bool, true, false, cond, eqb, List, [], ◌∷◌, ◌++◌, length, replicate, Option, Some, None}
+use Rattle.std.proofs.Math.Bool.{and-false}
+use Rattle.std.proofs.lemmas.Bool.{or_right}
 use Rattle.std.proofs.Common.{Ok, refl, sym, ap, ◌∙◌, subst, append_assoc, append-nil, length-append, eq-eqb, arith}
-use Rattle.std.specs.Prelude.{map, sum, nat_le, ◌&&◌, ◌||◌}
+use Rattle.std.specs.Prelude.{map, sum, nat_le}
 use Rattle.std.specs.List.{AllByRecursion, concat}
 use Rattle.std.proofs.lemmas.Bool.Decides.{nat_tests}
 use Rattle.source_defs.specs.Characters.{is_blank, is_line_feed}
@@ -120,11 +122,7 @@ record InLine (modules : List Module) (current : Option OpenModule) (line : Line
 
 some_other : (text rest : List ℕ) → all_blank (text ++ 0x37 ∷ rest) ≡ false
 some_other [] rest = refl
-some_other (c ∷ text) rest = rw (some_other text rest) (by (is_blank c))
-  where
-    by : (b : Bool) → (b && false) ≡ false
-    by true = refl
-    by false = refl
+some_other (c ∷ text) rest = rw (some_other text rest) (and-false (is_blank c))
 
 line_done : (kept : Kept) (line : Line) (m : OpenModule) (n number : ℕ) → InLine kept.modules kept.current line m
     → kept_line Plain kept (record { number = n; text = body_of number (summed line.text) }) ≡ Ok (start kept.modules (Some m) n)
@@ -383,11 +381,7 @@ plain_written m is has = ap form_of (begins m is has) ∙ plain_from (items_behi
 
 feed_at_right : (a b : List ℕ) → has_line_feed b ≡ true → has_line_feed (a ++ b) ≡ true
 feed_at_right [] b h = h
-feed_at_right (c ∷ a) b h = rw (feed_at_right a b h) (by (is_line_feed c))
-  where
-    by : (p : Bool) → (p || true) ≡ true
-    by true = refl
-    by false = refl
+feed_at_right (c ∷ a) b h = rw (feed_at_right a b h) (or_right (is_line_feed c) true refl)
 
 feed_written : (items : List Item) (line : Line) (number : ℕ) → has_line_feed (written_from number line items) ≡ true
 unfolding lines_from

@@ -34,12 +34,6 @@ module _ (part : Part) (before now : List ℕ) where
         size = let long = ap (λ (l : List ℕ). length l) grown ∙ length-append line text in omega (arith, long, so.size);
       }
 
-  pub append_all : (begun line : List ℕ) (at : ℕ) → Appending part before now begun line at → left_from before now at ≡ []
-      → line ≡ begun ++ part_text part (changes before now)
-  append_all begun line at so nothing =
-      so.text
-      ∙ ap (λ text. begun ++ text) (sym (so.is ∙ ap (λ cs. so.done ++ change_texts part at cs) nothing ∙ append-nil so.done))
-
 -- a part in which no change was found is as it was
 pub unchanged : (before now : List ℕ) (at : ℕ) → length before ≡ length now → at ≡ 0 → left_from before now at ≡ [] → before ≡ now
 unchanged before now at same none nothing =

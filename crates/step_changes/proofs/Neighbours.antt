@@ -4,6 +4,7 @@ use Rattle.std.proofs.Common.{refl, sym, ap, ap₂, ◌∙◌, arith}
 use Rattle.std.specs.List.{zip, prefix_len, slice_get}
 use Rattle.std.proofs.lemmas.Bool.{eq-eqb, ne_eqb}
 use Rattle.std.proofs.lemmas.Bool.Decides.{nat_tests}
+use Rattle.std.proofs.Math.Bool.{and-false}
 use Rattle.std.proofs.lemmas.Option.{slice_get-get_or}
 use Rattle.std.proofs.lemmas.List.{get_or-drop, drop_more, take_all}
 use Rattle.std.proofs.lemmas.List.Sums.{prefix_len-drop_yes, prefix_len-drop_no, prefix_len-drop_all}
@@ -17,7 +18,7 @@ change at byte count = record { at = at; byte = byte; count = count }
 -- equal lists have no changes
 pub none : (a : List ℕ) (at : ℕ) → changes_from at a a ≡ []
 none [] at = refl
-none (x ∷ a) at = ap (λ b. cond b (changes_from (at + 1) a a) (joined at x (changes_from (at + 1) a a))) (eq-eqb x x refl) ∙ none a (at + 1)
+none (x ∷ a) at = rw (eq-eqb x x refl) (none a (at + 1))
 
 some_byte : (x y : ℕ) → Some x ≡ Some y → x ≡ y
 some_byte x y e = cc
@@ -30,13 +31,13 @@ skips [] b at (suc p) end same le shown e = let no : ⊥ = omega arith in absurd
 skips (x ∷ a) [] at (suc p) end same le shown e = let no : ⊥ = omega arith in absurd no
 skips (x ∷ a) (y ∷ b) at (suc p) end same le shown e =
     let here : x ≡ y = some_byte x y (shown 0 (omega arith)) in
-    ap (λ s. cond s (changes_from (at + 1) a b) (joined at y (changes_from (at + 1) a b))) (eq-eqb x y here)
-    ∙ skips a b (at + 1) p end (omega arith) (omega arith) (λ k lt. shown (suc k) (omega arith)) (omega arith)
+    rw (eq-eqb x y here)
+    (skips a b (at + 1) p end (omega arith) (omega arith) (λ k lt. shown (suc k) (omega arith)) (omega arith))
 
 -- a change before which another byte stands
 alone : (at y : ℕ) (c : Change) (cs : List Change) → (nat_eq c.at (at + 1) && nat_eq c.byte y) ≡ false
     → joined at y (c ∷ cs) ≡ record { at = at; byte = y; count = 1 } ∷ c ∷ cs
-alone at y c cs e = ap (λ s. cond s (record { at = at; byte = y; count = c.count + 1 } ∷ cs) (record { at = at; byte = y; count = 1 } ∷ c ∷ cs)) e
+alone at y c cs e = rw e refl
 
 -- the first change of lists begins at their first place or later
 abbrev StartsFrom : ℕ → List Change → Type 0
@@ -70,21 +71,17 @@ joins_none at y [] s = refl
 joins_none at y (c ∷ cs) s = alone at y c cs (ap (λ t. t && nat_eq c.byte y) (ne_eqb c.at (at + 1) (λ e. omega arith)))
 
 -- nor a change to another byte
+not_joined : (at y z : ℕ) → z ≢ y → (nat_eq (at + 1) (at + 1) && nat_eq z y) ≡ false
+not_joined at y z ne = rw (ne_eqb z y ne) (and-false (nat_eq (at + 1) (at + 1)))
+
 joins_other : (at y z : ℕ) (cs : List Change) → z ≢ y → joined at y (joined (at + 1) z cs) ≡ record { at = at; byte = y; count = 1 } ∷ joined (at + 1) z cs
-joins_other at y z [] ne = alone at y _ [] (ap (λ t. nat_eq (at + 1) (at + 1) && t) (ne_eqb z y ne) ∙ and_false (nat_eq (at + 1) (at + 1)))
-  where
-    and_false : (b : Bool) → (b && false) ≡ false
-    and_false true = refl
-    and_false false = refl
+joins_other at y z [] ne = alone at y _ [] (not_joined at y z ne)
 joins_other at y z (c ∷ cs) ne = by (nat_eq c.at (at + 1 + 1) && nat_eq c.byte z)
   where
-    other : (nat_eq (at + 1) (at + 1) && nat_eq z y) ≡ false
-    other = ap (λ t. nat_eq (at + 1) (at + 1) && t) (ne_eqb z y ne) ∙ ap (λ t. t && false) (eq-eqb (at + 1) (at + 1) refl)
-
     by : (s : Bool) → joined at y (cond s (record { at = at + 1; byte = z; count = c.count + 1 } ∷ cs) (record { at = at + 1; byte = z; count = 1 } ∷ c ∷ cs))
         ≡ record { at = at; byte = y; count = 1 } ∷ cond s (record { at = at + 1; byte = z; count = c.count + 1 } ∷ cs) (record { at = at + 1; byte = z; count = 1 } ∷ c ∷ cs)
-    by true = alone at y _ cs other
-    by false = alone at y _ (c ∷ cs) other
+    by true = alone at y _ cs (not_joined at y z ne)
+    by false = alone at y _ (c ∷ cs) (not_joined at y z ne)
 
 -- how many bytes after a changed one changed and are the same now
 abbrev further : ℕ → List ℕ → List ℕ → ℕ

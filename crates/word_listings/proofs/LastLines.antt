@@ -2,7 +2,7 @@
 use Rattle.std.proofs.Common.{◌≡◌, ℕ, zero, suc, ◌+◌, ◌-◌, ◌*◌, ◌<◌, ◌≤◌, true, false, List, [], ◌∷◌, ◌++◌}
 use Rattle.std.proofs.Common.{length, refl, ap, sym, subst, ◌∙◌, Ok, Option, Some, None, arith}
 use Rattle.std.specs.Option.{option_map}
-use Rattle.std.specs.Prelude.{Err, ◌||◌, map, nat_le, nat_lt, slice_get, codes}
+use Rattle.std.specs.Prelude.{Err, ◌||◌, map, nat_le, nat_lt, codes}
 use Rattle.std.proofs.lemmas.Bool.Decides.{nat_tests}
 use Rattle.source_defs.specs.Refusals.{Refusal, ◌>>=◌}
 use Rattle.source_defs.specs.Digits.{hex_byte}
@@ -22,14 +22,14 @@ use Rattle.asm_defs.specs.declared.location.Part.TheVariants as part
 use Rattle.asm_defs.specs.Locations.{Line}
 use Rattle.asm_defs.specs.FirstChecks.{names}
 use Rattle.asm_defs.specs.SecondChecks.{Bytes}
-use Rattle.asm_defs.specs.Memory.{AssembledLine, covers, is_placed, bytes_in, any_from, content_at, pieces, pieces_at, pieces_from, part_words, word_count, references_of}
+use Rattle.asm_defs.specs.Memory.{AssembledLine, covers, is_placed, bytes_in, any_from, content_at, pieces, pieces_from}
+use Rattle.asm_defs.specs.Memory.{part_words, word_count, references_of}
 use Rattle.asm_defs.specs.Modules.{assembled_line, with_room, module_by, entry, entry_by, unused, definition_in}
 use Rattle.line_laws.specs.KnownLines.{pieces_of}
 use Rattle.line_laws.proofs.PlacedWords.{HoldWords, content_of, few_words}
 use Rattle.line_laws.proofs.SecondChecks.{room_by}
 use Rattle.line_laws.proofs.LinkedPieces.{pieces_held, pieces_there, pieces_split, none_from, at_word, content_none, content_not_yet, nothing_before}
 use Rattle.line_laws.proofs.Whole.{not_covered, no_uses}
-use Rattle.line_laws.proofs.Small.{chosen}
 use Rattle.word_listings.proofs.LineBacks.{absolute_at, end_text, end_outcome, end_line, IsEntry, byte_line}
 use Rattle.word_listings.proofs.Behind.{Stands, Holds, Fails, taken, Ends, ends_last, ends_more, assembles_now, fails_still}
 
@@ -42,10 +42,8 @@ pub record Held (lines : List AssembledLine) (held : List Piece) (entered : Opti
 same_pieces : (f g : ℕ → Option Content) (found : Part) (first n : ℕ) → ((p : ℕ) → 2 * first ≤ p → p < 2 * (first + n) → f p ≡ g p) → pieces_from f found first n ≡ pieces_from g found first n
 same_pieces f g found first zero same = refl
 same_pieces f g found first (suc n) same =
-    let high = same (2 * first) (omega arith) (omega arith) in
-    let low = same (2 * first + 1) (omega arith) (omega arith) in
-    ap (λ pieces. pieces ++ pieces_from f found (first + 1) n) (at_word f found first _ _ high low)
-    ∙ ap (λ rest. pieces_at g found first ++ rest) (same_pieces f g found (first + 1) n (λ p le lt. same p (omega (arith, le)) (omega (arith, lt))))
+    rw (same (2 * first) (omega arith) (omega arith), same (2 * first + 1) (omega arith) (omega arith))
+    (rw (same_pieces f g found (first + 1) n (λ p le lt. same p (omega (arith, le)) (omega (arith, lt)))) refl)
 
 -- END places nothing
 module _ (end : ℕ) (entered : Option ℕ) where
@@ -60,10 +58,10 @@ module _ (end : ℕ) (entered : Option ℕ) where
       by (Some number) = refl
 
   same_content : (lines : List AssembledLine) (found : Part) (p : ℕ) → content_at [] (end_assembled ∷ lines) found p ≡ content_at [] lines found p
-  same_content lines found p = chosen (covers end_assembled found p) false _ _ (not_covered end_assembled no_bytes found p)
+  same_content lines found p = rw (not_covered end_assembled no_bytes found p) refl
 
   end_none : (lines : List AssembledLine) (p : ℕ) → is_placed lines part.Relocatable p ≡ false → is_placed (end_assembled ∷ lines) part.Relocatable p ≡ false
-  end_none lines p e = ap (λ b. b || is_placed lines part.Relocatable p) (not_covered end_assembled no_bytes part.Relocatable p) ∙ e
+  end_none lines p e = rw (not_covered end_assembled no_bytes part.Relocatable p) e
 
   entry_held : (before : Option Spot) → before ≡ None → entry_by before (end_outcome entered) ≡ option_map spot.Absolute entered
   entry_held before none = by entered
@@ -155,15 +153,14 @@ module _ (end byte : ℕ) where
     content_there : content_at [] (byte_assembled ∷ lines) part.Absolute end ≡ Some (content.Byte byte)
     content_there =
         let first : end - end ≡ 0 = omega arith in
-        chosen (covers byte_assembled part.Absolute end) true _ _ covers_there ∙ ap (slice_get (content.Byte byte ∷ [])) first
+        rw (covers_there, first) refl
 
     content_before : (p : ℕ) → p < end → content_at [] (byte_assembled ∷ lines) part.Absolute p ≡ content_of (2 * half) words p
-    content_before p lt = chosen (covers byte_assembled part.Absolute p) false _ _ (covers_before p lt) ∙ hold.absolute p
+    content_before p lt = rw (covers_before p lt) (hold.absolute p)
 
     content_behind : (p : ℕ) → end < p → content_at [] (byte_assembled ∷ lines) part.Absolute p ≡ None
     content_behind p lt =
-        chosen (covers byte_assembled part.Absolute p) false _ _ (covers_behind p lt)
-        ∙ (hold.absolute p ∙ content_none (2 * half) words p (omega (arith, there, lt)))
+        rw (covers_behind p lt) (hold.absolute p ∙ content_none (2 * half) words p (omega (arith, there, lt)))
 
     pub byte_held : entry lines ≡ None → half + length words < 32768 → Held (byte_assembled ∷ lines) (pieces_of (2 * half) (words ++ join byte 0 ∷ [])) None
     unfolding part_words

@@ -1,5 +1,6 @@
 -- The listing of memory is assembled to its words, or refused for a jump that wraps; its lines copy no file; and no jump
 -- wraps far from the ends of memory.
+use Rattle.std.proofs.lemmas.List.{map-append}
 use Rattle.std.proofs.Common.{◌≡◌, inr, ℕ, zero, suc, ◌+◌, ◌-◌, ◌*◌, ◌/◌, ◌%◌, ◌<◌, ◌≤◌, true, List, [], ◌∷◌, ◌++◌}
 use Rattle.std.proofs.Common.{length, length-drop, drop, refl, ap, sym, subst, ◌∙◌, Ok, Some, None, arith, Bool, false, Option}
 use Rattle.std.specs.Prelude.{Result, Option, map, nat_le, slice_index, codes}
@@ -10,7 +11,7 @@ use Rattle.source_defs.specs.Digits.{hex_word, hex_byte, word_digits}
 use Rattle.source_defs.specs.ListedLines.{listed, listing_line}
 use Rattle.source_defs.specs.Operands.{operand_texts}
 use Rattle.expression_defs.specs.Expression.{Relocatable}
-use Rattle.expression_defs.specs.Layout.{laid_behind, assembled_lines}
+use Rattle.expression_defs.specs.Layout.{assembled_lines}
 use Rattle.expression_defs.specs.Symbols.{predefined}
 use Rattle.tms_defs.specs.Words.{join, words_of_bytes}
 use Rattle.object_defs.specs.Digits.{padded}
@@ -245,10 +246,6 @@ odd_are : (bytes : List ℕ) → odd_byte_lines bytes ≡ map listing_line (odd_
 odd_are (more ∷ less ∷ rest) = odd_are rest
 odd_are _ = refl
 
-map_both : (xs ys : List (List ℕ)) → map listing_line xs ++ map listing_line ys ≡ map listing_line (xs ++ ys)
-map_both [] ys = refl
-map_both (x ∷ xs) ys = ap (λ rest. listing_line x ∷ rest) (map_both xs ys)
-
 -- the lines of a listing with its last
 abbrev pub listing_to : ℕ → List ℕ → List ℕ → List (List ℕ)
 listing_to at bytes end =
@@ -258,14 +255,11 @@ listing_to at bytes end =
 pub listing_is : (at : ℕ) (bytes end : List ℕ)
     → listing_to at bytes end ≡ map listing_line ((codes "AORG " ++ hex_word at) ∷ (texts_from (length (words_of_bytes bytes)) at (words_of_bytes bytes) ++ (odd_texts bytes ++ end ∷ [])))
 listing_is at bytes end =
-    let tail : odd_byte_lines bytes ++ listing_line end ∷ [] ≡ map listing_line (odd_texts bytes ++ end ∷ []) =
-    ap (λ lines. lines ++ listing_line end ∷ []) (odd_are bytes) ∙ map_both (odd_texts bytes) (end ∷ []) in
-    let body : word_lines at (words_of_bytes bytes) ++ (odd_byte_lines bytes ++ listing_line end ∷ [])
-    ≡ map listing_line (texts_from (length (words_of_bytes bytes)) at (words_of_bytes bytes) ++ (odd_texts bytes ++ end ∷ [])) =
-    ap (λ lines. lines ++ (odd_byte_lines bytes ++ listing_line end ∷ [])) (lines_are (length (words_of_bytes bytes)) (words_of_bytes bytes) at)
-    ∙ (ap (λ rest. map listing_line (texts_from (length (words_of_bytes bytes)) at (words_of_bytes bytes)) ++ rest) tail
-    ∙ map_both (texts_from (length (words_of_bytes bytes)) at (words_of_bytes bytes)) (odd_texts bytes ++ end ∷ [])) in
-    ap (λ lines. listing_line (codes "AORG " ++ hex_word at) ∷ lines) body
+    let words = words_of_bytes bytes in
+    let texts = texts_from (length words) at words in
+    rw (lines_are (length words) words at, odd_are bytes)
+    (rw (map-append listing_line texts (odd_texts bytes ++ end ∷ []))
+    (rw (map-append listing_line (odd_texts bytes) (end ∷ [])) refl))
 
 pub behind_laid : (all : List Line) (come : Result Module (Refusal AsmCause)) → names all ≡ predefined
     → (assembled_lines (assembled_line predefined) all >>= λ found. Ok (module_by all found)) ≡ come → module_behind all ≡ come
@@ -276,8 +270,7 @@ behind_laid all come names is =
 source_is : (texts : List (List ℕ)) (answer : Result Module (Refusal AsmCause)) → Ends [] 1 texts answer → list_all (λ line. list_all in_line line) (map listed texts) ≡ true
     → module_of_source (joined (map listed texts)) ≡ answer
 source_is texts answer ends clean =
-    ap (λ lines. laid_behind check [] lines >>= module_behind) (lines_joined (map listed texts) clean)
-    ∙ (ap (λ found. found >>= module_behind) ends.laid_is ∙ behind_laid ends.all answer ends.names_are ends.module_is)
+    rw (lines_joined (map listed texts) clean, ends.laid_is) (behind_laid ends.all answer ends.names_are ends.module_is)
 
 even_comes_back : (half : ℕ) (bytes : List ℕ) (entered : Option ℕ) → AllBytes bytes → 2 * half < 65536 → 2 * half + length bytes ≤ 65536 → IsEntry entered
     → module_of_source (concat (listing_to (2 * half) bytes (end_text entered))) ≡ listed_module (2 * half) bytes entered

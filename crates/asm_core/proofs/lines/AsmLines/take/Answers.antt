@@ -8,7 +8,7 @@ use Rattle.asm_defs.specs.FirstChecks as spec
 use Rattle.asm_defs.specs.FirstChecks.{EarlierLines, known_of, line_of, location_behind, defs_in, refs_in, is_end}
 use Rattle.asm_defs.specs.Modules.{title_by}
 use Rattle.asm_defs.proofs.CheckLaws.{checked_within, checked_titled, checked_said}
-use Rattle.asm_checks.specs.Checks.{model_of_checked, checked_as_new}
+use Rattle.asm_checks.specs.Checks.{model_of_checked}
 use Rattle.asm_checks.proofs.Labels.{checked_new, checked_known, has_room}
 use Rattle.asm_core.specs.Building.{Takes}
 use Rattle.asm_core.specs.declared.error.AsmError.{AsmError}
@@ -33,8 +33,7 @@ returns-then-is_comment c = λ lines is.
 pub work-requires-clause-room : goal.work-requires-clause-room
 work-requires-clause-room c =
     let found = model_of_checked c.in-Ok.checked in
-    let is : checked_as_new (known_in c.args.self.now) c.args.line.now.text.now ≡ Ok found =
-    ap (λ (before : EarlierLines). checked_as_new before c.args.line.now.text.now) (sym c.known.ensures.known) ∙ c.in-Ok.ensures.checked in
+    let is = rw c.known.ensures.known at c.in-Ok.ensures.checked in
     record {
       room = held.has_room (known_in c.args.self.now) c.args.line.now.text.now found c.args.self.now.placed is;
       fits = omega (arith, has_room (known_in c.args.self.now) c.args.line.now.text.now found is c.args.self.now.placed);
@@ -42,8 +41,7 @@ work-requires-clause-room c =
 
 pub returns : goal.returns
 returns c = λ lines is.
-    let is_new : checked_as_new (known_in c.args.self.now) c.args.line.now.text.now ≡ Ok (model_of_checked c.in-Ok.checked) =
-    ap (λ (before : EarlierLines). checked_as_new before c.args.line.now.text.now) (sym c.known.ensures.known) ∙ c.in-Ok.ensures.checked in
+    let is_new = rw c.known.ensures.known at c.in-Ok.ensures.checked in
     let behind = still_behind lines c.args.self.now c.work.new.self c.in-Err-work.ensures.unchanged c.work.ensures.still is in
     let failed = takes_failed (Unit {0}) lines c.args.line.now.text.now c.args.self.now.symbols c.in-Ok.checked.parsed.label c.in-Err-work.failure c.work.new.self
     c.in-Err-work.ensures.known
@@ -57,8 +55,7 @@ returns c = λ lines is.
 pub advance-requires-clause-place : goal.advance-requires-clause-place
 advance-requires-clause-place c =
     let found = model_of_checked c.in-Ok.checked in
-    let is_new : checked_as_new (known_in c.args.self.now) c.args.line.now.text.now ≡ Ok (model_of_checked c.in-Ok.checked) =
-    ap (λ (before : EarlierLines). checked_as_new before c.args.line.now.text.now) (sym c.known.ensures.known) ∙ c.in-Ok.ensures.checked in
+    let is_new = rw c.known.ensures.known at c.in-Ok.ensures.checked in
     let known : spec.checked (known_in c.args.self.now) c.args.line.now.text.now ≡ Ok found =
     checked_new (known_in c.args.self.now) c.args.line.now.text.now (model_of_checked c.in-Ok.checked) is_new c.in-Ok-work.ensures.fresh in
     subst (λ (from : Location). is_in_part (location_behind from found.move) ≡ true) (sym c.work.ensures.still.location)
@@ -67,8 +64,7 @@ advance-requires-clause-place c =
 pub advance-requires-clause-titled : goal.advance-requires-clause-titled
 advance-requires-clause-titled c =
     let found = model_of_checked c.in-Ok.checked in
-    let is_new : checked_as_new (known_in c.args.self.now) c.args.line.now.text.now ≡ Ok (model_of_checked c.in-Ok.checked) =
-    ap (λ (before : EarlierLines). checked_as_new before c.args.line.now.text.now) (sym c.known.ensures.known) ∙ c.in-Ok.ensures.checked in
+    let is_new = rw c.known.ensures.known at c.in-Ok.ensures.checked in
     let known : spec.checked (known_in c.args.self.now) c.args.line.now.text.now ≡ Ok found =
     checked_new (known_in c.args.self.now) c.args.line.now.text.now (model_of_checked c.in-Ok.checked) is_new c.in-Ok-work.ensures.fresh in
     checked_titled (known_in c.args.self.now) c.args.line.now.text.now found known
@@ -78,8 +74,7 @@ returns-in-Ok-work c = λ lines is.
     let found = model_of_checked c.in-Ok.checked in
     let number = length lines + 1 in
     let next_line : Line = line_of number found in
-    let is_new : checked_as_new (known_in c.args.self.now) c.args.line.now.text.now ≡ Ok (model_of_checked c.in-Ok.checked) =
-    ap (λ (before : EarlierLines). checked_as_new before c.args.line.now.text.now) (sym c.known.ensures.known) ∙ c.in-Ok.ensures.checked in
+    let is_new = rw c.known.ensures.known at c.in-Ok.ensures.checked in
     let known : spec.checked (known_in c.args.self.now) c.args.line.now.text.now ≡ Ok found =
     checked_new (known_in c.args.self.now) c.args.line.now.text.now (model_of_checked c.in-Ok.checked) is_new c.in-Ok-work.ensures.fresh in
     let checked : spec.checked (known_of lines) c.args.line.now.text.now ≡ Ok found =
