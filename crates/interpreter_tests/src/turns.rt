@@ -172,6 +172,28 @@ const RUNS: &[(&str, Program, u32, u32, Option<Reason>, u16, Cells, Video)] = &[
         &[(0x3FFF, 0x5A), (0x0000, 0x31), (0x0001, 0)],
     ),
     (
+        "ST V@>3FFF,>5A; MOVE 3,V@0,V@>3FFF; ST V@2,>17; MOVE 2,V@>3FFF,V@1; EXIT",
+        &[(
+            0x6000,
+            &[
+                0xBE, 0xAF, 0x3F, 0xFF, 0x5A, 0x35, 0x00, 0x03, 0xA0, 0x00, 0xAF, 0x3F, 0xFF, 0xBE,
+                0xA0, 0x02, 0x17, 0x35, 0x00, 0x02, 0xAF, 0x3F, 0xFF, 0xA0, 0x01, 0x0B,
+            ],
+        )],
+        10,
+        4,
+        Some(Reason::Exit),
+        GEXIT,
+        &[],
+        &[
+            (0x3FFF, 0x5A),
+            (0x0000, 0x17),
+            (0x0001, 0x5A),
+            (0x0002, 0x17),
+            (0x0003, 0),
+        ],
+    ),
+    (
         "ALL >20; BACK >17; MOVE 16385,V@0,G@>6000",
         &[(
             0x6000,

@@ -72,9 +72,9 @@ to_840 = with_block 800 40 166 11 to_800 lines_800
 to_880 : Front 880 186
 to_880 = with_block 840 40 177 9 to_840 lines_840
 
-to_893 : Front 893 188
-to_893 = with_block 880 13 186 2 to_880 lines_880
+to_914 : Front 914 191
+to_914 = with_block 880 34 186 5 to_880 lines_880
 
 -- all of them
 pub to_last : Front most name_count
-to_last = to_893
+to_last = to_914

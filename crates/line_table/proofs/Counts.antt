@@ -4,12 +4,12 @@ use Rattle.std.proofs.Common.{ℕ}
 
 -- the lines
 abbrev pub line_count : ℕ
-line_count = 894
+line_count = 915
 
 -- the lines before the last
 abbrev pub most : ℕ
-most = 893
+most = 914
 
 -- the names
 abbrev pub name_count : ℕ
-name_count = 188
+name_count = 191

@@ -47,6 +47,6 @@ pub lines_840 : Block 840 40 177 9
 unfolding mnemonic form_of first_checks second_checks token_at tokens_from in_quotes operands_from fields registers directive statement_in parsed moved outcome
 lines_840 = refl
 
-pub lines_880 : Block 880 13 186 2
+pub lines_880 : Block 880 34 186 5
 unfolding mnemonic form_of first_checks second_checks token_at tokens_from in_quotes operands_from fields registers directive statement_in parsed moved outcome
 lines_880 = refl

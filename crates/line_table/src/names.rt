@@ -2,7 +2,7 @@
 //! The names of the source with their values.
 
 /// Each label of the source with its value, in the order of their lines.
-pub const NAMES: [(&str, u16); 188] = [
+pub const NAMES: [(&str, u16); 191] = [
     ("GRMRD", 0x9800),
     ("GRMRA", 0x9802),
     ("GRMWA", 0x9C02),
@@ -188,7 +188,10 @@ pub const NAMES: [(&str, u16); 188] = [
     ("MOVEW", 0x28F8),
     ("MOVEK", 0x2900),
     ("NOREG", 0x2906),
-    ("GOALL", 0x290E),
-    ("FILL", 0x2924),
-    ("GOBACK", 0x2930),
+    ("SETVV", 0x290E),
+    ("COPYVV", 0x291A),
+    ("COPYVA", 0x2936),
+    ("GOALL", 0x294C),
+    ("FILL", 0x2962),
+    ("GOBACK", 0x296E),
 ];

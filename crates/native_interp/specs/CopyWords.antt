@@ -112,7 +112,7 @@ copy_grom =
 
 -- >2862: SETW, the video processor at the target
 --     SETW   CI R5,1
---            JEQ COPYL
+--            JEQ SETVV
 --            MOV R7,R4
 --            SLA R4,2
 --            SRL R4,2
@@ -124,7 +124,7 @@ copy_grom =
 --            AI R2,PAD
 abbrev pub set_target : List ℕ
 set_target =
-    0x0285 ∷ 0x0001 ∷ 0x1319 ∷ 0xC107 ∷ 0x0A24 ∷ 0x0924 ∷ 0x0224 ∷ 0x4000 ∷
+    0x0285 ∷ 0x0001 ∷ 0x1353 ∷ 0xC107 ∷ 0x0A24 ∷ 0x0924 ∷ 0x0224 ∷ 0x4000 ∷
     0xD820 ∷ 0x83E9 ∷ 0x8C02 ∷ 0xD804 ∷ 0x8C02 ∷ 0xC145 ∷ 0x1607 ∷ 0x0222 ∷
     0x8300 ∷ []
 
@@ -244,7 +244,37 @@ abbrev pub register_stop : List ℕ
 register_stop =
     0x0200 ∷ 0x0005 ∷ 0x0460 ∷ 0x229C ∷ []
 
--- >290E: GOALL
+-- >290E: SETVV, both addresses in video memory
+--     SETVV  ANDI R2,>3FFF
+--            ANDI R7,>3FFF
+--            AI R7,>4000
+abbrev pub set_both : List ℕ
+set_both =
+    0x0242 ∷ 0x3FFF ∷ 0x0247 ∷ 0x3FFF ∷ 0x0227 ∷ 0x4000 ∷ []
+
+-- >291A: COPYVV, from video memory to video memory
+--     COPYVV MOVB @R2LB,@VDPWA
+--            MOVB R2,@VDPWA
+--            MOVB @VDPRD,R4
+--            MOVB @R7LB,@VDPWA
+--            MOVB R7,@VDPWA
+--            MOVB R4,@VDPWD
+--     COPYVA INC R2
+--            ANDI R2,>3FFF
+--            INC R7
+--            ANDI R7,>3FFF
+--            AI R7,>4000
+--            DEC R12
+--            JNE COPYVV
+--            JMP COPYE
+abbrev pub copy_in_video : List ℕ
+copy_in_video =
+    0xD820 ∷ 0x83E5 ∷ 0x8C02 ∷ 0xD802 ∷ 0x8C02 ∷ 0xD120 ∷ 0x8800 ∷ 0xD820 ∷
+    0x83EF ∷ 0x8C02 ∷ 0xD807 ∷ 0x8C02 ∷ 0xD804 ∷ 0x8C00 ∷ 0x0582 ∷ 0x0242 ∷
+    0x3FFF ∷ 0x0587 ∷ 0x0247 ∷ 0x3FFF ∷ 0x0227 ∷ 0x4000 ∷ 0x060C ∷ 0x16E8 ∷
+    0x10B2 ∷ []
+
+-- >294C: GOALL
 --     GOALL  MOVB @GRMRD,R9
 --            LI R4,>0040
 --            MOVB R4,@VDPWA
@@ -256,7 +286,7 @@ all =
     0xD260 ∷ 0x9800 ∷ 0x0204 ∷ 0x0040 ∷ 0xD804 ∷ 0x8C02 ∷ 0x06C4 ∷ 0xD804 ∷
     0x8C02 ∷ 0x020C ∷ 0x0300 ∷ []
 
--- >2924: FILL, a byte is filled, or the step ends
+-- >2962: FILL, a byte is filled, or the step ends
 --     FILL   MOVB R9,@VDPWD
 --            DEC R12
 --            JNE FILL
@@ -265,7 +295,7 @@ abbrev pub all_fill : List ℕ
 all_fill =
     0xD809 ∷ 0x8C00 ∷ 0x060C ∷ 0x16FC ∷ 0x0460 ∷ 0x24C2 ∷ []
 
--- >2930: GOBACK
+-- >296E: GOBACK
 --     GOBACK MOVB @GRMRD,R4
 --            MOVB R4,@VDPWA
 --            LI R4,>8700

@@ -132,6 +132,8 @@ use Rattle.native_interp.specs.declared.addresses.TheConstants.{
   MOVEW,
   MOVEK,
   NOREG,
+  SETVV,
+  COPYVV,
   GOALL,
   FILL,
   GOBACK,
@@ -200,8 +202,8 @@ copy_parts =
     (COPYCV, copy.copy_cells_to_video) ∷ (COPYGV, copy.copy_grom_to_video) ∷ (COPY, copy.copy) ∷
     (COPYS, copy.copy_store) ∷ (COPYN, copy.copy_next) ∷ (COPYE, copy.copy_end) ∷ (RESUME, copy.resume) ∷
     (MOVER, copy.move_registers) ∷ (MOVES, copy.move_grom) ∷ (MOVEA, copy.move_index) ∷ (MOVEX, copy.move_where) ∷
-    (MOVEW, copy.move_seek) ∷ (MOVEK, copy.move_stream) ∷ (NOREG, copy.register_stop) ∷ (GOALL, copy.all) ∷
-    (FILL, copy.all_fill) ∷ (GOBACK, copy.back) ∷ []
+    (MOVEW, copy.move_seek) ∷ (MOVEK, copy.move_stream) ∷ (NOREG, copy.register_stop) ∷ (SETVV, copy.set_both) ∷
+    (COPYVV, copy.copy_in_video) ∷ (GOALL, copy.all) ∷ (FILL, copy.all_fill) ∷ (GOBACK, copy.back) ∷ []
 
 -- every part with its address
 abbrev pub routines : List (ℕ × List ℕ)

@@ -2,13 +2,13 @@
 //! Addresses in the interpreter. Profile: where the interpreter and its workspace stand.
 
 /// How many words the interpreter has.
-pub const WORD_COUNT: usize = 1186;
+pub const WORD_COUNT: usize = 1217;
 
 /// The interpreter's workspace: the address of its register 0.
 pub const WORKSPACE: u16 = 0x83E0;
 
 /// The address after the interpreter's last word.
-pub const BEHIND: u16 = 0x2944;
+pub const BEHIND: u16 = 0x2982;
 
 /// Where the words of the interpreter begin.
 pub const ORIGIN: u16 = 0x2000;
@@ -436,7 +436,7 @@ pub const COPYCV: u16 = 0x2884;
 /// Copies a byte of MOVE from GROM to video memory.
 pub const COPYGV: u16 = 0x288E;
 
-/// The part of `MOVEB` before bytes that LOAD and STORE copy.
+/// The part of `MOVEB` before bytes that go to registers.
 pub const COPYL: u16 = 0x289A;
 
 /// Asks LOAD for a byte of MOVE.
@@ -478,11 +478,20 @@ pub const MOVEK: u16 = 0x2900;
 /// Stops by reason 5.
 pub const NOREG: u16 = 0x2906;
 
+/// The part of `SETW` for a source in video memory too.
+pub const SETVV: u16 = 0x290E;
+
+/// Copies a byte of MOVE from video memory to video memory.
+pub const COPYVV: u16 = 0x291A;
+
+/// The part of `COPYVV` after the byte.
+pub const COPYVA: u16 = 0x2936;
+
 /// The instruction ALL.
-pub const GOALL: u16 = 0x290E;
+pub const GOALL: u16 = 0x294C;
 
 /// Stores a byte of ALL, or ends the step.
-pub const FILL: u16 = 0x2924;
+pub const FILL: u16 = 0x2962;
 
 /// The instruction BACK.
-pub const GOBACK: u16 = 0x2930;
+pub const GOBACK: u16 = 0x296E;

@@ -1,14 +1,14 @@
 -- A byte that LOAD and STORE copy, as the definition has it.
-use Rattle.std.proofs.Common.{ℕ, ◌%◌, ◌+◌, ◌-◌, ◌<◌, ◌==◌, ◌||◌, ◌∙◌, ◌≡◌, ◌≤◌, ap, arith, Bool, false, if◌then◌else◌, List, refl, slice_index, slice_set}
-use Rattle.std.proofs.Common.{subst, suc, sym, true}
+use Rattle.std.proofs.Common.{ℕ, ◌%◌, ◌+◌, ◌-◌, ◌<◌, ◌==◌, ◌∙◌, ◌≡◌, ◌≤◌, ap, arith, Bool, if◌then◌else◌, List, refl, slice_index, slice_set}
+use Rattle.std.proofs.Common.{subst, suc, sym}
 use Rattle.std.proofs.lemmas.Bool.{eqb-false, eqb-true, le-ltb, lt-ltb}
 use Rattle.std.proofs.Math.Nat.{pos_of_ne-zero}
 use Rattle.sim_rows.proofs.Common.{byte_from, byte_in, Changes, ReachesWithin, comes_as, COPY, Cpu, difference_of, From, FromGrom, FromMemory, GplState, grom_at}
-use Rattle.sim_rows.proofs.Common.{GromState, idle_grom, idle_told, idle_video, is_view, IsFetched, LoadsFrom, MachineState, marked_by, most_of_byte}
+use Rattle.sim_rows.proofs.Common.{GromState, idle_grom, idle_told, idle_video, is_view, IsFetched, LoadsFrom, MachineState, most_of_byte}
 use Rattle.sim_rows.proofs.Common.{next_from, next_in_grom, next_to, pick, Place, place_in, place_is, previous-next, Space}
-use Rattle.sim_rows.proofs.Common.{space_small, state_of, sum_of, To, ToMemory, ToRegisters, unchanged, Vdp, View, view, with_byte_in, with_byte_to, Word}
+use Rattle.sim_rows.proofs.Common.{space_small, state_of, sum_of, To, ToMemory, ToRegisters, Vdp, View, view, with_byte_to, Word}
 use Rattle.sim_copy.specs.Copying.{Copying, InGrom, StandsFrom, StandsTo}
-use Rattle.sim_copy.proofs.Routines.{behind_idle, byte_copied, Counted, grom_behind, source_in, target_in}
+use Rattle.sim_copy.proofs.Routines.{behind_idle, Counted, grom_behind, source_in, target_in}
 use Rattle.sim_copy.proofs.Places.{copying_by_routines}
 use Rattle.sim_copy.specs.Bytes.{AllCopied, AtByte, AtCopy, AtEnd, ByRoutines, charged, Copied, CopiesAt, CopiesByte, CopyingAt, CopyingByRoutines, FromPlace}
 use Rattle.sim_copy.specs.Bytes.{OutOfGrom}
@@ -67,41 +67,6 @@ byte_is : (from : From) (s o : GplState) → s.cells ≡ o.cells → s.vdp ≡ o
 byte_is (FromMemory place) s o a d i = in_space place.space place.address s o a d
 byte_is (FromGrom address) s o a d i = ap (λ (l : List ℕ). slice_index l address) i
 
--- ---- what it changes, after other changes
-
-one_mark : (a s : Bool) → marked_by (a || false) (marked_by s 0) ≡ marked_by (a || s) 0
-one_mark true s = refl
-one_mark false s = refl
-
--- one byte more
-record Adds (c alone both : Changes) : Type 0 where
-  cells : alone.state.cells ≡ both.state.cells
-  vdp : alone.state.vdp ≡ both.state.vdp
-  registers : alone.state.registers ≡ both.state.registers
-  mark : marked_by alone.shows (marked_by c.shows 0) ≡ marked_by both.shows 0
-  image : both.state.image ≡ c.state.image
-  pc : both.state.pc ≡ c.state.pc
-
-adds_in : (space : Space) (address byte : ℕ) (s : GplState) (c : Changes) → s.cells ≡ c.state.cells → s.vdp ≡ c.state.vdp → s.registers ≡ c.state.registers →
-    Adds c (with_byte_in space address byte (unchanged s)) (with_byte_in space address byte c)
-adds_in Cpu address byte s c a d r =
-    record {
-      cells = ap (λ (l : List ℕ). slice_set l address byte) a;
-      vdp = d;
-      registers = r;
-      mark = one_mark (address == 0x7D) c.shows;
-      image = refl;
-      pc = refl;
-    }
-adds_in Vdp address byte s c a d r =
-    record { cells = a; vdp = ap (λ (l : List ℕ). slice_set l (address % 16384) byte) d; registers = r; mark = refl; image = refl; pc = refl }
-
-adds : (to : To) (byte : ℕ) (s : GplState) (c : Changes) → s.cells ≡ c.state.cells → s.vdp ≡ c.state.vdp → s.registers ≡ c.state.registers →
-    Adds c (with_byte_to to byte (unchanged s)) (with_byte_to to byte c)
-adds (ToMemory place) byte s c a d r = adds_in place.space place.address byte s c a d r
-adds (ToRegisters number) byte s c a d r =
-    record { cells = a; vdp = d; registers = ap (λ (l : List ℕ). slice_set l number byte) r; mark = refl; image = refl; pc = refl }
-
 -- ---- where the copy stands then
 
 next_source : (c after : Changes) (from : From) (v w : View) → StandsFrom c from v → after.state.image ≡ c.state.image → after.state.pc ≡ c.state.pc →
@@ -118,14 +83,6 @@ next_source c after (FromGrom address) v w f i p r2 r5 r14 g = record {
 
 next_number : (number : ℕ) → number < 8 → sum_of Word number 1 ≡ number + 1
 next_number number h = omega arith
-
-next_target : (to : To) (v w : View) → StandsTo to v → (1 < v.r.r8 → v.r.r7 < 8) → w.r.r7 ≡ sum_of Word v.r.r7 1 → w.r.r8 ≡ v.r.r8 → StandsTo (next_to to) w
-next_target (ToMemory place) v w f there r7 r8 = record { address = r7 ∙ ap (λ n. sum_of Word n 1) f.address; space = r8 ∙ f.space }
-next_target (ToRegisters number) v w f there r7 r8 =
-    let e = f.space in
-    let n = f.number_is in
-    let small : v.r.r7 < 8 = there (omega arith) in
-    record { number_is = r7 ∙ ap (λ n. sum_of Word n 1) f.number_is ∙ next_number number (omega arith); space = r8 ∙ f.space }
 
 one_left : (n bytes : ℕ) → n ≡ suc bytes → n - 1 ≡ bytes
 one_left n bytes e = omega arith
@@ -167,38 +124,42 @@ module _ {x y : MachineState} {t u : ℕ} (h : AtCopy x) (here : x.cpu.pc ≡ CO
     source = λ z. bounded 194 v.r.r2 w.r.r2 (omega arith) (some.source (sym (ap (λ (u : View). u.r.r5) goes.holds.is) ∙ z))
         (ap (λ (u : View). u.r.r2) goes.holds.is);
     beyond = let same = ap (λ (u : View). u.r.r8) goes.holds.is in let b = some.beyond in omega arith;
-    registers = λ l. let same =
-        ap (λ (u : View). u.r.r8) goes.holds.is in
-        bounded 8 v.r.r7 w.r.r7 (omega arith) (some.registers (omega arith)) (ap (λ (u : View). u.r.r7) goes.holds.is);
+    registers = bounded 8 v.r.r7 w.r.r7 (omega arith) some.registers (ap (λ (u : View). u.r.r7) goes.holds.is);
     fetched = subst IsFetched (sym (ap (λ (u : View). u.grom) goes.holds.is)) (behind_fetched (source_in v) v.grom some.fetched);
   }
 
   -- a byte more of the copy
   copied_one : (c : Changes) (from : From) (to : To) (bytes : ℕ) → Copying c from to (suc bytes) v →
       Copying (with_byte_to to (byte_from from c.state) c) (next_from from) (next_to to) bytes w
-  copied_one c from to bytes k =
-      let after : Changes = with_byte_to to (byte_from from c.state) c in
-      let alone : Changes = with_byte_to to (byte_from from c.state) (unchanged (state_of v)) in
+  copied_one c from (ToMemory place) bytes k =
+      let small : v.r.r8 < 2 = space_small place.space v.r.r8 k.stands_to.space in
+      absurd (let above = some.beyond in omega arith)
+  copied_one c from (ToRegisters number) bytes k =
+      let byte : ℕ = byte_from from c.state in
       let source = source_is c from v k.stands_from in
-      let target = target_is to v k.stands_to in
-      let same : byte_copied v ≡ alone =
-      ap (λ (f : From). with_byte_to (target_in v) (byte_from f (state_of v)) (unchanged (state_of v))) source
-      ∙ ap (λ (o : To). with_byte_to o (byte_from from (state_of v)) (unchanged (state_of v))) target
-      ∙ ap (λ (n : ℕ). with_byte_to to n (unchanged (state_of v))) (byte_is from (state_of v) c.state k.cells k.vdp (grom_image c from v k.stands_from)) in
-      let more = adds to (byte_from from c.state) (state_of v) c k.cells k.vdp k.registers in
+      let read : byte_from (source_in v) (state_of v) ≡ byte =
+      ap (λ (f : From). byte_from f (state_of v)) source
+      ∙ byte_is from (state_of v) c.state k.cells k.vdp (grom_image c from v k.stands_from) in
+      let is = k.stands_to.number_is in
+      let small : number < 8 = let le = some.registers in let s = some.some in omega arith in
       record {
-        cells = ap (λ (u : View). u.cells) goes.holds.is ∙ ap (λ (a : Changes). a.state.cells) same ∙ more.cells;
-        vdp = ap (λ (u : View). u.vdp.memory) goes.holds.is ∙ ap (λ (a : Changes). a.state.vdp) same ∙ more.vdp;
-        registers = ap (λ (u : View). u.vdp.registers) goes.holds.is ∙ ap (λ (a : Changes). a.state.registers) same ∙ more.registers;
+        cells = ap (λ (u : View). u.cells) goes.holds.is ∙ k.cells;
+        vdp = ap (λ (u : View). u.vdp.memory) goes.holds.is ∙ k.vdp;
+        registers =
+            ap (λ (u : View). u.vdp.registers) goes.holds.is
+            ∙ ap (λ (n : ℕ). slice_set v.vdp.registers v.r.r7 n) read
+            ∙ ap (λ (n : ℕ). slice_set v.vdp.registers n byte) is
+            ∙ ap (λ (l : List ℕ). slice_set l number byte) k.registers;
         held = ap (λ (u : View). u.vdp.held) goes.holds.is ∙ k.held;
-        mark =
-            ap (λ (u : View). u.r.r13) goes.holds.is ∙ ap (λ (a : Changes). marked_by a.shows v.r.r13) same
-            ∙ ap (λ (n : ℕ). marked_by alone.shows n) k.mark ∙ more.mark;
-        stands_from = next_source c after from v w k.stands_from more.image more.pc (ap (λ (u : View). u.r.r2) goes.holds.is)
-            (ap (λ (u : View). u.r.r5) goes.holds.is) (ap (λ (u : View). u.r.r14) goes.holds.is)
+        mark = ap (λ (u : View). u.r.r13) goes.holds.is ∙ k.mark;
+        stands_from = next_source c (with_byte_to (ToRegisters number) byte c) from v w k.stands_from refl refl
+            (ap (λ (u : View). u.r.r2) goes.holds.is) (ap (λ (u : View). u.r.r5) goes.holds.is)
+            (ap (λ (u : View). u.r.r14) goes.holds.is)
             (ap (λ (u : View). u.grom) goes.holds.is ∙ ap (λ (f : From). grom_behind f v.grom) source);
-        stands_to = next_target to v w k.stands_to (λ above. let le = some.registers above in let s = some.some in omega arith)
-            (ap (λ (u : View). u.r.r7) goes.holds.is) (ap (λ (u : View). u.r.r8) goes.holds.is);
+        stands_to = record {
+          number_is = ap (λ (u : View). u.r.r7) goes.holds.is ∙ ap (λ n. sum_of Word n 1) is ∙ next_number number small;
+          space = ap (λ (u : View). u.r.r8) goes.holds.is ∙ k.stands_to.space;
+        };
         left = left_is ∙ one_left v.r.r12 bytes k.left;
       }
 

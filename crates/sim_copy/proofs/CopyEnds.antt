@@ -117,6 +117,7 @@ module _ {x a : MachineState} {t t1 : ℕ} (e : StartsCopy x a t t1) (stands : S
       let runs : is_turn_end (pieces.start_copy (view x)).to ≡ false = ap is_turn_end (sym e.stands.pc) ∙ runs_on a.cpu.pc (view a) at_copy.place in
       let c2 = comes_on count rest.most e rest.comes runs in
       let few : count ≤ 7 + charged a.cpu.pc = subst (λ (p : ℕ). count ≤ 7 + charged p) (sym e.stands.pc) begun.few in
-      let within : rest.most + charged a.cpu.pc ≤ 37 * bytes = subst (λ (n : ℕ). rest.most + charged a.cpu.pc ≤ 37 * n) left rest.within in
-      comes_as (37 * bytes + 41) (SeesFinished whole)
+      let within : rest.most + charged a.cpu.pc ≤ 31 * bytes =
+      subst (λ (n : ℕ). rest.most + charged a.cpu.pc ≤ 31 * n) left rest.within in
+      comes_as (31 * bytes + 41) (SeesFinished whole)
       (comes_on (count + rest.most) 34 c2 (end whole (rest.copies c from to bytes (copying c from to bytes k) left)) refl) (omega arith) (λ w q. q)

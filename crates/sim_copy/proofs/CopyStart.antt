@@ -1,51 +1,26 @@
 -- The beginning of the copy, where its ways part.
-use Rattle.std.proofs.Common.{ℕ, ◌%◌, ◌+◌, ◌/◌, ◌<◌, ◌==◌, ◌∙◌, ◌≡◌, ◌≤◌, ap, arith, Bool, if◌then◌else◌, List, nat_lt, None, Option, refl, slice_index}
+use Rattle.std.proofs.Common.{ℕ, ◌%◌, ◌+◌, ◌<◌, ◌==◌, ◌∙◌, ◌≡◌, ◌≤◌, ap, arith, Bool, if◌then◌else◌, List, nat_lt, None, Option, refl, slice_index}
 use Rattle.std.proofs.Common.{subst, sym}
 use Rattle.std.proofs.lemmas.Bool.{eqb-false, eqb-true, le-ltb, ltb-true}
 use Rattle.std.proofs.Math.Nat.{pos_of_ne-zero}
-use Rattle.sim_rows.proofs.Common.{Changes, CHARACTER, copied, COPY, Cpu, difference_of, Exit, exit, From, FromGrom, FromMemory, grom_at, GromState, high}
-use Rattle.sim_rows.proofs.Common.{IsFetched, IsView, join, low, marked_by, next_at, next_in_vdp, no_other, pair_kind, pick, place_in}
-use Rattle.sim_rows.proofs.Common.{with_video_address, sum_of, To, ToMemory, ToRegisters, Vdp, VdpState, View, Word, WriteSetup}
-use Rattle.sim_rows.specs.Prelude.{NoOperation, PairKind, ReadSetup, RegisterWrite}
+use Rattle.sim_rows.proofs.Common.{Changes, CHARACTER, copied, COPY, Cpu, difference_of, Exit, exit, From, FromGrom, FromMemory, grom_at, GromState}
+use Rattle.sim_rows.proofs.Common.{IsFetched, IsView, marked_by, next_at, next_in_vdp, no_other, pick, place_in}
+use Rattle.sim_rows.proofs.Common.{with_video_address, sum_of, To, ToMemory, ToRegisters, Vdp, VdpState, View, Word}
 use Rattle.sim_copy.specs.Copying.{Copying, StandsFrom, StandsTo}
 use Rattle.sim_copy.proofs.CopiedBytes.{all_made, source_is, target_is}
 use Rattle.sim_copy.proofs.Marks.{cells_mark, video_mark}
 use Rattle.sim_copy.proofs.Places.{each}
+use Rattle.sim_copy.proofs.VideoPort.{cut, reading_cut, reads_at, writes_at, writing_cut}
 use Rattle.sim_copy.proofs.Routines.{source_in, target_in}
 use Rattle.sim_copy.specs.Bytes.{AllCopied, AtByte, AtEnd, AtHead, charged, CopiesAt, CopyingAt, CopyingByRoutines, CopyingOnWay, from_on, GoesBack}
 use Rattle.sim_copy.specs.Bytes.{in_memory, MayGo, Points, seen, seen_on, to_memory, to_on}
-use Rattle.sim_copy.specs.Pieces.{by_routines, CellsToCells, CellsToVideo, first_cell, from_cells, GromToCells, GromToVideo, head_of, is_marked, pointed_at}
-use Rattle.sim_copy.specs.Pieces.{set_source, start_copy, target_set, video_at, VideoToCells, CopyPath}
+use Rattle.sim_copy.specs.Pieces.{both_set, by_routines, CellsToCells, CellsToVideo, first_cell, from_cells}
+use Rattle.sim_copy.specs.Pieces.{GromToCells, GromToVideo, head_of, is_marked, pointed_at}
+use Rattle.sim_copy.specs.Pieces.{set_source, start_copy, target_set, VideoToCells, VideoToVideo, CopyPath}
 use Rattle.sim_rows.specs.sim_operands.Pieces.{one_if}
 use Rattle.sim_rows.specs.native_interp.declared.addresses.TheConstants.{COPYCC, COPYCV, COPYE, COPYGC, COPYGV, COPYVC}
+use Rattle.sim_rows.specs.native_interp.declared.addresses.TheConstants.{COPYVV}
 use Rattle.sim_rows.proofs.StepStart.{one_at_most}
-
--- ---- the video processor, set to an address
-
-abbrev kind_by : ℕ → PairKind
-kind_by bits = if bits == 0 then ReadSetup else if bits == 1 then WriteSetup else if bits == 2 then RegisterWrite else NoOperation
-
-read_kind : (at : ℕ) → at < 16384 → pair_kind (high at) ≡ ReadSetup
-read_kind at k = let n : high at / 64 ≡ 0 = omega arith in ap kind_by n
-
-read_pair : (at : ℕ) → at < 16384 → join (high at % 64) (low at) ≡ at
-read_pair at k = omega arith
-
-write_kind : (at : ℕ) → at < 16384 → pair_kind (high (sum_of Word at 0x4000)) ≡ WriteSetup
-write_kind at k = let n : high (sum_of Word at 0x4000) / 64 ≡ 1 = omega arith in ap kind_by n
-
-write_pair : (at : ℕ) → at < 16384 → join (high (sum_of Word at 0x4000) % 64) (low (sum_of Word at 0x4000)) ≡ at
-write_pair at k = omega arith
-
-cut : (address : ℕ) → address < 65536 → video_at address ≡ address % 16384
-cut address k = omega arith
-
-reads_at : (vdp : VdpState) (at : ℕ) → vdp.held ≡ None → at < 16384 →
-    with_video_address at vdp ≡ record vdp { address = next_in_vdp at; fetched = slice_index vdp.memory at }
-reads_at vdp at h k = rw (h, read_kind at k, read_pair at k) refl
-
-writes_at : (vdp : VdpState) (at : ℕ) → vdp.held ≡ None → at < 16384 → with_video_address (sum_of Word at 0x4000) vdp ≡ record vdp { address = at }
-writes_at vdp at h k = rw (h, write_kind at k, write_pair at k) refl
 
 -- ---- what is seen
 
@@ -72,7 +47,7 @@ pub record Starts (v : View) (e : Exit) : Type 0 where
   pub copying : (c : Changes) → (from : From) → (to : To) → (bytes : ℕ) → Copying c from to bytes v → CopyingAt e.to c from to bytes e.left
 
 head_charged : (way : CopyPath) → charged (head_of way) ≡ 11
-head_charged = each (λ way. charged (head_of way) ≡ 11) refl refl refl refl refl
+head_charged = each (λ way. charged (head_of way) ≡ 11) refl refl refl refl refl refl
 
 module _ (v : View) (i : IsView v) (held : v.vdp.held ≡ None) (fetched : IsFetched v.grom) (some : 0 < v.r.r12) where
   -- what a beginning keeps: all but the pointers, registers 4 and 13, and the video processor's address with its byte
@@ -231,6 +206,16 @@ module _ (v : View) (i : IsView v) (held : v.vdp.held ≡ None) (fetched : IsFet
               (k.mark ∙ video_mark bytes v.r.r7 (FromGrom (next_at v)) c) refl refl address_set refl,
         ))
 
+    video_to_video : v.r.r5 ≡ 1 → Starts v (exit 9 COPYVV (both_set v))
+    video_to_video e =
+        let w : View = both_set v in
+        on_way VideoToVideo 9 w v.r.r2 (omega arith) some refl (source_video e) (target_video target)
+        (λ c bytes k. (
+          let z = e in omega arith,
+          is_seen w refl k c.state.pc k.stands_from.grom (k.mark ∙ video_mark bytes v.r.r7 (in_memory Vdp v.r.r2) c)
+              (reading_cut v.r.r2) (writing_cut v.r.r7) refl refl,
+        ))
+
   -- LOAD and STORE copy
   from_again : (c : Changes) (from : From) → StandsFrom c from v → StandsFrom c from (by_routines v)
   from_again c (FromMemory place) f = record { loads_from = record { address = f.loads_from.address; space = f.loads_from.space }; grom = f.grom }
@@ -240,10 +225,10 @@ module _ (v : View) (i : IsView v) (held : v.vdp.held ≡ None) (fetched : IsFet
   to_again (ToMemory place) f = record { address = f.address; space = f.space }
   to_again (ToRegisters number) f = record { number_is = f.number_is; space = f.space }
 
-  starts_by_routines : (count : ℕ) → count ≤ 7 → 0 < v.r.r8 → (v.r.r5 ≡ 0 → v.r.r2 + v.r.r12 ≤ 0xC2) → (1 < v.r.r8 → v.r.r7 + v.r.r12 ≤ 8) →
-      Starts v (exit count COPY (by_routines v))
-  starts_by_routines count few beyond source registers = record {
-    few = few;
+  starts_by_routines : 1 < v.r.r8 → (v.r.r5 ≡ 0 → v.r.r2 + v.r.r12 ≤ 0xC2) → v.r.r7 + v.r.r12 ≤ 8 →
+      Starts v (exit 6 COPY (by_routines v))
+  starts_by_routines beyond source registers = record {
+    few = omega arith;
     place = AtByte refl (record { bytes_are = refl; some = some; source = source; beyond = beyond; registers = registers; fetched = fetched });
     held = held;
     grom = refl;
@@ -289,8 +274,8 @@ starts v i held fetched source target registers =
     pick (v.r.r8 == 1)
     (λ d. let video : v.r.r8 ≡ 1 = eqb-true v.r.r8 1 d in
     pick (v.r.r5 == 1)
-    (λ e. started v (exit 7 COPY (by_routines v)) (rw (c, d, e, start_copy) refl)
-    (starts_by_routines v i held fetched some 7 (omega arith) (omega arith) source registers))
+    (λ e. started v (exit 9 COPYVV (both_set v)) (rw (c, d, e, start_copy) refl)
+    (video_to_video v i held fetched some video (eqb-true v.r.r5 1 e)))
     (λ e. pick (v.r.r5 == 0)
     (λ f. let z : v.r.r5 ≡ 0 = eqb-true v.r.r5 0 f in
     started v (exit 15 COPYCV (from_cells (target_set v))) (rw (c, d, e, f, start_copy) refl) (cells_to_video v i held fetched some video z (source z)))
@@ -299,7 +284,7 @@ starts v i held fetched source target registers =
     (λ d. pick (nat_lt 1 v.r.r8)
     (λ e. let above : 1 < v.r.r8 = ltb-true 1 v.r.r8 e in
     started v (exit 6 COPY (by_routines v)) (rw (c, d, e, start_copy) refl)
-    (starts_by_routines v i held fetched some 6 (omega arith) (omega arith) source registers))
+    (starts_by_routines v i held fetched some above source (registers above)))
     (λ e. let cells : v.r.r8 ≡ 0 = no_other v.r.r8 d e in
     let marking : ℕ = one_if (is_marked v) in
     pick (v.r.r5 == 1)

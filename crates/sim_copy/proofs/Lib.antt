@@ -1,5 +1,6 @@
 pub mod Paths
 pub mod Places
+pub mod VideoPort
 pub mod CopyPaths
 pub mod Routines
 pub mod CopiedBytes

@@ -3,9 +3,12 @@ use Rattle.std.proofs.Common.{[], ℕ, ◌+◌, ◌-◌, ◌<◌, ◌==◌, ◌�
 pub use Rattle.sim_rows.proofs.Common.{piece}
 use Rattle.sim_rows.proofs.Common.{CHARACTER, COPY, COPYN, COPYS, difference_of, Exit, exit, Leads, leads, LOAD, MOVEB, not_limit, Part, part_then, pick, Rest}
 use Rattle.sim_rows.proofs.Common.{rest_is, RESUME, with_video_address, SHOW, spot_cell, STORE, sum_of, View, Word}
-use Rattle.sim_rows.specs.native_interp.declared.addresses.TheConstants.{COPYCC, COPYCV, COPYE, COPYGC, COPYGV, COPYVC, MOVEP, SETR, SETW, SETWA}
+use Rattle.sim_rows.specs.native_interp.declared.addresses.TheConstants.{COPYCC, COPYCV, COPYE, COPYGC, COPYGV, COPYVA}
+use Rattle.sim_rows.specs.native_interp.declared.addresses.TheConstants.{COPYVC, COPYVV, MOVEP, SETR, SETW, SETWA}
 use Rattle.sim_copy.specs.Bytes.{MayGo, Points}
 use Rattle.sim_copy.specs.Pieces.{CellsToCells, CellsToVideo, first_cell, GromToCells, GromToVideo, VideoToCells}
+use Rattle.sim_copy.specs.Pieces.{VideoToVideo}
+use Rattle.sim_rows.specs.sim_operands.Pieces.{one_if}
 use Rattle.sim_copy.specs.Pieces as pieces
 
 abbrev begin_ends : List ℕ
@@ -81,7 +84,7 @@ pub set_source : (v : View) → Leads (COPYVC ∷ []) v SETR (pieces.set_source 
 set_source v = record { by = λ f q. refl }
 
 abbrev target_ends : List ℕ
-target_ends = COPY ∷ COPYCV ∷ COPYGV ∷ []
+target_ends = COPYVV ∷ COPYCV ∷ COPYGV ∷ []
 
 abbrev for_writing : View → View
 for_writing v = record v { r = record v.r { r4 = sum_of Word (pieces.video_at v.r.r7) 0x4000 } }
@@ -147,6 +150,33 @@ copy_cell_to_video v m = record {
 
 pub copy_grom_to_video : (v : View) → Leads (COPYGV ∷ COPYE ∷ []) v COPYGV (pieces.copy_on GromToVideo v)
 copy_grom_to_video v = record { by = λ f q. pick (is_last v) (λ c. rw c refl) (λ c. rw c refl) }
+
+abbrev video_ends : List ℕ
+video_ends = COPYVV ∷ COPYE ∷ []
+
+-- COPYVV, up to COPYVA: the byte is at the target
+abbrev at_target : View → View
+at_target v = record v { r = record v.r { r4 = pieces.byte_kept v }; vdp = pieces.video_moved v }
+
+byte_gone : (v : View) → Part video_ends 6 v COPYVV (at_target v) COPYVA
+byte_gone v = record { by = λ f. refl }
+
+-- from COPYVA on, to the next byte or to COPYE
+abbrev behind_byte : View → Exit
+behind_byte v =
+    exit (13 + one_if (is_last v)) (if is_last v then COPYE else COPYVV) (record v {
+      r = record v.r {
+        r2 = pieces.reading_word (sum_of Word v.r.r2 1);
+        r7 = pieces.writing_word (sum_of Word v.r.r7 1);
+        r12 = difference_of Word v.r.r12 1;
+      };
+    })
+
+byte_counted : (v : View) → Rest video_ends 6 10 v COPYVA (behind_byte v)
+byte_counted v = record { by = λ f. pick (is_last v) (λ c. rw c refl) (λ c. rw c refl) }
+
+pub copy_in_video : (v : View) → Leads video_ends v COPYVV (pieces.copy_on VideoToVideo v)
+copy_in_video v = leads video_ends (part_then video_ends 6 0 10 (byte_gone v) (byte_counted (at_target v)))
 
 -- ---- a byte by the routines, and the end
 

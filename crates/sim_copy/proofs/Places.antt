@@ -4,8 +4,10 @@ use Rattle.sim_rows.proofs.Common.{Changes, COPY, From, is_turn_end, MachineStat
 use Rattle.sim_copy.specs.Copying.{Copying}
 use Rattle.sim_copy.specs.Bytes.{AllCopied, AtByte, AtEnd, AtHead, charged, Copied, CopiesAt, CopyingAt, CopyingByRoutines, CopyingOnWay, MayGo}
 use Rattle.sim_copy.specs.Bytes.{OnWay, Points}
-use Rattle.sim_copy.specs.Pieces.{CellsToCells, CellsToVideo, GromToCells, GromToVideo, head_of, VideoToCells, CopyPath}
+use Rattle.sim_copy.specs.Pieces.{CellsToCells, CellsToVideo, GromToCells, GromToVideo, head_of, VideoToCells}
+use Rattle.sim_copy.specs.Pieces.{VideoToVideo, CopyPath}
 use Rattle.sim_rows.specs.native_interp.declared.addresses.TheConstants.{COPYCC, COPYCV, COPYE, COPYGC, COPYGV, COPYVC}
+use Rattle.sim_rows.specs.native_interp.declared.addresses.TheConstants.{COPYVV}
 
 -- ---- the way of a place
 
@@ -16,17 +18,20 @@ way_at place =
     else if place == COPYGC then Some GromToCells
     else if place == COPYCV then Some CellsToVideo
     else if place == COPYGV then Some GromToVideo
+    else if place == COPYVV then Some VideoToVideo
     else None
 
-pub each : (P : CopyPath → Type 0) → P CellsToCells → P VideoToCells → P GromToCells → P CellsToVideo → P GromToVideo → (way : CopyPath) → P way
-each P a b c d e CellsToCells = a
-each P a b c d e VideoToCells = b
-each P a b c d e GromToCells = c
-each P a b c d e CellsToVideo = d
-each P a b c d e GromToVideo = e
+pub each : (P : CopyPath → Type 0) → P CellsToCells → P VideoToCells → P GromToCells → P CellsToVideo → P GromToVideo →
+    P VideoToVideo → (way : CopyPath) → P way
+each P a b c d e f CellsToCells = a
+each P a b c d e f VideoToCells = b
+each P a b c d e f GromToCells = c
+each P a b c d e f CellsToVideo = d
+each P a b c d e f GromToVideo = e
+each P a b c d e f VideoToVideo = f
 
 way_at_head : (way : CopyPath) → way_at (head_of way) ≡ Some way
-way_at_head = each (λ way. way_at (head_of way) ≡ Some way) refl refl refl refl refl
+way_at_head = each (λ way. way_at (head_of way) ≡ Some way) refl refl refl refl refl refl
 
 some_is : (a b : CopyPath) → Some a ≡ Some b → a ≡ b
 some_is a b e = cc
@@ -67,7 +72,7 @@ module _ {p : ℕ} {v : View} where
 pub some_left : (way : CopyPath) (v : View) → MayGo way v → 0 < v.r.r12
 some_left way v =
     each (λ way. MayGo way v → 0 < v.r.r12) (λ k. k.0.some) (λ (k : Points v.r.r7 v.r.r12). k.some) (λ (k : Points v.r.r7 v.r.r12). k.some)
-    (λ (k : Points v.r.r2 v.r.r12). k.some) (λ k. k) way
+    (λ (k : Points v.r.r2 v.r.r12). k.some) (λ k. k) (λ k. k) way
 
 -- none is left at COPYE alone
 pub at_end : (p : ℕ) (v : View) → CopiesAt p v → v.r.r12 ≡ 0 → p ≡ COPYE
@@ -76,7 +81,7 @@ at_end p v (AtHead way e k) z = absurd (let s = some_left way v k in omega arith
 at_end p v (AtEnd e n) z = e
 
 head_runs : (way : CopyPath) → is_turn_end (head_of way) ≡ false
-head_runs = each (λ way. is_turn_end (head_of way) ≡ false) refl refl refl refl refl
+head_runs = each (λ way. is_turn_end (head_of way) ≡ false) refl refl refl refl refl refl
 
 pub runs_on : (p : ℕ) (v : View) → CopiesAt p v → is_turn_end p ≡ false
 runs_on p v (AtByte e k) = ap is_turn_end e

@@ -1,14 +1,16 @@
 -- A byte that LOAD and STORE copy.
-use Rattle.std.proofs.Common.{ℕ, ◌<◌, ◌==◌, ◌∙◌, ◌≡◌, ap, arith, Bool, false, if◌then◌else◌, List, nat_lt, not, refl, subst, sym}
+use Rattle.std.proofs.Common.{ℕ, ◌<◌, ◌==◌, ◌∙◌, ◌≡◌, ap, arith, Bool, false, if◌then◌else◌, List, nat_lt, not, refl}
+use Rattle.std.proofs.Common.{slice_set, subst, sym}
 use Rattle.std.proofs.lemmas.Bool.{ltb-false, ltb-true}
-use Rattle.sim_rows.proofs.Common.{byte_from, Changes, ReachesWithin, comes, comes_as, comes_on, comes_then, COPY, COPYN, COPYS, Cpu, difference_of, Exits, From}
-use Rattle.sim_rows.proofs.Common.{FromGrom, FromMemory, GplState, grom_at, GromState, high, idle_again, idle_grom, idle_told, idle_video, in_register}
-use Rattle.sim_rows.proofs.Common.{IsFetched, IsVisible, join, LOAD, Loaded, LoadsStream, LoadsValue, MachineState, marked_by, Memory, most_of_byte}
-use Rattle.sim_rows.proofs.Common.{most_of_load, most_of_store, next_at, next_in_grom, of_register, pick, Place, place_in, PortsAreIdle, return_of, Space}
-use Rattle.sim_rows.proofs.Common.{Stands, state_of, STORE, Stored, StoresRegister, StoresValue, streamed, sum_of, To, ToMemory, ToRegisters, unchanged}
-use Rattle.sim_rows.proofs.Common.{value_at, Vdp, View, view, view_of, width_in, with_byte_in, with_byte_to, with_value, Word}
+use Rattle.sim_rows.proofs.Common.{byte_from, Changes, ReachesWithin, comes, comes_as, comes_on, comes_then, COPY, COPYN, COPYS, difference_of, Exits, From}
+use Rattle.sim_rows.proofs.Common.{FromGrom, FromMemory, grom_at, GromState, high, idle_again, idle_grom, idle_told, idle_video, in_register}
+use Rattle.sim_rows.proofs.Common.{IsFetched, IsVisible, join, LOAD, Loaded, LoadsStream, LoadsValue, MachineState, Memory, most_of_byte}
+use Rattle.sim_rows.proofs.Common.{most_of_load, next_at, next_in_grom, pick, Place, place_in, PortsAreIdle, return_of}
+use Rattle.sim_rows.proofs.Common.{Stands, state_of, STORE, Stored, StoresRegister, streamed, sum_of, To, ToMemory, ToRegisters, unchanged}
+use Rattle.sim_rows.proofs.Common.{value_at, View, view, view_of, width_in, with_register, Word}
 use Rattle.sim_rows.specs.gpl_defs.Reading.{value_at as value_in}
 use Rattle.sim_copy.specs.Bytes.{AtCopy, ByRoutines}
+use Rattle.sim_rows.specs.sim_view.Bounds.{most_of_register_store}
 use Rattle.sim_copy.specs.Pieces as pieces
 use Rattle.sim_rows.specs.native_interp.declared.addresses.TheConstants.{COPYE}
 
@@ -26,8 +28,9 @@ abbrev pub grom_behind : From → GromState → GromState
 grom_behind (FromMemory place) grom = grom
 grom_behind (FromGrom address) grom = grom_at grom.image (next_in_grom address)
 
-abbrev pub byte_copied : View → Changes
-byte_copied v = with_byte_to (target_in v) (byte_from (source_in v) (state_of v)) (unchanged (state_of v))
+-- the registers of the video processor with a byte of the source in the one that register 7 tells
+abbrev pub registers_with : View → List ℕ
+registers_with v = slice_set v.vdp.registers v.r.r7 (byte_from (source_in v) (state_of v))
 
 -- That is changed, and the source, the target and the count have gone on. Registers 4, 6, 9 and 11, and the address of
 -- the video processor with the byte there, may have changed.
@@ -38,7 +41,7 @@ pub record Counted (v w : View) : Type 0 where
   pub r11 : ℕ
   pub address : ℕ
   pub byte : ℕ
-  pub is : let c = byte_copied v in w ≡ record v {
+  pub is : w ≡ record v {
     r = record v.r {
       r2 = sum_of Word v.r.r2 1;
       r4 = r4;
@@ -47,10 +50,8 @@ pub record Counted (v w : View) : Type 0 where
       r9 = r9;
       r11 = r11;
       r12 = difference_of Word v.r.r12 1;
-      r13 = marked_by c.shows v.r.r13;
     };
-    cells = c.state.cells;
-    vdp = record v.vdp { memory = c.state.vdp; registers = c.state.registers; address = address; fetched = byte };
+    vdp = record v.vdp { registers = registers_with v; address = address; fetched = byte };
     grom = grom_behind (source_in v) v.grom;
   }
 
@@ -114,42 +115,10 @@ behind_idle (FromGrom address) g e = refl
 
 -- what the high byte of register 9 changes
 abbrev pub stored_in : View → Changes
-stored_in v = with_byte_to (target_in v) (high v.r.r9) (unchanged (state_of v))
-
-stores : (a b : MachineState) (t u : ℕ) → (view a).r.r3 ≡ 1 → (1 < (view a).r.r8 → (view a).r.r7 < 8) → ((view a).r.r8 < 2 → StoresValue a b t u) →
-    (1 < (view a).r.r8 → (view a).r.r7 < 8 → StoresRegister a b t u) → ReachesWithin most_of_store a b t u (return_of (view a)) (Stored (view a) (stored_in (view a)))
-stores a b t u one there near far =
-    let v : View = view a in
-    let place : Place = place_in v.r.r8 v.r.r7 in
-    let number : ℕ = high v.r.r9 in
-    let to : Bool → Type 0 = λ c. ReachesWithin most_of_store a b t u (return_of v)
-    (Stored v (with_byte_to (if c then ToMemory place else ToRegisters v.r.r7) number (unchanged (state_of v)))) in
-    let by : ℕ → Type 0 = λ n. ReachesWithin most_of_store a b t u (return_of v)
-    (Stored v (with_value (width_in n) place (of_register (width_in n) v.r.r9) (unchanged (state_of v)))) in
-    pick (nat_lt v.r.r8 2)
-    (λ c. subst to (sym c) (subst by one (near (ltb-true v.r.r8 2 c))))
-    (λ c. let above : 1 < v.r.r8 = let le = ltb-false v.r.r8 2 c in omega arith in
-    subst to (sym c) (comes_as 15 (Stored v (with_byte_to (ToRegisters v.r.r7) number (unchanged (state_of v)))) (far above (there above)) (omega arith)
-    (λ w l. l)))
-
--- ---- the changes do not depend on where GROM stands
+stored_in v = with_register v.r.r7 (high v.r.r9) (unchanged (state_of v))
 
 high_of : (number : ℕ) → high (join number 0) ≡ number
 high_of number = omega arith
-
--- a view made of what changes
-abbrev pub made_by : (List ℕ → List ℕ → List ℕ → Bool → View) → Changes → View
-made_by make c = make c.state.cells c.state.vdp c.state.registers c.shows
-
-same_changes : (make : List ℕ → List ℕ → List ℕ → Bool → View) (to : To) (byte : ℕ) (s : GplState) (pc : ℕ) (image : List ℕ) →
-    made_by make (with_byte_to to byte (unchanged (record s { pc = pc; image = image }))) ≡ made_by make (with_byte_to to byte (unchanged s))
-same_changes make (ToMemory place) byte s pc image = in_space place.space place.address
-  where
-    in_space : (space : Space) (address : ℕ) → made_by make (with_byte_in space address byte (unchanged (record s { pc = pc; image = image }))) ≡ made_by make
-        (with_byte_in space address byte (unchanged s))
-    in_space Cpu address = refl
-    in_space Vdp address = refl
-same_changes make (ToRegisters number) byte s pc image = refl
 
 -- ---- the pieces
 
@@ -215,41 +184,45 @@ module _ {x a : MachineState} {t t1 : ℕ} (h : AtCopy x) (left : ByRoutines (vi
           let near : IsVisible v.r.r8 v.r.r7 1 = λ z. let b = left.beyond in absurd (omega arith) in
           subst (λ (u : View). IsVisible u.r.r8 u.r.r7 u.r.r3) (sym seen_d) (subst (λ (n : ℕ). IsVisible v.r.r8 v.r.r7 n) (sym left.bytes_are) near)
 
-      there : 1 < (view d).r.r8 → (view d).r.r7 < 8
-      there = subst (λ (u : View). 1 < u.r.r8 → u.r.r7 < 8) (sym seen_d) (λ above. let some = left.some in let le = left.registers above in omega arith)
+      beyond : 1 < (view d).r.r8
+      beyond = subst (λ (u : View). 1 < u.r.r8) (sym seen_d) left.beyond
 
-      one_storing : (view d).r.r3 ≡ 1
-      one_storing = ap (λ (u : View). u.r.r3) seen_d ∙ left.bytes_are
+      there : (view d).r.r7 < 8
+      there =
+          let some = left.some in
+          let le = left.registers in
+          subst (λ (u : View). u.r.r7 < 8) (sym seen_d) (omega arith)
 
-      module _ {k : MachineState} {t4 : ℕ} (value : (view d).r.r8 < 2 → StoresValue d k t3 t4) (register : 1 < (view d).r.r8 →
-          (view d).r.r7 < 8 → StoresRegister d k t3 t4) where
-        stored : ReachesWithin most_of_store d k t3 t4 COPYN (Stored (view d) (stored_in (view d)))
-        stored = subst (λ (p : ℕ). ReachesWithin most_of_store d k t3 t4 p (Stored (view d) (stored_in (view d)))) (ap return_of seen_d)
-            (stores d k t3 t4 one_storing there value register)
+      module _ {k : MachineState} {t4 : ℕ}
+          (register : 1 < (view d).r.r8 → (view d).r.r7 < 8 → StoresRegister d k t3 t4) where
+        stored : ReachesWithin most_of_register_store d k t3 t4 COPYN (Stored (view d) (stored_in (view d)))
+        stored =
+            let after : View → Type 0 = Stored (view d) (stored_in (view d)) in
+            subst (λ (p : ℕ). ReachesWithin most_of_register_store d k t3 t4 p after) (ap return_of seen_d)
+            (register beyond there)
 
         pub stands_stored : Stands k COPYN
         stands_stored = stored.stands
 
-        -- the view behind COPYN, by what was changed
-        abbrev counted_by : View → List ℕ → List ℕ → List ℕ → Bool → View
-        counted_by u cells memory registers shows =
+        -- the view behind COPYN, where a byte was stored
+        abbrev counted_with : View → ℕ → View
+        counted_with u byte =
             (pieces.count_byte (record u {
-              r = record u.r { r4 = stored.holds.r4; r13 = marked_by shows u.r.r13 };
-              cells = cells;
-              vdp = record u.vdp { memory = memory; registers = registers; address = stored.holds.address; fetched = stored.holds.byte };
+              r = record u.r { r4 = stored.holds.r4 };
+              vdp = record u.vdp {
+                registers = slice_set u.vdp.registers u.r.r7 byte;
+                address = stored.holds.address;
+                fetched = stored.holds.byte;
+              };
             })).left
 
-        abbrev counted_of : View → View
-        counted_of u = made_by (counted_by u) (stored_in u)
-
         module _ {y : MachineState} {t5 : ℕ} (e5 : Exits k y t4 t5 (pieces.count_byte (view k))) where
-          seen_y : view y ≡ made_by (counted_by at_d) (byte_copied v)
+          seen_y : view y ≡ counted_with at_d number
           seen_y =
               e5.shows
               ∙ ap (λ (u : View). (pieces.count_byte u).left) stored.holds.is
-              ∙ ap counted_of seen_d
-              ∙ ap (λ (n : ℕ). made_by (counted_by at_d) (with_byte_to (target_in v) n (unchanged (state_of at_d)))) (high_of number)
-              ∙ same_changes (counted_by at_d) (target_in v) number (state_of v) (state_of at_d).pc (state_of at_d).image
+              ∙ ap (λ (u : View). counted_with u (high u.r.r9)) seen_d
+              ∙ ap (counted_with at_d) (high_of number)
 
           counted : Counted v (view y)
           counted =
@@ -269,8 +242,9 @@ module _ {x a : MachineState} {t t1 : ℕ} (h : AtCopy x) (left : ByRoutines (vi
               let c2 = comes_on 1 15 c1 loaded refl in
               let c3 : ReachesWithin 18 x d t t3 STORE (λ u. u ≡ (pieces.store_byte (view b)).left) =
               comes_then 16 2 c2 e3 (record { within = omega arith; to_is = refl; holds = refl }) refl in
-              let c4 = comes_on 18 15 c3 stored refl in
-              comes_then 33 4 c4 e5 (record { within = omega arith; to_is = sym e5.stands.pc; holds = subst (Counted v) e5.shows counted }) refl
+              let c4 = comes_on 18 9 c3 stored refl in
+              let holds = subst (Counted v) e5.shows counted in
+              comes_then 27 4 c4 e5 (record { within = omega arith; to_is = sym e5.stands.pc; holds = holds }) refl
 
           pub place_told : y.cpu.pc ≡ (if (view y).r.r12 == 0 then COPYE else COPY)
           place_told = e5.stands.pc ∙ ap (λ (n : ℕ). if n == 0 then COPYE else COPY) (sym (ap (λ (u : View). u.r.r12) e5.shows))

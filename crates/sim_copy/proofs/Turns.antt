@@ -20,7 +20,7 @@ pub record Turns (made : ℕ) (x z : MachineState) (t u : ℕ) : Type 0 where
   pub left : (view z).r.r12 + made ≡ (view x).r.r12
   pub most : ℕ
   pub comes : ReachesWithin most x z t u z.cpu.pc (λ v. Unit {0})
-  pub within : most + charged x.cpu.pc ≤ 37 * made + charged z.cpu.pc
+  pub within : most + charged x.cpu.pc ≤ 31 * made + charged z.cpu.pc
   pub rest : (c : Changes) → (from : From) → (to : To) → (bytes : ℕ) → CopyingAt x.cpu.pc c from to bytes (view x) → (view x).r.r12 ≡ bytes
       → Rest (copied bytes from to c) z
 

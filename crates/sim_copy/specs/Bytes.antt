@@ -3,10 +3,10 @@ use Rattle.std.specs.Prelude.{ℕ, ◌%◌, ◌*◌, ◌+◌, ◌-◌, ◌<◌, 
 use Rattle.sim_rows.specs.Prelude.{byte_from, ShowsChanges, Changes, ReachesWithin, copied, COPY, Cpu, From, FromGrom, FromMemory}
 use Rattle.sim_rows.specs.Prelude.{grom_at, GSTEP, IsFetched, MachineState, marked_by, next_from, next_in_vdp, next_to}
 use Rattle.sim_rows.specs.Prelude.{PortsAreIdle, SeesFinished, Space, Stands, To, ToMemory, Vdp, View, view}
-use Rattle.sim_rows.specs.Prelude.{VISIBLE_CELLS, with_byte_to, with_pc}
+use Rattle.sim_rows.specs.Prelude.{sum_of, VISIBLE_CELLS, with_byte_to, with_pc, Word}
 use Rattle.sim_copy.specs.Copying.{Copying}
 use Rattle.sim_copy.specs.Pieces.{CellsToCells, CellsToVideo, first_cell, GromToCells, GromToVideo, head_of}
-use Rattle.sim_copy.specs.Pieces.{start_copy, VideoToCells, CopyPath}
+use Rattle.sim_copy.specs.Pieces.{start_copy, VideoToCells, VideoToVideo, CopyPath}
 use Rattle.sim_rows.specs.sim_view.Bounds.{most_of_byte, most_to_end_copy}
 use Rattle.sim_rows.specs.native_interp.declared.addresses.TheConstants.{COPYE}
 
@@ -23,14 +23,15 @@ MayGo VideoToCells v = Points v.r.r7 v.r.r12
 MayGo GromToCells v = Points v.r.r7 v.r.r12
 MayGo CellsToVideo v = Points v.r.r2 v.r.r12
 MayGo GromToVideo v = 0 < v.r.r12
+MayGo VideoToVideo v = 0 < v.r.r12
 
--- The bytes that are left go by the routines LOAD and STORE, to video memory or to registers.
+-- The bytes that are left go by the routines LOAD and STORE, to registers.
 pub record ByRoutines (v : View) : Type 0 where
   pub bytes_are : v.r.r3 ≡ 1
   pub some : 0 < v.r.r12
   pub source : v.r.r5 ≡ 0 → v.r.r2 + v.r.r12 ≤ VISIBLE_CELLS
-  pub beyond : 0 < v.r.r8
-  pub registers : 1 < v.r.r8 → v.r.r7 + v.r.r12 ≤ 8
+  pub beyond : 1 < v.r.r8
+  pub registers : v.r.r7 + v.r.r12 ≤ 8
   pub fetched : IsFetched v.grom
 
 -- Where a byte is copied: at COPY by the routines, or at the head of its way; with none left, at COPYE.
@@ -58,6 +59,7 @@ from_on VideoToCells address = in_memory Vdp address
 from_on GromToCells address = FromGrom address
 from_on CellsToVideo address = in_memory Cpu address
 from_on GromToVideo address = FromGrom address
+from_on VideoToVideo address = in_memory Vdp address
 
 abbrev pub to_on : CopyPath → ℕ → To
 to_on CellsToCells address = to_memory Cpu address
@@ -65,9 +67,10 @@ to_on VideoToCells address = to_memory Cpu address
 to_on GromToCells address = to_memory Cpu address
 to_on CellsToVideo address = to_memory Vdp address
 to_on GromToVideo address = to_memory Vdp address
+to_on VideoToVideo address = to_memory Vdp address
 
--- What is seen on a way: the changes so far, the bytes that are left, the mark, both pointers, the address of the video
--- processor with the byte there, and where GROM is.
+-- What is seen on a way: the changes so far, the bytes that are left, the mark, both pointers, or words that set the
+-- video processor, its address with the byte there, and where GROM is.
 abbrev pub seen : View → Changes → ℕ → ℕ → ℕ → ℕ → ℕ → ℕ → ℕ → View
 seen v c bytes mark source target address byte next =
     record v {
@@ -94,6 +97,9 @@ seen_on GromToCells v c bytes mark from to =
 seen_on CellsToVideo v c bytes mark from to =
     seen v c bytes mark (first_cell + from) v.r.r7 (to % 16384) v.vdp.fetched c.state.pc
 seen_on GromToVideo v c bytes mark from to = seen v c bytes mark v.r.r2 v.r.r7 (to % 16384) v.vdp.fetched from
+seen_on VideoToVideo v c bytes mark from to =
+    let at = sum_of Word (to % 16384) 0x4000 in
+    seen v c bytes mark (from % 16384) at v.vdp.address v.vdp.fetched c.state.pc
 
 -- Where the instruction goes on: register 5 has the space of the source, and after one in GROM register 14 has the
 -- address of the next instruction.

@@ -7,17 +7,17 @@ ghost use Rattle.sim_copy.specs.Copying.{CopiesBytes};
 ghost use Rattle.sim_rows.specs.native_interp.declared.addresses.TheConstants as address;
 
 use crate::pieces::{
-    begin_copy, copy_cell, copy_cell_to_video, copy_grom, copy_grom_to_video, copy_video,
-    count_byte, leave_copy, next_byte, set_source, set_target, store_byte,
+    begin_copy, copy_cell, copy_cell_to_video, copy_grom, copy_grom_to_video, copy_in_video,
+    copy_video, count_byte, leave_copy, next_byte, set_source, set_target, store_byte,
 };
 use sim_jumps::resume_row;
-use sim_rows::labels::{COPYCC, COPYCV, COPYGC, COPYGV, COPYVC, SETR, SETW, SHOW};
+use sim_rows::labels::{COPYCC, COPYCV, COPYGC, COPYGV, COPYVC, COPYVV, SETR, SETW, SHOW};
 use sim_rows::processor::{Machine, Steps};
 use sim_rows::subroutines::{run_load, run_store};
 use sim_rows::{end_row, register};
 use std::sync::ledger::Ledger;
 
-/// Begins the copy: where the ports count by themselves, they are set.
+/// Begins the copy: where video memory is read or written, its port is set or made ready.
 fn start_copy<L: Ledger>(machine: &mut Machine, steps: &mut Steps<L>)
     requires { Stands machine.old address.MOVEB }
     ensures { StartsCopy machine.old machine.new steps.old steps.new }
@@ -48,12 +48,14 @@ fn copy_byte<L: Ledger>(machine: &mut Machine, steps: &mut Steps<L>)
         copy_cell_to_video(machine, steps);
     } else if place == COPYGV {
         copy_grom_to_video(machine, steps);
+    } else if place == COPYVV {
+        copy_in_video(machine, steps);
     } else {
         copy_by_routines(machine, steps);
     }
 }
 
-/// Copies a byte of those that are left by LOAD and STORE.
+/// Copies a byte of those that are left to a register of the video processor, by LOAD and STORE.
 fn copy_by_routines<L: Ledger>(machine: &mut Machine, steps: &mut Steps<L>)
     requires stands { Stands machine.old address.COPY }
     requires at { AtCopy machine.old }
@@ -96,7 +98,7 @@ fn end_copy<L: Ledger>(machine: &mut Machine, steps: &mut Steps<L>)
 
 /// Runs the copy of MOVE to the end of the step. Register 12 has the number of bytes, registers 2 and 5 the source, and
 /// registers 7 and 8 the target; 2 in register 5 says that the source is in GROM, and 2 in register 8 that the target
-/// is among the registers of the video processor. It takes at most 37 instructions a byte, and 41 more.
+/// is among the registers of the video processor. It takes at most 31 instructions a byte, and 41 more.
 pub fn copy_bytes<L: Ledger>(machine: &mut Machine, steps: &mut Steps<L>)
     requires stands { Stands machine.old address.MOVEB }
     requires idle { PortsAreIdle machine.old.cpu.memory }

@@ -7,6 +7,6 @@ mod pieces;
 
 pub use copy::copy_bytes;
 pub use pieces::{
-    begin_copy, copy_cell, copy_cell_to_video, copy_grom, copy_grom_to_video, copy_video,
-    count_byte, leave_copy, next_byte, set_source, set_target, store_byte,
+    begin_copy, copy_cell, copy_cell_to_video, copy_grom, copy_grom_to_video, copy_in_video,
+    copy_video, count_byte, leave_copy, next_byte, set_source, set_target, store_byte,
 };

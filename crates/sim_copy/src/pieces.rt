@@ -9,11 +9,13 @@ ghost use Rattle.sim_copy.specs.Pieces.{
   GromToCells,
   GromToVideo,
   VideoToCells,
+  VideoToVideo,
 };
 ghost use Rattle.sim_copy.specs.Pieces as piece;
 
 use sim_rows::labels::{
-    COPY, COPYCC, COPYCV, COPYE, COPYGC, COPYGV, COPYVC, LOAD, RESUME, SETR, SETW, SHOW, STORE,
+    COPY, COPYCC, COPYCV, COPYE, COPYGC, COPYGV, COPYVC, COPYVV, LOAD, RESUME, SETR, SETW, SHOW,
+    STORE,
 };
 use sim_rows::processor::{Machine, Steps};
 use sim_rows::run_piece;
@@ -40,7 +42,7 @@ pub fn set_target<L: Ledger>(machine: &mut Machine, steps: &mut Steps<L>)
     requires { Stands machine.old address.SETW }
     ensures { Exits machine.old machine.new steps.old steps.new (piece.set_target (view machine.old)) }
 {
-    run_piece(machine, steps, &[COPY, COPYCV, COPYGV]);
+    run_piece(machine, steps, &[COPYVV, COPYCV, COPYGV]);
 }
 
 /// The piece of the copy that copies a byte from the cells to the cells.
@@ -85,6 +87,14 @@ pub fn copy_grom_to_video<L: Ledger>(machine: &mut Machine, steps: &mut Steps<L>
     ensures { Exits machine.old machine.new steps.old steps.new (piece.copy_on GromToVideo (view machine.old)) }
 {
     run_piece(machine, steps, &[COPYGV, COPYE]);
+}
+
+/// The piece of the copy that copies a byte from video memory to video memory.
+pub fn copy_in_video<L: Ledger>(machine: &mut Machine, steps: &mut Steps<L>)
+    requires { Stands machine.old address.COPYVV }
+    ensures { Exits machine.old machine.new steps.old steps.new (piece.copy_on VideoToVideo (view machine.old)) }
+{
+    run_piece(machine, steps, &[COPYVV, COPYE]);
 }
 
 /// The piece of the copy that asks LOAD for the next byte.

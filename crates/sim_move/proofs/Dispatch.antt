@@ -82,7 +82,7 @@ module _ (s : GplState) {x a : MachineState} {t t1 : ℕ} (stands : Stands x GOM
       turned {y = y} {t2 = t2} copies =
           let bytes = g.found.0.0 in
           let next = finished (made s kind g.found) in
-          let c = comes_on 160 (37 * bytes + 41) g.comes (copies (begun kind s) g.found.1 g.found.0.1 bytes g.comes.holds) refl in
+          let c = comes_on 160 (31 * bytes + 41) g.comes (copies (begun kind s) g.found.1 g.found.0.1 bytes g.comes.holds) refl in
           let e = step_copies s kind known g.found g.is in
           let b = bound_is s kind known g.found g.is in
           turned_by x y t t2 most_to_dispatch Stepped s (Ok next) e (refl, reaches most_to_dispatch (bound s) c start refl (omega arith), matches next y c.stands c.holds)

@@ -141,7 +141,7 @@ most_to_turn = 17
 
 -- MOVE's copy: from one byte to the next; and its beginning and its end together
 abbrev pub most_of_byte : ℕ
-most_of_byte = 37
+most_of_byte = 31
 
 abbrev pub most_beside_bytes : ℕ
 most_beside_bytes = 41

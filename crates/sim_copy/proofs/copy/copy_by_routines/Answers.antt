@@ -27,7 +27,8 @@ pub count_byte-requires : goal.count_byte-requires
 count_byte-requires g c =
     let l = c.run_load.ensures in
     let s = c.run_store.ensures in
-    Routines.stands_stored c.requires.at c.requires.left c.next_byte.ensures l.value l.stream c.store_byte.ensures s.value s.register
+    let q = c.requires in
+    Routines.stands_stored q.at q.left c.next_byte.ensures l.value l.stream c.store_byte.ensures s.register
 
 pub returns : goal.returns
 returns g c =
@@ -35,5 +36,7 @@ returns g c =
     let l = c.run_load.ensures in
     let s = c.run_store.ensures in
     CopiedBytes.copies q.at q.stands.pc q.left
-    (Routines.goes q.at q.left c.next_byte.ensures l.value l.stream c.store_byte.ensures s.value s.register c.count_byte.ensures)
-    (Routines.place_told q.at q.left c.next_byte.ensures l.value l.stream c.store_byte.ensures s.value s.register c.count_byte.ensures)
+    (Routines.goes q.at q.left c.next_byte.ensures l.value l.stream c.store_byte.ensures s.register
+    c.count_byte.ensures)
+    (Routines.place_told q.at q.left c.next_byte.ensures l.value l.stream c.store_byte.ensures s.register
+    c.count_byte.ensures)

@@ -1,8 +1,8 @@
 use Rattle.std.proofs.Common.{◌≡◌, arith}
 use Rattle.sim_copy.proofs.CopyPaths
-use Rattle.sim_copy.specs.Pieces.{CellsToCells, CellsToVideo, GromToCells, GromToVideo, VideoToCells}
+use Rattle.sim_copy.specs.Pieces.{CellsToCells, CellsToVideo, GromToCells, GromToVideo, VideoToCells, VideoToVideo}
 use Rattle.sim_copy.proofs.copy.copy_byte.Goals as goal
-use Rattle.sim_rows.specs.native_interp.declared.addresses.TheConstants.{COPYCC, COPYCV, COPYGC, COPYGV, COPYVC}
+use Rattle.sim_rows.specs.native_interp.declared.addresses.TheConstants.{COPYCC, COPYCV, COPYGC, COPYGV, COPYVC, COPYVV}
 
 pub returns-then-place-eq-COPYCC : goal.returns-then-place-eq-COPYCC
 returns-then-place-eq-COPYCC g c =
@@ -28,3 +28,10 @@ pub returns-then-place-eq-COPYGV : goal.returns-then-place-eq-COPYGV
 returns-then-place-eq-COPYGV g c =
     let here : c.args.machine.now.cpu.pc ≡ COPYGV = let p = c.pc-place.ensures.value in let r = c.if-place-eq-COPYGV.true in omega arith in
     CopyPaths.copies c.requires.at GromToVideo here c.copy_grom_to_video.ensures
+
+pub returns-then-place-eq-COPYVV : goal.returns-then-place-eq-COPYVV
+returns-then-place-eq-COPYVV g c =
+    let p = c.pc-place.ensures.value in
+    let r = c.if-place-eq-COPYVV.true in
+    let here : c.args.machine.now.cpu.pc ≡ COPYVV = omega arith in
+    CopyPaths.copies c.requires.at VideoToVideo here c.copy_in_video.ensures
