@@ -1,9 +1,15 @@
 -- Jumps, from where their address is known.
 use Rattle.std.proofs.Common.{ℕ, ◌<◌, ◌∙◌, ◌≡◌, ap, arith, false, List, refl, slice_index, slice_set}
-use Rattle.sim_rows.proofs.Common.{Byte, ShowsChanges, comes, comes_on, EndsRow, Exits, Goes, goes_in, GOTO, GplState, grom_at, GromState, idle_grom, idle_told}
-use Rattle.sim_rows.proofs.Common.{idle_video, is_view, MachineState, ones_cleared, PortsAreIdle, RESUME, ShowsState, set_is, with_grom_address, SHOW, Stands, unchanged, View}
-use Rattle.sim_rows.proofs.Common.{view, with_condition}
-use Rattle.sim_jumps.specs.Jumps.{GoesOn, ResumesRow, TakesBranch}
+use Rattle.sim_rows.proofs.Common.{Byte, Changes, comes, comes_on, Exits, Goes, goes_in, GOTO, GplState, grom_at}
+use Rattle.sim_rows.proofs.Common.{GromState}
+use Rattle.sim_rows.proofs.Common.{GSTEP, is_view, MachineState, ones_cleared, SeesFinished, set_is, ShowsChanges}
+use Rattle.sim_rows.proofs.Common.{ShowsState}
+use Rattle.sim_rows.proofs.Common.{Stands, unchanged, View, view, with_condition, with_grom_address, with_pc}
+use Rattle.sim_rows.proofs.sim_view.Routines.{Ends, first}
+use Rattle.sim_rows.proofs.Routines.{row_ends}
+use Rattle.sim_rows.specs.Routines.{end_row}
+use Rattle.sim_jumps.specs.Jumps.{GoesOn, TakesBranch}
+use Rattle.sim_jumps.specs.Routines.{resume_row}
 use Rattle.sim_jumps.specs.Pieces as pieces
 
 -- GROMs that were set from one address to another
@@ -48,29 +54,17 @@ takes {x = x} e goes s next h to =
 
 -- ---- RESUME
 
-module _ {x a : MachineState} {t t1 : ℕ} (stands : Stands x RESUME) (e : Exits x a t t1 (pieces.resume (view x))) where
-  abbrev v : View
-  v = view x
-
-  pub idle_behind : PortsAreIdle x.cpu.memory → PortsAreIdle a.cpu.memory
-  idle_behind i =
-      let set = set_is v.grom v.r.r14 (idle_grom x.cpu.memory i) ((is_view x stands.machine).r 14) in
-      idle_told a.cpu.memory (ap (λ (u : View). u.vdp.held) e.shows ∙ idle_video x.cpu.memory i)
-      (ap (λ (u : View). u.grom.half_written) e.shows ∙ ap (λ (g : GromState). g.half_written) set)
-
-  pub resumes : {y : MachineState} {t2 : ℕ} → EndsRow a y t1 t2 → ResumesRow x y t t2
-  resumes ends c next h to =
-      let resumed : Goes (pieces.resume v) 3 SHOW (ShowsChanges c) = record {
-        within = omega arith;
-        to_is = refl;
-        holds = record {
-          cells = h.cells;
-          vdp = h.vdp;
-          registers = h.registers;
-          held = h.held;
-          grom = set_from v.grom c.state.image next v.r.r14 c.state.pc h.grom to ((is_view x stands.machine).r 14);
-          mark = h.mark;
-        };
-      } in
-      let c1 = comes e resumed in
-      comes_on 3 28 c1 (ends c c1.holds) refl
+-- A row whose changes are made ends with them, and GROM goes on where register 14 says.
+pub row_resumes : (c : Changes) (next : ℕ) (v : View) → ShowsChanges (with_pc next c) v → v.r.r14 ≡ c.state.pc →
+    v.r.r14 < 65536 → Ends (resume_row v) 31 GSTEP (SeesFinished c)
+unfolding resume_row
+row_resumes c next v h to fits =
+    first (pieces.resume v) end_row
+    (row_ends c (pieces.resume v).left (record {
+      cells = h.cells;
+      vdp = h.vdp;
+      registers = h.registers;
+      held = h.held;
+      grom = set_from v.grom c.state.image next v.r.r14 c.state.pc h.grom to fits;
+      mark = h.mark;
+    }))

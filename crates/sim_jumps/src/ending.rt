@@ -1,11 +1,12 @@
 //! Jumps, from where their address is known to the end of the step.
 
-ghost use Rattle.sim_rows.specs.Prelude.{PortsAreIdle, Stands};
+ghost use Rattle.sim_rows.specs.Prelude.{Exits, PortsAreIdle, Stands, view};
 ghost use Rattle.sim_jumps.specs.Jumps.{GoesOn, ResumesRow, TakesBranch};
 ghost use Rattle.sim_rows.specs.native_interp.declared.addresses.TheConstants as address;
+ghost use Rattle.sim_jumps.specs.Routines as routine;
 
 use crate::pieces::{go_on, resume, take_branch};
-use sim_rows::end_row;
+use sim_rows::end_row_routine;
 use sim_rows::processor::{Machine, Steps};
 use std::sync::ledger::Ledger;
 
@@ -26,6 +27,15 @@ pub fn take_jump<L: Ledger>(machine: &mut Machine, steps: &mut Steps<L>)
     jump(machine, steps);
 }
 
+/// RESUME, whole: GROM goes on at the address in register 14, and the row ends.
+pub fn resume_row_routine<L: Ledger>(machine: &mut Machine, steps: &mut Steps<L>)
+    requires { Stands machine.old address.RESUME }
+    ensures { Exits machine.old machine.new steps.old steps.new (routine.resume_row (view machine.old)) }
+{
+    resume(machine, steps);
+    end_row_routine(machine, steps);
+}
+
 /// Ends a row whose results are stored, and which goes on at the address in register 14: the character goes to the
 /// screen if a byte was stored at its cell.
 pub fn resume_row<L: Ledger>(machine: &mut Machine, steps: &mut Steps<L>)
@@ -33,7 +43,5 @@ pub fn resume_row<L: Ledger>(machine: &mut Machine, steps: &mut Steps<L>)
     requires idle { PortsAreIdle machine.old.cpu.memory }
     ensures { ResumesRow machine.old machine.new steps.old steps.new }
 {
-    machine.holds_bounds();
-    resume(machine, steps);
-    end_row(machine, steps);
+    resume_row_routine(machine, steps);
 }

@@ -6,5 +6,5 @@
 mod ending;
 mod pieces;
 
-pub use ending::{jump, resume_row, take_jump};
+pub use ending::{jump, resume_row, resume_row_routine, take_jump};
 pub use pieces::{go_on, resume, take_branch};

@@ -1,6 +1,8 @@
 pub mod Numbers
 pub mod Paths
-pub mod Dispatch
 pub mod RowFacts
 pub mod Products
 pub mod Quotients
+pub mod Ways
+pub mod Meaning
+pub mod Common

@@ -1,10 +1,10 @@
 //! MUL and DIV, from their dispatch to the end of the step.
 
 ghost use Rattle.std.specs.Prelude.{◌≡◌, Some, true};
-ghost use Rattle.sim_rows.specs.Prelude.{AtDispatch, AtEntry, row_entry, RunsRow, Stands};
+ghost use Rattle.sim_rows.specs.Prelude.{AtDispatch, Exits, row_entry, Stands};
 ghost use Rattle.sim_rows.specs.Prelude.{from_dispatch, state_at_dispatch, Turned, Two, view};
-ghost use Rattle.sim_muldiv.specs.Family.{is_muldiv, IsReady};
-ghost use Rattle.sim_rows.specs.sim_view.Bounds.{most_of_quotient_row};
+ghost use Rattle.sim_muldiv.specs.Family.{is_muldiv};
+ghost use Rattle.sim_muldiv.specs.Rows as row;
 
 use crate::product::run_product;
 use crate::quotient::run_quotient;
@@ -17,8 +17,8 @@ use std::sync::ledger::Ledger;
 fn run_row_of_two<L: Ledger>(machine: &mut Machine, steps: &mut Steps<L>, name: TwoName)
     requires stands { Stands machine.old (row_entry (Some (Two name))) }
     requires family { is_muldiv (Some (Two name)) ≡ true }
-    requires ready { IsReady machine.old }
-    ensures { RunsRow (Two name) most_of_quotient_row machine.old machine.new steps.old steps.new }
+    requires ready { row.IsReady (view machine.old) }
+    ensures { Exits machine.old machine.new steps.old steps.new (row.row (Two name) (view machine.old)) }
 {
     match name {
         TwoName::MUL => run_product(machine, steps),
@@ -29,9 +29,10 @@ fn run_row_of_two<L: Ledger>(machine: &mut Machine, steps: &mut Steps<L>, name: 
 
 /// The same, by the operation that was found.
 fn run_row<L: Ledger>(machine: &mut Machine, steps: &mut Steps<L>, operation: GplOperation)
-    requires entry { AtEntry is_muldiv operation machine.old }
-    requires ready { IsReady machine.old }
-    ensures { RunsRow operation most_of_quotient_row machine.old machine.new steps.old steps.new }
+    requires stands { Stands machine.old (row_entry (Some operation)) }
+    requires family { is_muldiv (Some operation) ≡ true }
+    requires ready { row.IsReady (view machine.old) }
+    ensures { Exits machine.old machine.new steps.old steps.new (row.row operation (view machine.old)) }
 {
     match operation {
         GplOperation::Two(name) => run_row_of_two(machine, steps, name),

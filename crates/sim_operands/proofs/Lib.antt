@@ -4,4 +4,4 @@ pub mod AddressPieces
 pub mod Ready
 pub mod FoundPlaces
 pub mod Transfers
-pub mod TransferPieces
+pub mod Routines

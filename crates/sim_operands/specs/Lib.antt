@@ -1,3 +1,4 @@
 pub mod Pieces
 pub mod Values
 pub mod Subroutines
+pub mod Routines

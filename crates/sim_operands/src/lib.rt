@@ -11,6 +11,6 @@ mod store;
 
 pub use address::{add_index, check_range, check_short, read_address, read_pointer, run_address};
 pub use fetch::{fetch_byte, run_fetch};
-pub use load::{load_value, load_video, run_load, stream_value};
+pub use load::{load_routine, load_value, load_video, run_load, stream_value};
 pub use seek::{run_seek, seek_address};
-pub use store::{run_store, store_register, store_value, store_video};
+pub use store::{run_store, store_register, store_routine, store_value, store_video};

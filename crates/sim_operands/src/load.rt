@@ -4,8 +4,10 @@ ghost use Rattle.std.specs.Prelude.{◌<◌, ◌≡◌};
 ghost use Rattle.sim_view.specs.Prelude.{Exits, IsFetched, PortsAreIdle, Stands, view};
 ghost use Rattle.sim_view.specs.native_interp.declared.addresses.TheConstants as address;
 ghost use Rattle.sim_operands.specs.Values.{IsVisible};
+ghost use Rattle.sim_operands.specs.Routines.{CanLoad};
 ghost use Rattle.sim_operands.specs.Subroutines.{LoadsStream, LoadsValue};
 ghost use Rattle.sim_operands.specs.Pieces as piece;
+ghost use Rattle.sim_operands.specs.Routines as routine;
 
 use sim_view::labels::{LDATA, STREAM};
 use sim_view::processor::{Machine, Steps};
@@ -37,6 +39,22 @@ pub fn stream_value<L: Ledger>(machine: &mut Machine, steps: &mut Steps<L>)
     run_piece(machine, steps, &[]);
 }
 
+/// LOAD, whole. It does what its pieces do, and keeps all but registers 4 and 6, the video processor and the GROMs; it
+/// comes to the address in register 11.
+pub fn load_routine<L: Ledger>(machine: &mut Machine, steps: &mut Steps<L>)
+    requires stands { Stands machine.old address.LOAD }
+    requires visible { CanLoad (view machine.old) }
+    ensures { Exits machine.old machine.new steps.old steps.new (routine.load (view machine.old)) }
+{
+    let space = register(machine, 5);
+    load_value(machine, steps);
+    if space == 1 {
+        load_video(machine, steps);
+    } else if space > 1 {
+        stream_value(machine, steps);
+    }
+}
+
 /// Runs LOAD: the value at the place in registers 2 and 5, of the width in register 3, comes into
 /// register 6. Where register 5 is above 1 it is the value that follows in GROM, which goes on after it.
 /// It takes at most 15 instructions, changes register 4 and the address of the video processor too, and
@@ -49,11 +67,5 @@ pub fn run_load<L: Ledger>(machine: &mut Machine, steps: &mut Steps<L>)
     ensures stream { 1 < (view machine.old).r.r5 → IsFetched machine.old.cpu.memory.grom
         → LoadsStream machine.old machine.new steps.old steps.new }
 {
-    let space = register(machine, 5);
-    load_value(machine, steps);
-    if space == 1 {
-        load_video(machine, steps);
-    } else if space > 1 {
-        stream_value(machine, steps);
-    }
+    load_routine(machine, steps);
 }

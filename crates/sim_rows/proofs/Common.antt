@@ -1,13 +1,13 @@
 -- The names that the proofs of a family cite, passed on from one place. Declares nothing.
 pub use Rattle.sim_view.proofs.Common.{comes, comes_as, comes_on, comes_then, given, Goes, goes_in, high-join, is_view, IsView, join-bytes, Leads, leads, off}
 pub use Rattle.sim_view.proofs.Common.{no_turns, on, one_more_turn, Part, part_then, pick, piece, previous-next, reg_word, Rest, runs_steps, TurnsMade}
+pub use Rattle.sim_view.proofs.Routines.{just}
 pub use Rattle.sim_view.specs.Bounds.{most_of_address, most_of_alu_row, most_of_byte, most_of_case_row, most_of_exchange_row, most_of_load, most_of_product_row}
 pub use Rattle.sim_view.specs.Bounds.{most_of_quotient_row, most_of_shift_row, most_of_stack_row, most_of_store, most_to_copy}
 pub use Rattle.sim_operands.proofs.AddressPieces.{Answers, index_read, IndexRead, range_read, RangeRead}
 pub use Rattle.sim_operands.proofs.Facts.{at_most, byte_is, down, no_other, not_limit, spot_cell}
 pub use Rattle.sim_operands.proofs.Paths.{rest_is}
 pub use Rattle.sim_operands.proofs.Ready.{idle_grom, idle_video, ready, set_is}
-pub use Rattle.sim_operands.proofs.TransferPieces.{just}
 pub use Rattle.sim_rows.proofs.Again.{begins, fetched_again, first_way, idle_again, idle_told, second_way}
 pub use Rattle.sim_rows.proofs.StepStart.{back_is, from, known, located_at, lost, where_found}
 pub use Rattle.sim_rows.proofs.Codes.{if_true, one_below, two_above}

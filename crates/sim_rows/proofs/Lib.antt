@@ -15,6 +15,8 @@ pub mod Sources
 pub mod Matched
 pub mod Destinations
 pub mod StoredResults
+pub mod RowViews
+pub mod Routines
 pub mod WholeRows
 pub mod RowStart
 pub mod Family

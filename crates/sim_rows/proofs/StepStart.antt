@@ -8,7 +8,7 @@ use Rattle.sim_rows.specs.Prelude.{ReachesWithin, Dispatched, even, Exit, exit, 
 use Rattle.sim_rows.specs.Prelude.{low, operation_entry, past, return_of, ShowsState, with_grom_address, shifted, SLA, View, view}
 use Rattle.sim_operands.proofs.Ready.{set_is}
 use Rattle.sim_operands.specs.Pieces.{one_if}
-use Rattle.sim_operands.proofs.TransferPieces.{just}
+use Rattle.sim_view.proofs.Routines.{just}
 use Rattle.sim_rows.specs.Pieces as pieces
 use Rattle.sim_view.specs.interp_defs.Interpreter.{most_to_dispatch}
 

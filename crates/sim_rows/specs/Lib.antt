@@ -11,4 +11,5 @@ pub mod Pieces
 pub mod States
 pub mod Rows
 pub mod Results
+pub mod Routines
 pub mod Prelude

@@ -12,7 +12,7 @@ pub use row::{
     load_first, load_second, load_wide, start_row,
 };
 pub use step::{begin_step, current_operation, dispatch, where_next};
-pub use tail::{end_row, finish_row, show, store_result};
+pub use tail::{end_row, end_row_routine, finish_row, finish_row_routine, show, store_result};
 
 // what a family speaks of
 pub use gpl_forms as gpl;

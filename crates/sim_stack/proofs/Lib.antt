@@ -1,10 +1,12 @@
-pub mod Paths
+pub mod Dispatch
 pub mod Room
-pub mod ReturnRows
+pub mod Paths
 pub mod NextAddress
 pub mod Calls
+pub mod ReturnRows
+pub mod Ways
 pub mod Pushes
-pub mod FetchParts
-pub mod FetchRows
-pub mod Dispatch
+pub mod Fetches
 pub mod StackRows
+pub mod Meaning
+pub mod Common

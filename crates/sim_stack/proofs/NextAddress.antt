@@ -1,52 +1,69 @@
--- The address of the next byte is found, and GROM is set to it again.
-use Rattle.std.proofs.Common.{ℕ, ◌<◌, ◌∙◌, ◌≡◌, ap, arith, false, List, refl, subst}
-use Rattle.sim_rows.proofs.Common.{ReachesWithin, comes, comes_then, even, Exits, FETCHP, FETCHS, from, Goes, goes_in, grom_at, GromState, is_turn_end, just, located_at}
-use Rattle.sim_rows.proofs.Common.{lost, MachineState, next_in_grom, SEEK, set_is, Stands, View, view, where_found}
-use Rattle.sim_stack.specs.Stacks.{Located, Locates, SetAside, SetsAside}
-use Rattle.sim_rows.specs.sim_operands.Pieces as operands
-use Rattle.sim_rows.specs.Pieces as rows
-use Rattle.sim_stack.specs.Pieces as pieces
+-- The address of the next byte is found, and GROM is set to it again: on views alone.
+use Rattle.std.proofs.Common.{ℕ, ◌+◌, ◌<◌, ◌∙◌, ◌≡◌, ap, arith, List, refl, subst, sym}
+use Rattle.sim_rows.proofs.Common.{back_is, Exit, exit, FETCHP, FETCHS, grom_at, GromState, lost, next_in_grom, set_is}
+use Rattle.sim_rows.proofs.Common.{shifted, SLA, View, with_grom_address}
+use Rattle.sim_rows.proofs.StepStart.{one_at_most}
+use Rattle.sim_rows.proofs.sim_view.Routines.{Ends}
+use Rattle.sim_rows.specs.Pieces.{address_before, at_first}
+use Rattle.sim_rows.specs.sim_operands.Pieces.{one_if}
+use Rattle.sim_rows.specs.sim_view.Routines.{◌>>◌}
+use Rattle.sim_stack.specs.Rows.{locate_stacked, set_aside}
 
--- an address is within GROM where the counter behind it is
+-- an address is within GROM where the counter after it is
 pub next_fits : (at : ℕ) → next_in_grom at < 65536 → at < 65536
 next_fits at h = omega arith
 
 pub later_fits : (at : ℕ) → at < 65536 → next_in_grom at < 65536
 later_fits at h = omega arith
 
-pub linked : (x a : MachineState) (t u link : ℕ) → even link ≡ link → (view x).r.r11 ≡ link → Exits x a t u (rows.where_next (view x)) → Stands a link
-linked x a t u link is e h = subst (λ (p : ℕ). Stands a p) (ap even e ∙ is) h.stands
+-- WHERE and SEEK, whatever is made of the address and of GROM
+module _ (image : List ℕ) (at link : ℕ) (made : ℕ → GromState → View) (f : View → Exit) {b to : ℕ} {R : View → Type 0}
+    (fits : at < 65536) (next : Ends (f (made at (grom_at image at))) b to R) where
+  abbrev found : ℕ → GromState → Exit
+  found n grom = exit (7 + one_if (at_first (next_in_grom at)) + 2 + 3) link (made n grom)
 
--- WHERE
-found : (x a : MachineState) (t u link : ℕ) (image : List ℕ) (at : ℕ) → even link ≡ link → (view x).r.r11 ≡ link → Exits x a t u (rows.where_next (view x)) →
+  abbrev read : ℕ → Exit
+  read n = found n (with_grom_address n (lost image at))
+
+  pub found_first : Ends (read (address_before (next_in_grom at)) >> f) (13 + b) to R
+  found_first =
+      let is : read (address_before (next_in_grom at)) ≡ found at (grom_at image at) =
+      ap read (back_is at fits) ∙ ap (found at) (set_is (lost image at) at refl fits) in
+      subst (λ (e : Exit). Ends (e >> f) (13 + b) to R) (sym is) (λ bytes.
+      let g = next bytes in
+      let w = g.within in
+      let one = one_at_most (at_first (next_in_grom at)) in
+      record { within = omega arith; to_is = g.to_is; holds = g.holds })
+
+-- a view whose GROM is at an address
+abbrev pub with_grom : View → List ℕ → ℕ → View
+with_grom v image at = record v { grom = grom_at image at }
+
+-- the address is in register 14
+abbrev pub aside : View → List ℕ → ℕ → View
+aside v image at = record v {
+  r = record v.r { r4 = shifted SLA (next_in_grom at) 3; r6 = at; r11 = FETCHP; r14 = at };
+  grom = grom_at image at;
+}
+
+pub aside_first : (v : View) (image : List ℕ) (at : ℕ) (f : View → Exit) {b to : ℕ} {R : View → Type 0} → at < 65536 →
+    Ends (f (aside v image at)) b to R → Ends (set_aside (with_grom v image at) >> f) (13 + b) to R
+aside_first v image at f fits next =
+    let made : ℕ → GromState → View =
+    λ n g. record (aside v image at) { r = record (aside v image at).r { r6 = n; r14 = n }; grom = g } in
+    found_first image at FETCHP made f fits next
+
+-- the address is in register 9
+abbrev pub located : View → List ℕ → ℕ → View
+located v image at = record v {
+  r = record v.r { r4 = shifted SLA (next_in_grom at) 3; r6 = at; r9 = at; r11 = FETCHS };
+  grom = grom_at image at;
+}
+
+pub located_first : (v : View) (image : List ℕ) (at : ℕ) (f : View → Exit) {b to : ℕ} {R : View → Type 0} →
     at < 65536 →
-    (view x).grom ≡ grom_at image at → ReachesWithin 8 x a t u link (λ w. w ≡ located_at (view x) image at)
-found x a t u link image at is e h fits grom =
-    let g = where_found (view x) image at grom fits in comes h (record { within = g.within; to_is = g.to_is ∙ ap even e ∙ is; holds = g.holds })
-
-module _ {x a : MachineState} (b y : MachineState) {t t1 : ℕ} (t2 t3 link : ℕ) (is : even link ≡ link) (goes : is_turn_end link ≡ false)
-    (e : (view x).r.r11 ≡ link) (e1 : Exits x a t t1 (rows.where_next (view x))) where
-  pub locates : Exits a b t1 t2 (pieces.keep_stacked_next (view a)) → Exits b y t2 t3 (operands.seek (view b)) → Locates x y t t3
-  locates e2 e3 image at fits grom =
-      let v : View = view x in
-      let c1 = found x a t t1 link image at is e e1 fits grom in
-      let kept : View = (pieces.keep_stacked_next (located_at v image at)).left in
-      let made : GromState → View = λ g. record v { r = record v.r { r4 = kept.r.r4; r6 = at; r9 = at; r11 = FETCHS }; grom = g } in
-      let c2 : ReachesWithin 10 x b t t2 SEEK (λ w. w ≡ kept) =
-      comes_then 8 2 c1 e2 (from pieces.keep_stacked_next c1.holds (just (pieces.keep_stacked_next (located_at v image at)) 2 SEEK (omega arith) refl))
-      goes in
-      let after_seek : Goes (operands.seek kept) 3 FETCHS (Located v image at) = goes_in (omega arith)
-      (record { r4 = kept.r.r4; r6 = at; is = ap made (set_is (lost image at) at refl fits) }) in
-      comes_then 10 3 c2 e3 (from operands.seek c2.holds after_seek) refl
-
-  pub sets_aside : Exits a b t1 t2 (pieces.keep_back (view a)) → Exits b y t2 t3 (operands.seek (view b)) → SetsAside x y t t3
-  sets_aside e2 e3 image at fits grom =
-      let v : View = view x in
-      let c1 = found x a t t1 link image at is e e1 fits grom in
-      let kept : View = (pieces.keep_back (located_at v image at)).left in
-      let made : GromState → View = λ g. record v { r = record v.r { r4 = kept.r.r4; r6 = at; r11 = FETCHP; r14 = at }; grom = g } in
-      let c2 : ReachesWithin 10 x b t t2 SEEK (λ w. w ≡ kept) =
-      comes_then 8 2 c1 e2 (from pieces.keep_back c1.holds (just (pieces.keep_back (located_at v image at)) 2 SEEK (omega arith) refl)) goes in
-      let after_seek : Goes (operands.seek kept) 3 FETCHP (SetAside v image at) = goes_in (omega arith)
-      (record { r4 = kept.r.r4; r6 = at; is = ap made (set_is (lost image at) at refl fits) }) in
-      comes_then 10 3 c2 e3 (from operands.seek c2.holds after_seek) refl
+    Ends (f (located v image at)) b to R → Ends (locate_stacked (with_grom v image at) >> f) (13 + b) to R
+located_first v image at f fits next =
+    let made : ℕ → GromState → View =
+    λ n g. record (located v image at) { r = record (located v image at).r { r6 = n; r9 = n }; grom = g } in
+    found_first image at FETCHS made f fits next

@@ -11,7 +11,7 @@ use Rattle.sim_stack.specs.Family.{is_stack_row}
 use Rattle.sim_stack.proofs.Dispatch.{rows}
 use Rattle.sim_stack.proofs.Room.{OnlyStack, stack_alone}
 use Rattle.sim_stack.proofs.Pushes.{top_in}
-use Rattle.sim_stack.proofs.FetchRows.{top_in as return_top}
+use Rattle.sim_stack.proofs.Fetches.{top_in as return_top}
 use Rattle.sim_rows.proofs.Family as family
 
 -- ---- they have the form of bytes alone

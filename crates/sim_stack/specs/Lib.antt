@@ -1,3 +1,3 @@
 pub mod Pieces
 pub mod Family
-pub mod Stacks
+pub mod Rows

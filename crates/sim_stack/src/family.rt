@@ -1,8 +1,9 @@
 //! The instructions that use the stacks, from their dispatch to the end of the step.
 
-ghost use Rattle.std.specs.Prelude.{◌≡◌};
-ghost use Rattle.sim_rows.specs.Prelude.{AtDispatch, AtEntry, from_dispatch, state_at_dispatch, Turned, TurnsRow};
-ghost use Rattle.sim_rows.specs.Prelude.{view};
+ghost use Rattle.std.specs.Prelude.{◌≡◌, Some, true};
+ghost use Rattle.sim_rows.specs.Prelude.{AtDispatch, AtEntry, from_dispatch, One, row_entry, Stands};
+ghost use Rattle.sim_rows.specs.Prelude.{state_at_dispatch, Turned, TurnsRow, view};
+ghost use Rattle.sim_rows.specs.sim_operands.Routines.{CanStore};
 ghost use Rattle.sim_stack.specs.Family.{is_stack, is_stack_row};
 ghost use Rattle.sim_rows.specs.sim_view.Bounds.{most_of_stack_row};
 
@@ -15,15 +16,30 @@ use sim_rows::processor::{Machine, Steps};
 use sim_rows::{Reason, Turn, current_operation, start_row};
 use std::sync::ledger::Ledger;
 
-/// Runs FETCH or PUSH from its row to the end of the step.
+/// Runs the row of FETCH or PUSH to the end of the step.
+fn run_row_of_one<L: Ledger>(machine: &mut Machine, steps: &mut Steps<L>, name: OneName) -> Turn
+    requires stands { Stands machine.old (row_entry (Some (One name))) }
+    requires family { is_stack_row (Some (One name)) ≡ true }
+    requires byte { (view machine.old).r.r3 ≡ 1 }
+    requires visible { CanStore (view machine.old) }
+    ensures { TurnsRow (One name) most_of_stack_row machine.old machine.new steps.old steps.new result }
+{
+    match name {
+        OneName::FETCH => run_fetched(machine, steps),
+        OneName::PUSH => run_push(machine, steps),
+        _ => unreachable!(),
+    }
+}
+
+/// The same, by the operation that was found.
 fn run_row<L: Ledger>(machine: &mut Machine, steps: &mut Steps<L>, operation: GplOperation) -> Turn
     requires entry { AtEntry is_stack_row operation machine.old }
     requires byte { (view machine.old).r.r3 ≡ 1 }
     ensures { TurnsRow operation most_of_stack_row machine.old machine.new steps.old steps.new result }
 {
     match operation {
-        GplOperation::One(OneName::FETCH) => run_fetched(machine, steps),
-        _ => run_push(machine, steps),
+        GplOperation::One(name) => run_row_of_one(machine, steps, name),
+        _ => unreachable!(),
     }
 }
 

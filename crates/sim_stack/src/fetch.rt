@@ -1,20 +1,21 @@
 //! FETCH: the byte at the return address is stored, and that address goes on.
 
-ghost use Rattle.std.specs.Prelude.{◌<◌, ◌≡◌};
-ghost use Rattle.sim_rows.specs.Prelude.{IsFetched, IsVisible, One, PortsAreIdle, Stands, TurnsRow, view};
-ghost use Rattle.sim_stack.specs.Stacks.{EndsFetch, FetchesStacked, LoadsStacked, Locates, SetsAside};
-ghost use Rattle.sim_rows.specs.gpl_defs.declared.instruction.OneName.TheVariants as name;
+ghost use Rattle.std.specs.Prelude.{◌≡◌};
+ghost use Rattle.sim_rows.specs.Prelude.{Exits, IsVisible, Stands, view};
+ghost use Rattle.sim_rows.specs.sim_operands.Routines.{CanStore};
 ghost use Rattle.sim_rows.specs.native_interp.declared.addresses.TheConstants as address;
-ghost use Rattle.sim_rows.specs.sim_view.Bounds.{most_of_stack_row};
+ghost use Rattle.sim_stack.specs.Rows.{turn_at};
+ghost use Rattle.sim_stack.specs.Pieces as piece;
+ghost use Rattle.sim_stack.specs.Rows as row;
 
 use crate::pieces::{
     ask_byte, ask_stacked, keep_back, keep_byte, keep_place, keep_stacked_next, seek_stacked,
     store_fetched, store_stacked,
 };
-use sim_jumps::resume_row;
+use sim_jumps::resume_row_routine;
 use sim_rows::labels::{FETCH, GSTOP, WHERE};
 use sim_rows::processor::{Machine, Steps};
-use sim_rows::subroutines::{fetch_byte, run_load, run_store, seek_address};
+use sim_rows::subroutines::{fetch_byte, load_routine, seek_address, store_routine};
 use sim_rows::{Reason, Turn, where_next};
 use std::sync::ledger::Ledger;
 
@@ -22,7 +23,7 @@ use std::sync::ledger::Ledger;
 fn set_aside<L: Ledger>(machine: &mut Machine, steps: &mut Steps<L>)
     requires stands { Stands machine.old address.WHERE }
     requires link { (view machine.old).r.r11 ≡ address.FETCHN }
-    ensures { SetsAside machine.old machine.new steps.old steps.new }
+    ensures { Exits machine.old machine.new steps.old steps.new (row.set_aside (view machine.old)) }
 {
     where_next(machine, steps);
     keep_back(machine, steps);
@@ -32,20 +33,18 @@ fn set_aside<L: Ledger>(machine: &mut Machine, steps: &mut Steps<L>)
 /// Loads the address on the stack.
 fn load_stacked<L: Ledger>(machine: &mut Machine, steps: &mut Steps<L>)
     requires stands { Stands machine.old address.FETCHP }
-    requires idle { PortsAreIdle machine.old.cpu.memory }
     requires visible { IsVisible 0 (view machine.old).r.r2 2 }
-    ensures { LoadsStacked machine.old machine.new steps.old steps.new }
+    ensures { Exits machine.old machine.new steps.old steps.new (row.load_stacked (view machine.old)) }
 {
     ask_stacked(machine, steps);
-    run_load(machine, steps);
+    load_routine(machine, steps);
 }
 
 /// Reads the byte of GROM at that address.
 fn fetch_stacked<L: Ledger>(machine: &mut Machine, steps: &mut Steps<L>)
     requires { Stands machine.old address.FETCHA }
-    ensures { FetchesStacked machine.old machine.new steps.old steps.new }
+    ensures { Exits machine.old machine.new steps.old steps.new (row.fetch_stacked (view machine.old)) }
 {
-    machine.holds_bounds();
     seek_stacked(machine, steps);
     seek_address(machine, steps);
     ask_byte(machine, steps);
@@ -57,7 +56,7 @@ fn fetch_stacked<L: Ledger>(machine: &mut Machine, steps: &mut Steps<L>)
 fn locate_stacked<L: Ledger>(machine: &mut Machine, steps: &mut Steps<L>)
     requires stands { Stands machine.old address.WHERE }
     requires link { (view machine.old).r.r11 ≡ address.FETCHB }
-    ensures { Locates machine.old machine.new steps.old steps.new }
+    ensures { Exits machine.old machine.new steps.old steps.new (row.locate_stacked (view machine.old)) }
 {
     where_next(machine, steps);
     keep_stacked_next(machine, steps);
@@ -67,28 +66,24 @@ fn locate_stacked<L: Ledger>(machine: &mut Machine, steps: &mut Steps<L>)
 /// Stores the address and the byte, and goes on after the instruction.
 fn end_fetch<L: Ledger>(machine: &mut Machine, steps: &mut Steps<L>)
     requires stands { Stands machine.old address.FETCHS }
-    requires idle { PortsAreIdle machine.old.cpu.memory }
     requires stack { let r = (view machine.old).r in IsVisible 0 r.r7 r.r3 }
-    requires space { (view machine.old).r.r15 < 2 }
     requires visible { let r = (view machine.old).r in IsVisible r.r15 r.r10 1 }
-    ensures { EndsFetch machine.old machine.new steps.old steps.new }
+    ensures { Exits machine.old machine.new steps.old steps.new (row.end_fetch (view machine.old)) }
 {
     store_stacked(machine, steps);
-    run_store(machine, steps);
+    store_routine(machine, steps);
     store_fetched(machine, steps);
-    run_store(machine, steps);
-    resume_row(machine, steps);
+    store_routine(machine, steps);
+    resume_row_routine(machine, steps);
 }
 
 /// Runs FETCH from its row to the end of the step.
 pub fn run_fetched<L: Ledger>(machine: &mut Machine, steps: &mut Steps<L>) -> Turn
     requires stands { Stands machine.old address.FETCHV }
-    requires idle { PortsAreIdle machine.old.cpu.memory }
-    requires fetched { IsFetched machine.old.cpu.memory.grom }
-    requires space { (view machine.old).r.r8 < 2 }
     requires byte { (view machine.old).r.r3 ≡ 1 }
-    requires visible { let r = (view machine.old).r in IsVisible r.r8 r.r7 r.r3 }
-    ensures { TurnsRow (One name.FETCH) most_of_stack_row machine.old machine.new steps.old steps.new result }
+    requires visible { CanStore (view machine.old) }
+    ensures exits { Exits machine.old machine.new steps.old steps.new (row.fetched (view machine.old)) }
+    ensures turn { result ≡ turn_at (piece.keep_place (view machine.old)).to }
 {
     keep_place(machine, steps);
     if machine.pc() == GSTOP {

@@ -8,4 +8,5 @@ pub mod ViewRuns
 pub mod Bridge
 pub mod Parts
 pub mod Compose
+pub mod Routines
 pub mod Common

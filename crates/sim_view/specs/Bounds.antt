@@ -86,16 +86,6 @@ most_of_product_row = 67
 abbrev pub most_of_quotient_row : ℕ
 most_of_quotient_row = 91
 
--- DIV whose quotient fits, and from STORE to its end: of the quotient alone, and with the remainder
-abbrev pub most_of_division : ℕ
-most_of_division = 87
-
-abbrev pub most_to_end_division : ℕ
-most_to_end_division = 47
-
-abbrev pub most_to_end_quotient : ℕ
-most_to_end_quotient = 64
-
 abbrev pub most_of_exchange_row : ℕ
 most_of_exchange_row = 67
 
@@ -104,19 +94,6 @@ most_of_case_row = 25
 
 abbrev pub most_of_stack_row : ℕ
 most_of_stack_row = 131
-
--- FETCH: the address of the next byte is kept; the word on the stack is loaded; the byte is fetched; it is stored
-abbrev pub most_to_locate : ℕ
-most_to_locate = 13
-
-abbrev pub most_to_load_stacked : ℕ
-most_to_load_stacked = 19
-
-abbrev pub most_to_fetch_byte : ℕ
-most_to_fetch_byte = 10
-
-abbrev pub most_to_end_fetch : ℕ
-most_to_end_fetch = 69
 
 -- MOVE, from the dispatch to its copy or its stop
 abbrev pub most_to_copy : ℕ

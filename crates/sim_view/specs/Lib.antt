@@ -9,6 +9,7 @@ pub use Rattle.native_interp.specs as native_interp
 pub use Rattle.interp_defs.specs as interp_defs
 pub mod View
 pub mod Exits
+pub mod Routines
 pub mod Running
 pub mod Bounds
 pub mod Prelude

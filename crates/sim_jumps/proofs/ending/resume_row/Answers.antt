@@ -1,11 +1,9 @@
-use Rattle.sim_jumps.proofs.Jumps
+use Rattle.sim_rows.proofs.Common.{is_view}
+use Rattle.sim_rows.proofs.sim_view.Routines.{comes_by}
+use Rattle.sim_jumps.proofs.Jumps.{row_resumes}
 use Rattle.sim_jumps.proofs.ending.resume_row.Goals as goal
 
-pub end_row-requires-clause-stands : goal.end_row-requires-clause-stands
-end_row-requires-clause-stands g c = c.resume.ensures.stands
-
-pub end_row-requires-clause-idle : goal.end_row-requires-clause-idle
-end_row-requires-clause-idle g c = Jumps.idle_behind c.requires.stands c.resume.ensures c.requires.idle
-
 pub returns : goal.returns
-returns g c = Jumps.resumes c.requires.stands c.resume.ensures c.end_row.ensures
+returns g c = λ changes next shows to.
+    let seen = is_view c.args.machine.now c.requires.stands.machine in
+    comes_by c.resume_row_routine.ensures (row_resumes changes next _ shows to (seen.r 14))

@@ -1,19 +1,16 @@
-use Rattle.sim_muldiv.proofs.Products
+use Rattle.sim_muldiv.proofs.Common.{view, byte_product, CanStore, exit_then, finish_row, multiplied_bytes, refl, shown}
+use Rattle.sim_muldiv.proofs.Common.{word_visible}
 use Rattle.sim_muldiv.proofs.product.run_byte_product.Goals as goal
 
-pub finish_row-requires-clause-stands : goal.finish_row-requires-clause-stands
-finish_row-requires-clause-stands g c = Products.byte_stands c.requires.ready c.requires.byte c.multiply.ensures c.requires.stands
+pub finish_row_routine-requires-clause-stands : goal.finish_row_routine-requires-clause-stands
+finish_row_routine-requires-clause-stands g c = (multiplied_bytes c.requires.byte c.multiply.ensures).stands
 
-pub finish_row-requires-clause-idle : goal.finish_row-requires-clause-idle
-finish_row-requires-clause-idle g c = Products.byte_idle c.requires.ready c.requires.byte c.multiply.ensures c.requires.stands
-
-pub finish_row-requires-clause-space : goal.finish_row-requires-clause-space
-finish_row-requires-clause-space g c = Products.byte_space c.requires.ready c.requires.byte c.multiply.ensures c.requires.stands
-
-pub finish_row-requires-clause-visible : goal.finish_row-requires-clause-visible
-finish_row-requires-clause-visible g c = Products.byte_visible c.requires.ready c.requires.byte c.multiply.ensures c.requires.stands
+pub finish_row_routine-requires-clause-visible : goal.finish_row_routine-requires-clause-visible
+finish_row_routine-requires-clause-visible g c =
+    shown CanStore (multiplied_bytes c.requires.byte c.multiply.ensures)
+    (word_visible (view c.args.machine.now) c.requires.visible)
 
 pub returns : goal.returns
-returns g c =
-    Products.byte_runs c.requires.ready c.requires.byte c.multiply.ensures c.requires.stands c.finish_row.new.machine c.finish_row.new.steps
-    c.finish_row.ensures
+unfolding byte_product
+returns g c = exit_then finish_row
+    (multiplied_bytes c.requires.byte c.multiply.ensures) refl c.finish_row_routine.ensures

@@ -1,33 +1,27 @@
-use Rattle.sim_muldiv.proofs.Products
+use Rattle.sim_muldiv.proofs.Common.{view, CanStore, exit_then, finish_row, first_visible, multiplied_words}
+use Rattle.sim_muldiv.proofs.Common.{low_product, refl, second_visible, shown, store, word_product}
 use Rattle.sim_muldiv.proofs.product.run_word_product.Goals as goal
 
-pub run_store-requires-clause-stands : goal.run_store-requires-clause-stands
-run_store-requires-clause-stands g c = Products.store_stands c.requires.ready c.requires.word c.multiply.ensures
+pub store_routine-requires-clause-stands : goal.store_routine-requires-clause-stands
+store_routine-requires-clause-stands g c = (multiplied_words c.requires.word c.multiply.ensures).stands
 
-pub run_store-requires-clause-idle : goal.run_store-requires-clause-idle
-run_store-requires-clause-idle g c = Products.store_idle c.requires.ready c.requires.word c.multiply.ensures
-
-pub run_store-requires-clause-visible : goal.run_store-requires-clause-visible
-run_store-requires-clause-visible g c = Products.store_visible c.requires.ready c.requires.word c.multiply.ensures
+pub store_routine-requires-clause-visible : goal.store_routine-requires-clause-visible
+store_routine-requires-clause-visible g c =
+    shown CanStore (multiplied_words c.requires.word c.multiply.ensures)
+    (first_visible (view c.args.machine.now) c.requires.visible)
 
 pub low_product-requires : goal.low_product-requires
-low_product-requires g c = Products.low_stands c.requires.ready c.requires.word c.multiply.ensures c.run_store.ensures.value
+low_product-requires g c = (exit_then store
+    (multiplied_words c.requires.word c.multiply.ensures) refl c.store_routine.ensures).stands
 
-pub finish_row-requires-clause-stands : goal.finish_row-requires-clause-stands
-finish_row-requires-clause-stands g c =
-    Products.finish_stands c.requires.ready c.requires.word c.multiply.ensures c.run_store.ensures.value c.low_product.ensures
-
-pub finish_row-requires-clause-idle : goal.finish_row-requires-clause-idle
-finish_row-requires-clause-idle g c = Products.finish_idle c.requires.ready c.requires.word c.multiply.ensures c.run_store.ensures.value c.low_product.ensures
-
-pub finish_row-requires-clause-space : goal.finish_row-requires-clause-space
-finish_row-requires-clause-space g c = Products.finish_space c.requires.ready c.requires.word c.multiply.ensures c.run_store.ensures.value c.low_product.ensures
-
-pub finish_row-requires-clause-visible : goal.finish_row-requires-clause-visible
-finish_row-requires-clause-visible g c =
-    Products.finish_visible c.requires.ready c.requires.word c.multiply.ensures c.run_store.ensures.value c.low_product.ensures
+pub finish_row_routine-requires-clause-visible : goal.finish_row_routine-requires-clause-visible
+finish_row_routine-requires-clause-visible g c =
+    let stored = exit_then store (multiplied_words c.requires.word c.multiply.ensures) refl c.store_routine.ensures in
+    shown CanStore (exit_then low_product stored refl c.low_product.ensures)
+    (second_visible (view c.args.machine.now) c.requires.word c.requires.visible)
 
 pub returns : goal.returns
+unfolding word_product
 returns g c =
-    Products.word_runs c.requires.ready c.requires.word c.multiply.ensures c.run_store.ensures.value c.low_product.ensures c.finish_row.new.machine
-    c.finish_row.new.steps c.finish_row.ensures
+    let stored = exit_then store (multiplied_words c.requires.word c.multiply.ensures) refl c.store_routine.ensures in
+    exit_then finish_row (exit_then low_product stored refl c.low_product.ensures) refl c.finish_row_routine.ensures

@@ -1,16 +1,14 @@
-use Rattle.sim_muldiv.proofs.Quotients
+use Rattle.sim_muldiv.proofs.Common.{CanStore, clear_overflow, end_division, end_row, exit_then, refl, shown, store}
 use Rattle.sim_muldiv.proofs.quotient.end_division.Goals as goal
 
-pub run_store-requires-clause-idle : goal.run_store-requires-clause-idle
-run_store-requires-clause-idle g c = Quotients.last_idle c.requires.ready c.store_last.ensures
+pub store_routine-requires-clause-visible : goal.store_routine-requires-clause-visible
+store_routine-requires-clause-visible g c = shown CanStore c.store_last.ensures c.requires.visible
 
 pub clear_overflow-requires : goal.clear_overflow-requires
-clear_overflow-requires g c = Quotients.clear_stands c.requires.ready c.store_last.ensures c.run_store.ensures.value
-
-pub end_row-requires-clause-idle : goal.end_row-requires-clause-idle
-end_row-requires-clause-idle g c = Quotients.end_idle c.requires.ready c.store_last.ensures c.run_store.ensures.value c.clear_overflow.ensures
+clear_overflow-requires g c = (exit_then store c.store_last.ensures refl c.store_routine.ensures).stands
 
 pub returns : goal.returns
+unfolding end_division
 returns g c =
-    Quotients.ends_division c.requires.ready c.store_last.ensures c.run_store.ensures.value c.clear_overflow.ensures c.end_row.new.machine
-    c.end_row.new.steps c.end_row.ensures
+    let stored = exit_then store c.store_last.ensures refl c.store_routine.ensures in
+    exit_then end_row (exit_then clear_overflow stored refl c.clear_overflow.ensures) refl c.end_row_routine.ensures

@@ -1,19 +1,20 @@
-use Rattle.sim_muldiv.proofs.Quotients
+use Rattle.sim_muldiv.proofs.Common.{view, divide_words, exit_then, CanLoad, load, refl, second_visible, shown, View}
+use Rattle.sim_muldiv.proofs.Common.{◌<◌}
 use Rattle.sim_muldiv.proofs.quotient.load_and_divide.Goals as goal
 
-pub run_load-requires-clause-idle : goal.run_load-requires-clause-idle
-run_load-requires-clause-idle g c = Quotients.load_idle c.requires.ready c.requires.word c.load_low_word.ensures
-
-pub run_load-requires-clause-visible : goal.run_load-requires-clause-visible
-run_load-requires-clause-visible g c = Quotients.load_visible c.requires.ready c.requires.word c.load_low_word.ensures
+pub load_routine-requires-clause-visible : goal.load_routine-requires-clause-visible
+load_routine-requires-clause-visible g c =
+    shown CanLoad c.load_low_word.ensures
+    (second_visible (view c.args.machine.now) c.requires.word c.requires.visible)
 
 pub divide_words-requires-clause-stands : goal.divide_words-requires-clause-stands
-divide_words-requires-clause-stands g c = Quotients.divide_stands c.requires.ready c.requires.word c.load_low_word.ensures c.run_load.ensures.value
+divide_words-requires-clause-stands g c = (exit_then load c.load_low_word.ensures refl c.load_routine.ensures).stands
 
 pub divide_words-requires-clause-fits : goal.divide_words-requires-clause-fits
-divide_words-requires-clause-fits g c = Quotients.divide_fits c.requires.ready c.requires.word c.load_low_word.ensures c.run_load.ensures.value c.requires.fits
+divide_words-requires-clause-fits g c =
+    shown (λ (w : View). w.r.r9 < w.r.r12)
+    (exit_then load c.load_low_word.ensures refl c.load_routine.ensures) c.requires.fits
 
 pub returns : goal.returns
-returns g c =
-    Quotients.divides_there c.requires.ready c.requires.word c.load_low_word.ensures c.run_load.ensures.value c.divide_words.new.machine
-    c.divide_words.new.steps c.divide_words.ensures
+returns g c = exit_then divide_words
+    (exit_then load c.load_low_word.ensures refl c.load_routine.ensures) refl c.divide_words.ensures

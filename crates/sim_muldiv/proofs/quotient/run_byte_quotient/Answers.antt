@@ -1,10 +1,10 @@
-use Rattle.sim_muldiv.proofs.Quotients
+use Rattle.sim_muldiv.proofs.Common.{view, byte_quotient, CanStore, end_division, exit_then, refl, shown, word_visible}
 use Rattle.sim_muldiv.proofs.quotient.run_byte_quotient.Goals as goal
 
-pub end_division-requires-clause-ready : goal.end_division-requires-clause-ready
-end_division-requires-clause-ready g c = Quotients.byte_ends c.requires.ready c.requires.byte c.divide_bytes.ensures c.requires.stands
+pub end_division-requires-clause-visible : goal.end_division-requires-clause-visible
+end_division-requires-clause-visible g c =
+    shown CanStore c.divide_bytes.ensures (word_visible (view c.args.machine.now) c.requires.visible)
 
 pub returns : goal.returns
-returns g c =
-    Quotients.byte_divides_row c.requires.ready c.requires.byte c.divide_bytes.ensures c.requires.stands c.end_division.new.machine c.end_division.new.steps
-    c.end_division.ensures
+unfolding byte_quotient
+returns g c = exit_then end_division c.divide_bytes.ensures refl c.end_division.ensures

@@ -1,18 +1,25 @@
-use Rattle.sim_stack.proofs.FetchParts
+use Rattle.sim_stack.proofs.Common.{CanStore, end_fetch, exit_then, refl, resume_row, shown, store}
+use Rattle.sim_stack.specs.Pieces as piece
 use Rattle.sim_stack.proofs.fetch.end_fetch.Goals as goal
 
-pub run_store-requires-clause-idle : goal.run_store-requires-clause-idle
-run_store-requires-clause-idle g c = FetchParts.idle_first c.store_stacked.ensures c.requires.idle
+pub store_routine-requires-clause-visible : goal.store_routine-requires-clause-visible
+store_routine-requires-clause-visible g c = shown CanStore c.store_stacked.ensures c.requires.stack
 
-pub run_store-requires-2-clause-idle : goal.run_store-requires-2-clause-idle
-run_store-requires-2-clause-idle g c = FetchParts.idle_second c.store_stacked.ensures c.run_store.ensures.value c.store_fetched.ensures c.requires.idle
+pub store_fetched-requires : goal.store_fetched-requires
+store_fetched-requires g c = (exit_then store c.store_stacked.ensures refl c.store_routine.ensures).stands
 
-pub resume_row-requires-clause-idle : goal.resume_row-requires-clause-idle
-resume_row-requires-clause-idle g c =
-    FetchParts.idle_last c.store_stacked.ensures c.run_store.ensures.value c.store_fetched.ensures
-    c.requires.space c.run_store-2.ensures.value c.requires.idle
+pub store_routine-requires-2-clause-visible : goal.store_routine-requires-2-clause-visible
+store_routine-requires-2-clause-visible g c =
+    let word = exit_then store c.store_stacked.ensures refl c.store_routine.ensures in
+    shown CanStore (exit_then piece.store_fetched word refl c.store_fetched.ensures) c.requires.visible
+
+pub resume_row_routine-requires : goal.resume_row_routine-requires
+resume_row_routine-requires g c = (exit_then store c.store_fetched.ensures refl c.store_routine-2.ensures).stands
 
 pub returns : goal.returns
+unfolding end_fetch
 returns g c =
-    FetchParts.ends c.store_stacked.ensures c.run_store.ensures.value c.store_fetched.ensures c.requires.space c.run_store-2.ensures.value _ _
-    c.resume_row.ensures
+    let word = exit_then store c.store_stacked.ensures refl c.store_routine.ensures in
+    let both = exit_then store (exit_then piece.store_fetched word refl c.store_fetched.ensures) refl
+    c.store_routine-2.ensures in
+    exit_then resume_row both refl c.resume_row_routine.ensures

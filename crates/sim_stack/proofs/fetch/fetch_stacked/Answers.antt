@@ -1,8 +1,11 @@
-use Rattle.sim_stack.proofs.FetchParts
+use Rattle.sim_stack.proofs.Common.{exit_then, refl}
+use Rattle.sim_rows.specs.sim_operands.Pieces as subroutine
+use Rattle.sim_stack.specs.Pieces as piece
 use Rattle.sim_stack.proofs.fetch.fetch_stacked.Goals as goal
 
 pub returns : goal.returns
 returns g c =
-    FetchParts.fetches c.args.machine.now c.seek_stacked.new.machine c.seek_address.new.machine c.ask_byte.new.machine c.fetch_byte.new.machine
-    c.keep_byte.new.machine c.args.steps.now c.seek_stacked.new.steps c.seek_address.new.steps c.ask_byte.new.steps c.fetch_byte.new.steps c.keep_byte.new.steps
-    c.requires c.seek_stacked.ensures c.seek_address.ensures c.ask_byte.ensures c.fetch_byte.ensures c.keep_byte.ensures
+    let sought = exit_then subroutine.seek c.seek_stacked.ensures refl c.seek_address.ensures in
+    let asked = exit_then piece.ask_byte sought refl c.ask_byte.ensures in
+    let read = exit_then subroutine.fetch asked refl c.fetch_byte.ensures in
+    exit_then piece.keep_byte read refl c.keep_byte.ensures

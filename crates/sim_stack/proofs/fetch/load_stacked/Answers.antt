@@ -1,8 +1,8 @@
-use Rattle.sim_stack.proofs.FetchParts
+use Rattle.sim_stack.proofs.Common.{CanLoad, exit_then, load, refl, shown}
 use Rattle.sim_stack.proofs.fetch.load_stacked.Goals as goal
 
-pub run_load-requires-clause-idle : goal.run_load-requires-clause-idle
-run_load-requires-clause-idle g c = FetchParts.idle_loading c.ask_stacked.ensures c.requires.idle
+pub load_routine-requires-clause-visible : goal.load_routine-requires-clause-visible
+load_routine-requires-clause-visible g c = shown CanLoad c.ask_stacked.ensures c.requires.visible
 
 pub returns : goal.returns
-returns g c = FetchParts.loads c.ask_stacked.ensures _ _ c.requires.visible c.run_load.ensures.value
+returns g c = exit_then load c.ask_stacked.ensures refl c.load_routine.ensures

@@ -1,9 +1,10 @@
-use Rattle.std.proofs.Common.{refl}
-use Rattle.sim_rows.proofs.Common.{FETCHB}
-use Rattle.sim_stack.proofs.NextAddress
+use Rattle.sim_stack.proofs.Common.{ap, even, exit_then, is_turn_end, refl, ℕ}
+use Rattle.sim_rows.specs.sim_operands.Pieces as subroutine
+use Rattle.sim_stack.specs.Pieces as piece
 use Rattle.sim_stack.proofs.fetch.locate_stacked.Goals as goal
 
 pub returns : goal.returns
 returns g c =
-    NextAddress.locates c.keep_stacked_next.new.machine c.seek_address.new.machine c.keep_stacked_next.new.steps c.seek_address.new.steps FETCHB refl refl
-    c.requires.link c.where_next.ensures c.keep_stacked_next.ensures c.seek_address.ensures
+    let kept = exit_then piece.keep_stacked_next c.where_next.ensures (ap (λ (n : ℕ). is_turn_end (even n)) c.requires.link)
+    c.keep_stacked_next.ensures in
+    exit_then subroutine.seek kept refl c.seek_address.ensures

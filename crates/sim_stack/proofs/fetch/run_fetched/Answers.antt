@@ -1,82 +1,79 @@
-use Rattle.std.proofs.Common.{◌≡◌, arith}
-use Rattle.sim_rows.proofs.Common.{grom_at, GSTOP, next_at, on, ready, view}
-use Rattle.sim_stack.proofs.fetch.run_fetched.Given.{Over}
-use Rattle.sim_stack.proofs.fetch.run_fetched.Goals.{After-set_aside}
-use Rattle.sim_stack.proofs.FetchRows
+use Rattle.sim_stack.proofs.Common.{ap, arith, at_most, end_fetch, exit_then, exits_by, fetch_on, fetch_stacked}
+use Rattle.sim_stack.proofs.Common.{fetched, IsVisible, load_stacked, locate_stacked, off, on, place_barred}
+use Rattle.sim_stack.proofs.Common.{place_kept, refl, set_aside, shown, subst, View, view, ℕ}
 use Rattle.sim_stack.proofs.fetch.run_fetched.Goals as goal
 
--- What is known once the next address is set aside: the stack is not full, and where GROM goes on.
-module _ (g : Over) (c : After-set_aside g) where
-  elsewhere : c.keep_place.new.machine.cpu.pc ≡ GSTOP → ⊥
-  elsewhere here = let p = c.pc.ensures.value in let r = c.if-pc-eq-GSTOP.false in absurd (omega arith)
+pub returns-then-pc-eq-GSTOP-clause-exits : goal.returns-then-pc-eq-GSTOP-clause-exits
+unfolding fetched
+returns-then-pc-eq-GSTOP-clause-exits g c =
+    let barred = place_barred (on c.pc.ensures.value c.if-pc-eq-GSTOP.true) c.keep_place.ensures in
+    exits_by (rw barred.0 refl) barred.1
 
-  grom : (view c.args.machine.now).grom ≡ grom_at (view c.args.machine.now).grom.image (next_at (view c.args.machine.now))
-  grom = ready c.args.machine.now.cpu.memory c.requires.idle c.requires.fetched
+pub returns-then-pc-eq-GSTOP-clause-turn : goal.returns-then-pc-eq-GSTOP-clause-turn
+returns-then-pc-eq-GSTOP-clause-turn g c =
+    let barred = place_barred (on c.pc.ensures.value c.if-pc-eq-GSTOP.true) c.keep_place.ensures in
+    rw barred.0 refl
 
-pub returns-then-pc-eq-GSTOP : goal.returns-then-pc-eq-GSTOP
-returns-then-pc-eq-GSTOP g c = FetchRows.stopped c.requires.stands c.keep_place.ensures (on c.pc.ensures.value c.if-pc-eq-GSTOP.true)
+pub set_aside-requires-clause-stands : goal.set_aside-requires-clause-stands
+set_aside-requires-clause-stands g c =
+    (place_kept (off c.pc.ensures.value c.if-pc-eq-GSTOP.false) c.keep_place.ensures).1.stands
+
+pub set_aside-requires-clause-link : goal.set_aside-requires-clause-link
+set_aside-requires-clause-link g c =
+    ap (λ (w : View). w.r.r11) (place_kept (off c.pc.ensures.value c.if-pc-eq-GSTOP.false) c.keep_place.ensures).1.shows
 
 pub load_stacked-requires-clause-stands : goal.load_stacked-requires-clause-stands
-load_stacked-requires-clause-stands g c =
-    let at = (goal.at.load_stacked-requires-clause-stands g c).After-set_aside in
-    FetchRows.stands_loading c.requires.stands c.keep_place.ensures (elsewhere g at) _ _ (grom g at) c.set_aside.ensures
-
-pub load_stacked-requires-clause-idle : goal.load_stacked-requires-clause-idle
-load_stacked-requires-clause-idle g c =
-    let at = (goal.at.load_stacked-requires-clause-idle g c).After-set_aside in
-    FetchRows.idle_loading c.requires.stands c.keep_place.ensures (elsewhere g at) _ _ (grom g at) c.set_aside.ensures c.requires.idle
+load_stacked-requires-clause-stands g c = c.set_aside.ensures.stands
 
 pub load_stacked-requires-clause-visible : goal.load_stacked-requires-clause-visible
 load_stacked-requires-clause-visible g c =
-    let at = (goal.at.load_stacked-requires-clause-visible g c).After-set_aside in
-    FetchRows.visible_loading c.requires.stands c.keep_place.ensures (elsewhere g at) _ _ (grom g at) c.set_aside.ensures
+    let kept = place_kept (off c.pc.ensures.value c.if-pc-eq-GSTOP.false) c.keep_place.ensures in
+    let near = at_most 0xC0 _ kept.0 in
+    shown (λ (w : View). IsVisible 0 w.r.r2 2) (exit_then set_aside kept.1 refl c.set_aside.ensures)
+    (λ z. omega arith)
+
+pub fetch_stacked-requires : goal.fetch_stacked-requires
+fetch_stacked-requires g c = c.load_stacked.ensures.stands
 
 pub locate_stacked-requires-clause-stands : goal.locate_stacked-requires-clause-stands
-locate_stacked-requires-clause-stands g c =
-    let at = (goal.at.locate_stacked-requires-clause-stands g c).After-set_aside in
-    FetchRows.stands_locating c.requires.stands c.keep_place.ensures (elsewhere g at) _ _ (grom g at) c.set_aside.ensures c.load_stacked.ensures
-    c.fetch_stacked.ensures
+locate_stacked-requires-clause-stands g c = c.fetch_stacked.ensures.stands
 
 pub locate_stacked-requires-clause-link : goal.locate_stacked-requires-clause-link
-locate_stacked-requires-clause-link g c =
-    let at = (goal.at.locate_stacked-requires-clause-link g c).After-set_aside in
-    FetchRows.link_locating c.requires.stands c.keep_place.ensures (elsewhere g at) _ _ (grom g at) c.set_aside.ensures c.load_stacked.ensures
-    c.fetch_stacked.ensures
+locate_stacked-requires-clause-link g c = ap (λ (w : View). w.r.r11) c.fetch_stacked.ensures.shows
 
 pub end_fetch-requires-clause-stands : goal.end_fetch-requires-clause-stands
-end_fetch-requires-clause-stands g c =
-    let at = (goal.at.end_fetch-requires-clause-stands g c).After-set_aside in
-    FetchRows.stands_storing c.requires.stands c.keep_place.ensures (elsewhere g at) _ _ (grom g at) c.set_aside.ensures c.load_stacked.ensures
-    c.fetch_stacked.ensures c.locate_stacked.ensures
-
-pub end_fetch-requires-clause-idle : goal.end_fetch-requires-clause-idle
-end_fetch-requires-clause-idle g c =
-    let at = (goal.at.end_fetch-requires-clause-idle g c).After-set_aside in
-    FetchRows.idle_storing c.requires.stands c.keep_place.ensures (elsewhere g at) _ _ (grom g at) c.set_aside.ensures c.load_stacked.ensures
-    c.fetch_stacked.ensures c.locate_stacked.ensures c.requires.idle
+end_fetch-requires-clause-stands g c = c.locate_stacked.ensures.stands
 
 pub end_fetch-requires-clause-stack : goal.end_fetch-requires-clause-stack
 end_fetch-requires-clause-stack g c =
-    let at = (goal.at.end_fetch-requires-clause-stack g c).After-set_aside in
-    FetchRows.stack_storing c.requires.stands c.keep_place.ensures (elsewhere g at) _ _ (grom g at) c.set_aside.ensures c.load_stacked.ensures
-    c.fetch_stacked.ensures c.locate_stacked.ensures
-
-pub end_fetch-requires-clause-space : goal.end_fetch-requires-clause-space
-end_fetch-requires-clause-space g c =
-    let at = (goal.at.end_fetch-requires-clause-space g c).After-set_aside in
-    FetchRows.space_storing c.requires.stands c.keep_place.ensures (elsewhere g at) _ _ (grom g at) c.set_aside.ensures c.load_stacked.ensures
-    c.fetch_stacked.ensures c.locate_stacked.ensures c.requires.space
+    let kept = place_kept (off c.pc.ensures.value c.if-pc-eq-GSTOP.false) c.keep_place.ensures in
+    let near = at_most 0xC0 _ kept.0 in
+    let set = exit_then set_aside kept.1 refl c.set_aside.ensures in
+    let word = exit_then load_stacked set refl c.load_stacked.ensures in
+    let byte = exit_then fetch_stacked word refl c.fetch_stacked.ensures in
+    shown (λ (w : View). IsVisible 0 w.r.r7 w.r.r3) (exit_then locate_stacked byte refl c.locate_stacked.ensures)
+    (λ z. omega arith)
 
 pub end_fetch-requires-clause-visible : goal.end_fetch-requires-clause-visible
 end_fetch-requires-clause-visible g c =
-    let at = (goal.at.end_fetch-requires-clause-visible g c).After-set_aside in
-    FetchRows.visible_storing c.requires.stands c.keep_place.ensures (elsewhere g at) _ _ (grom g at) c.set_aside.ensures c.load_stacked.ensures
-    c.fetch_stacked.ensures c.locate_stacked.ensures c.requires.byte c.requires.visible
+    let kept = place_kept (off c.pc.ensures.value c.if-pc-eq-GSTOP.false) c.keep_place.ensures in
+    let set = exit_then set_aside kept.1 refl c.set_aside.ensures in
+    let word = exit_then load_stacked set refl c.load_stacked.ensures in
+    let byte = exit_then fetch_stacked word refl c.fetch_stacked.ensures in
+    let v = view c.args.machine.now in
+    shown (λ (w : View). IsVisible w.r.r15 w.r.r10 1) (exit_then locate_stacked byte refl c.locate_stacked.ensures)
+    (subst (λ (n : ℕ). IsVisible v.r.r8 v.r.r7 n) c.requires.byte c.requires.visible)
 
-pub returns : goal.returns
-returns g c =
-    let at = (goal.at.returns g c).After-set_aside in
-    FetchRows.reads c.requires.stands c.keep_place.ensures (elsewhere g at)
-    c.set_aside.new.machine c.load_stacked.new.machine c.fetch_stacked.new.machine c.locate_stacked.new.machine c.end_fetch.new.machine
-    c.set_aside.new.steps c.load_stacked.new.steps c.fetch_stacked.new.steps c.locate_stacked.new.steps c.end_fetch.new.steps
-    c.set_aside.ensures c.load_stacked.ensures c.fetch_stacked.ensures c.locate_stacked.ensures c.end_fetch.ensures
+pub returns-clause-exits : goal.returns-clause-exits
+unfolding fetched fetch_on
+returns-clause-exits g c =
+    let kept = place_kept (off c.pc.ensures.value c.if-pc-eq-GSTOP.false) c.keep_place.ensures in
+    let word = exit_then load_stacked c.set_aside.ensures refl c.load_stacked.ensures in
+    let byte = exit_then fetch_stacked word refl c.fetch_stacked.ensures in
+    let located = exit_then locate_stacked byte refl c.locate_stacked.ensures in
+    exits_by (rw kept.0 refl) (exit_then fetch_on kept.1 refl (exit_then end_fetch located refl c.end_fetch.ensures))
+
+pub returns-clause-turn : goal.returns-clause-turn
+returns-clause-turn g c =
+    let kept = place_kept (off c.pc.ensures.value c.if-pc-eq-GSTOP.false) c.keep_place.ensures in
+    rw kept.0 refl

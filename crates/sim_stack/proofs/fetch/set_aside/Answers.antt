@@ -1,9 +1,10 @@
-use Rattle.std.proofs.Common.{refl}
-use Rattle.sim_rows.proofs.Common.{FETCHN}
-use Rattle.sim_stack.proofs.NextAddress
+use Rattle.sim_stack.proofs.Common.{ap, even, exit_then, is_turn_end, refl, ℕ}
+use Rattle.sim_rows.specs.sim_operands.Pieces as subroutine
+use Rattle.sim_stack.specs.Pieces as piece
 use Rattle.sim_stack.proofs.fetch.set_aside.Goals as goal
 
 pub returns : goal.returns
 returns g c =
-    NextAddress.sets_aside c.keep_back.new.machine c.seek_address.new.machine c.keep_back.new.steps c.seek_address.new.steps FETCHN refl refl c.requires.link
-    c.where_next.ensures c.keep_back.ensures c.seek_address.ensures
+    let kept = exit_then piece.keep_back c.where_next.ensures (ap (λ (n : ℕ). is_turn_end (even n)) c.requires.link)
+    c.keep_back.ensures in
+    exit_then subroutine.seek kept refl c.seek_address.ensures
