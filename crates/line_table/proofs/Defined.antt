@@ -1,6 +1,7 @@
 -- The rows of names are the names that the lines of the source define.
 use Rattle.std.proofs.Common.{◌≡◌, ℕ, ◌+◌, ◌<◌, length, arith, true, List, [], ◌∷◌, ◌++◌, append_assoc, Ok, refl, sym}
 use Rattle.std.proofs.Common.{ap, subst, ◌∙◌}
+use Rattle.std.proofs.lemmas.List.{length-map}
 use Rattle.std.specs.Prelude.{map, slice_index_or}
 use Rattle.std.specs.List.{list_all}
 use Rattle.source_defs.specs.Names.{is_kept_name}
@@ -19,7 +20,7 @@ use Rattle.line_table.specs.Rows.{names_of_lines, NamesAreDefined, named, no_nam
 use Rattle.line_table.specs.declared.line_row.NameRow.{NameRow}
 use Rattle.line_table.proofs.Places.{index_map, tested}
 use Rattle.line_table.proofs.Known.{last, ending, front_texts, front_lines, are_known, lines_are}
-use Rattle.line_laws.proofs.Small.{both, append_none, map_length}
+use Rattle.line_laws.proofs.Small.{both, append_none}
 
 own_names : (line : KnownLine) (number : ℕ) → is_plain line ≡ true → (line_of number line.found).names ≡ names_in line
 own_names line number plain =
@@ -64,7 +65,7 @@ all_kept = refl
 module _ {A : Type 0} (items : List A) (text : A → List ℕ) (value : A → ℕ) (d : A) (are : map (λ item. (text item, Absolute (value item))) items ≡ defined) (index : ℕ) (lt : index < length defined) where
   pub named_at : (text (slice_index_or items index d), Absolute (value (slice_index_or items index d))) ≡ slice_index_or defined index no_name
   named_at =
-      let size : length items ≡ length defined = sym (map_length (λ item. (text item, Absolute (value item))) items) ∙ ap length are in
+      let size : length items ≡ length defined = sym (length-map items (λ item. (text item, Absolute (value item)))) ∙ ap length are in
       sym (index_map (λ item. (text item, Absolute (value item))) items index d no_name (omega (arith, lt, size))) ∙ ap (λ names. slice_index_or names index no_name) are
 
   pub kept_at : is_kept_name (text (slice_index_or items index d)) ≡ true

@@ -1,6 +1,7 @@
 -- Each row is that of its line.
 use Rattle.std.proofs.Common.{◌≡◌, ℕ, zero, suc, ◌-◌, ◌/◌, ◌<◌, Bool, true, false, ◌&&◌, List, [], ◌∷◌, ◌++◌, length}
 use Rattle.std.proofs.Common.{Some, None, refl, sym, ap, subst, ◌∙◌, arith}
+use Rattle.std.proofs.lemmas.List.{length-map}
 use Rattle.std.specs.Prelude.{Option, is_some, nat_eq, map, take, drop, slice_index_or}
 use Rattle.std.specs.Option.{unwrap_or}
 use Rattle.std.specs.List.{list_all}
@@ -29,7 +30,7 @@ use Rattle.line_table.proofs.RowLines.{Shown, shown, row_shown}
 use Rattle.line_table.proofs.Counts.{line_count, most}
 use Rattle.line_table.proofs.Known.{last, ending, front_texts, front_lines, are_known, lines_are}
 use Rattle.line_table.proofs.Chain.{to_last}
-use Rattle.line_laws.proofs.Small.{append_map, map_length}
+use Rattle.line_laws.proofs.Small.{append_map}
 
 some_words : (come : Outcome) (found : List ℕ) → known.outcome_words come ≡ Some found → Places come found
 some_words Nothing found e = let same : ◌≡◌ {A = List ℕ} [] found = cc e in sym same
@@ -142,7 +143,7 @@ lines_counted : length lines ≡ line_count
 lines_counted = refl
 
 all_counted : length all_lines ≡ line_count
-all_counted = sym (map_length shown all_lines) ∙ (ap length all_shown ∙ (map_length row_shown rows ∙ rows_counted))
+all_counted = sym (length-map all_lines shown) ∙ (ap length all_shown ∙ (length-map rows row_shown ∙ rows_counted))
 
 -- a row of a table, whose line stands among lines
 module _ (some : List KnownLine) (table : List LineRow) (held : List ℕ) (texts : List (List ℕ)) (index : ℕ) (same : map shown some ≡ map row_shown table) (inside : index < length some) (there : index < length table) where
@@ -183,7 +184,7 @@ pub row_found : (index : ℕ) (row : LineRow) (found : Row) (a b c d : List Row)
     → found ≡ slice_index_or (a ++ (b ++ (c ++ d))) index nothing → row ≡ as_row found → index < length lines → IsRow index row
 row_found index row found a b c d one two three four is made lt =
     let same : a ++ (b ++ (c ++ d)) ≡ table = λ i. one i ++ (two i ++ (three i ++ four i)) in
-    let counted : length table ≡ line_count = sym (map_length as_row table) ∙ rows_counted in
+    let counted : length table ≡ line_count = sym (length-map table as_row) ∙ rows_counted in
     let there : slice_index_or rows index no_row ≡ as_row (slice_index_or table index nothing) =
     index_map as_row table index nothing no_row (omega (arith, lt, lines_counted, counted)) in
     let here : row ≡ slice_index_or rows index no_row = made ∙ (ap as_row (is ∙ ap (λ table. slice_index_or table index nothing) same) ∙ sym there) in

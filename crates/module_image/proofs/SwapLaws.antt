@@ -111,8 +111,8 @@ each_free f from zero p free ge lt = absurd (omega (arith, ge, lt))
 each_free f from (suc n) p free ge lt =
     let parts = or_parts (f from) (any_from f (from + 1) n) free in
     elim (cases_lt from p) [
-      inl less ↦ each_free f (from + 1) n p parts.1 (omega arith) (omega arith)
-    | inr most ↦ let same : from ≡ p = omega arith in ap f (sym same) ∙ parts.0
+      | inl less ↦ each_free f (from + 1) n p parts.1 (omega arith) (omega arith)
+      | inr most ↦ let same : from ≡ p = omega arith in ap f (sym same) ∙ parts.0
     ]
 
 module _ (references : List Reference) (done : List AssembledLine) (held line : AssembledLine) (fills : FillsPlace held line) where

@@ -7,3 +7,4 @@ pub mod EnteredWords
 pub mod Fronts
 pub mod ListedFiles
 pub mod Ranges
+mod UsageRows

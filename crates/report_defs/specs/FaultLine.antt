@@ -1,27 +1,16 @@
 -- The lines that standard error gets.
 --
 -- Profile: a fault line is a text and a line feed.
-use Rattle.std.specs.Prelude.{ℕ, List, [], ◌∷◌, ◌++◌, codes}
-use Rattle.std.specs.List.{flat_map}
+use Rattle.std.specs.Prelude.{ℕ, List, ◌++◌, codes}
 use Rattle.std.specs.Fmt.{decimal}
-use Rattle.report_defs.specs.declared.command.CommandName.{CommandName}
-use Rattle.report_defs.specs.declared.command.CommandName.TheVariants.{Link, Watch}
-use Rattle.report_defs.specs.CommandTables.{CommandRow, usage_of}
-use Rattle.report_defs.specs.Commands.{commands}
 use Rattle.report_defs.specs.declared.status.Status.{Status}
 use Rattle.report_defs.specs.declared.status.Status.TheVariants as status
 use Rattle.report_defs.specs.declared.fault.Fault.{Fault}
 use Rattle.report_defs.specs.declared.fault.Fault.TheVariants.{Usage, TooLarge, PastEnd, NoEntry}
 
--- what the usage line of `bench` shows of a command
-abbrev pub shown_of_input : CommandRow CommandName → List (List ℕ)
-shown_of_input (word, rest, Link) = word ∷ []
-shown_of_input (word, rest, Watch) = []
-shown_of_input (word, rest, name) = (word ++ rest) ∷ []
-
 -- Profile: words that are no command of `bench` are answered by how it is called, which names no files and no `watch`.
 unfoldable pub usage_line : List ℕ
-usage_line = usage_of (codes "ti_bench") (flat_map shown_of_input commands)
+usage_line = codes "usage: ti_bench asm|link|dis ADDR|exec N|gasm|gdis ADDR|interp|run N|trace N|demo K\n"
 
 -- a refused line, by its number from 1 and what is said of it
 unfoldable pub refusal_line : ℕ → List ℕ → List ℕ
