@@ -1,5 +1,5 @@
-//! Runs of the commands of `ti_bench` over sources, shelves and sinks in memory, most of which fail at a call that a test
-//! names. Other runs are in `tests/rows`. The crate holds tests alone, so that the crates below it are proved once.
+//! Runs of the commands of `ti_bench` over sources, shelves and sinks in memory, most of which fail at a call that a
+//! test names. Other runs are in `tests/rows`. The crate holds tests alone, so that the crates below it are proved once.
 #![tactic(auto)]
 
 #[cfg(test)]

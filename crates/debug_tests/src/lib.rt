@@ -1,5 +1,5 @@
-//! Runs of the commands of `ti_debug` over an input, a shelf and sinks in memory, in which a call fails. Other runs are in
-//! `tests/rows`. The crate holds tests alone, so that the crates below it are proved once.
+//! Runs of the commands of `ti_debug` over an input, a shelf and sinks in memory, in which a call fails. Other runs are
+//! in `tests/rows`. The crate holds tests alone, so that the crates below it are proved once.
 #![tactic(auto)]
 
 #[cfg(test)]

@@ -46,7 +46,8 @@ pub record Tells (lines : List Line) (line : Line) (told : TakenLine) : Type 0 w
 -- a line was taken after others, or why it is refused there
 abbrev pub Takes : List Line → List ℕ → Result TakenLine GplError → GplLines → Type 0
 Takes lines text (Ok told) builder =
-    (line : Line) × (check lines (length lines + 1) text ≡ Ok line) × IsBehind (line ∷ lines) builder × Tells lines line told
+    (line : Line) × (check lines (length lines + 1) text ≡ Ok line)
+    × IsBehind (line ∷ lines) builder × Tells lines line told
 Takes lines text (Err (error.At number cause)) builder =
     (number ≡ length lines + 1) × (check lines (length lines + 1) text ≡ Err cause) × NoMemory cause
     × IsBehind lines builder

@@ -47,7 +47,8 @@ OneMore number at address text before after =
     (row : Row) × (after ≡ before ++ row ∷ []) × IsTaken number at address text row
 
 -- the row of a line after others, with what it says by later names too
-pub record RowOf (texts : List (ℕ × List ℕ)) (later : Names) (before : List Line) (line : Line) (row : Row) : Type 0 where
+pub record RowOf (texts : List (ℕ × List ℕ)) (later : Names) (before : List Line) (line : Line) (row : Row)
+    : Type 0 where
   pub numbered : line.number ≡ length before + 1
   pub number : row.number ≡ line.number
   pub at : row.at ≡ place before line

@@ -28,7 +28,8 @@ ComesTo known at text result =
 
 -- a line was assembled after others, and its bytes were placed
 abbrev pub AssembledAs
-    : {A : Type 0} → (A → List ℕ) → Names → Location → Statement → List AssembledLine → Result A Failure → Image → Type 0
+    : {A : Type 0} → (A → List ℕ) → Names → Location → Statement → List AssembledLine → Result A Failure → Image
+    → Type 0
 AssembledAs bytes known at statement earlier (Ok value) left =
     (found : AssembledLine) × (assembled_at known at statement earlier ≡ Ok found) × (left ≡ image (found ∷ earlier))
     × (bytes value ≡ spec.placed_bytes known at statement)

@@ -1,5 +1,5 @@
-//! Cases of bytes of GPL, their listings, GPL sources and images, worked out by hand. The crate holds tests alone, so that
-//! the crates below it are proved once.
+//! Cases of bytes of GPL, their listings, GPL sources and images, worked out by hand. The crate holds tests alone, so
+//! that the crates below it are proved once.
 #![tactic(auto)]
 
 #[cfg(test)]

@@ -1,6 +1,7 @@
 -- The ends of these rows.
 use Rattle.std.specs.Prelude.{ℕ, ◌≡◌}
-use Rattle.sim_rows.specs.Prelude.{Changes, ReachesWithin, GSTEP, join, MachineState, Place, SeesFinished, Storing, view}
+use Rattle.sim_rows.specs.Prelude.{Changes, ReachesWithin, GSTEP, join, MachineState, Place, SeesFinished, Storing}
+use Rattle.sim_rows.specs.Prelude.{view}
 use Rattle.sim_rows.specs.Prelude.{Width, with_status, with_value}
 use Rattle.sim_rows.specs.sim_view.Bounds.{most_of_status}
 
@@ -9,4 +10,5 @@ abbrev pub StoresWithStatus : MachineState → MachineState → ℕ → ℕ → 
 StoresWithStatus x y before after =
     (c : Changes) → (width : Width) → (place : Place) → (number status : ℕ) → Storing c width place number (view x)
     → (view x).r.r12 ≡ join status 0
-    → ReachesWithin most_of_status x y before after GSTEP (SeesFinished (with_status status (with_value width place number c)))
+    → ReachesWithin most_of_status x y before after GSTEP
+    (SeesFinished (with_status status (with_value width place number c)))

@@ -1,6 +1,7 @@
 -- Where the copy of MOVE stands at each byte, one byte of it, the bytes that are left, and the end.
 use Rattle.std.specs.Prelude.{ℕ, ◌%◌, ◌*◌, ◌+◌, ◌-◌, ◌<◌, ◌==◌, ◌≡◌, ◌≤◌, if◌then◌else◌, None, slice_index, suc}
-use Rattle.sim_rows.specs.Prelude.{byte_from, ShowsChanges, Changes, ReachesWithin, copied, COPY, Cpu, From, FromGrom, FromMemory}
+use Rattle.sim_rows.specs.Prelude.{byte_from, ShowsChanges, Changes, ReachesWithin, copied, COPY, Cpu, From, FromGrom}
+use Rattle.sim_rows.specs.Prelude.{FromMemory}
 use Rattle.sim_rows.specs.Prelude.{grom_at, GSTEP, IsFetched, MachineState, marked_by, next_from, next_in_vdp, next_to}
 use Rattle.sim_rows.specs.Prelude.{PortsAreIdle, SeesFinished, Space, Stands, To, ToMemory, Vdp, View, view}
 use Rattle.sim_rows.specs.Prelude.{sum_of, VISIBLE_CELLS, with_byte_to, with_pc, Word}
@@ -126,7 +127,8 @@ pub data Copied (c : Changes) (v : View) : Type 0 where
 -- A copy stands at a place.
 pub data CopyingAt (place : ℕ) (c : Changes) (from : From) (to : To) (bytes : ℕ) (v : View) : Type 0 where
   CopyingByRoutines : place ≡ COPY → Copying c from to bytes v → CopyingAt place c from to bytes v
-  CopyingOnWay : (way : CopyPath) → place ≡ head_of way → OnWay way c from to bytes v → CopyingAt place c from to bytes v
+  CopyingOnWay : (way : CopyPath) → place ≡ head_of way → OnWay way c from to bytes v
+      → CopyingAt place c from to bytes v
   AllCopied : place ≡ COPYE → bytes ≡ 0 → Copied c v → CopyingAt place c from to bytes v
 
 -- How many instructions of the beginning the first byte of a way is charged with.

@@ -1,6 +1,7 @@
 -- The copy of MOVE, for all sources, targets and numbers of bytes that may be there.
 use Rattle.std.specs.Prelude.{ℕ, ◌*◌, ◌+◌, ◌≡◌, None}
-use Rattle.sim_rows.specs.Prelude.{Changes, ReachesWithin, copied, From, FromGrom, FromMemory, grom_at, GSTEP, LoadsFrom}
+use Rattle.sim_rows.specs.Prelude.{Changes, ReachesWithin, copied, From, FromGrom, FromMemory, grom_at, GSTEP}
+use Rattle.sim_rows.specs.Prelude.{LoadsFrom}
 use Rattle.sim_rows.specs.Prelude.{MachineState, marked_by, Place, SeesFinished, StoresTo, To, ToMemory, ToRegisters}
 use Rattle.sim_rows.specs.Prelude.{View, view}
 use Rattle.sim_rows.specs.sim_view.Bounds.{most_beside_bytes, most_of_byte}
@@ -47,4 +48,5 @@ pub record Copying (c : Changes) (from : From) (to : To) (bytes : ℕ) (w : View
 abbrev pub CopiesBytes : MachineState → MachineState → ℕ → ℕ → Type 0
 CopiesBytes x y before after =
     (c : Changes) → (from : From) → (to : To) → (bytes : ℕ) → Copying c from to bytes (view x)
-    → ReachesWithin (most_of_byte * bytes + most_beside_bytes) x y before after GSTEP (SeesFinished (copied bytes from to c))
+    → ReachesWithin (most_of_byte * bytes + most_beside_bytes) x y before after GSTEP
+    (SeesFinished (copied bytes from to c))

@@ -1,6 +1,7 @@
 -- The ends of steps that go on elsewhere in GROM, for all states and changes that may be there.
 use Rattle.std.specs.Prelude.{ℕ, ◌≡◌, false}
-use Rattle.sim_rows.specs.Prelude.{ShowsChanges, Changes, ReachesWithin, GplState, GSTEP, MachineState, ShowsState, SeesFinished}
+use Rattle.sim_rows.specs.Prelude.{ShowsChanges, Changes, ReachesWithin, GplState, GSTEP, MachineState, ShowsState}
+use Rattle.sim_rows.specs.Prelude.{SeesFinished}
 use Rattle.sim_rows.specs.Prelude.{unchanged, view, with_condition, with_pc}
 use Rattle.sim_rows.specs.sim_view.Bounds.{most_to_go_on, most_to_resume, most_to_take_branch}
 

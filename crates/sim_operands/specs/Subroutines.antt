@@ -1,7 +1,8 @@
 -- What the subroutines come to, in the words of GPL.
 use Rattle.std.specs.Prelude.{ℕ, ◌==◌, ◌≡◌, Bool, Err, false, if◌then◌else◌, List, not, Ok, Result}
 use Rattle.std.specs.Prelude.{slice_index}
-use Rattle.sim_view.specs.Prelude.{Byte, Changes, ReachesWithin, Cpu, Exit, GplState, GromState, GSTOP, join, MachineState}
+use Rattle.sim_view.specs.Prelude.{Byte, Changes, ReachesWithin, Cpu, Exit, GplState, GromState, GSTOP, join}
+use Rattle.sim_view.specs.Prelude.{MachineState}
 use Rattle.sim_view.specs.Prelude.{next_in_grom, number_of, operand_at, Place, place_of, previous_in_grom, Reason}
 use Rattle.sim_view.specs.Prelude.{Space, unchanged, value_at, Vdp, View, view, with_register, with_value}
 use Rattle.sim_view.specs.gpl_defs.Reading.{value_at as value_in}

@@ -1,6 +1,7 @@
 -- What a row makes of its operands, and views of the machine from the row's entry to the end of the step.
 use Rattle.std.specs.Prelude.{ℕ, ◌≡◌, Err, None, Ok, Option, Result, Some}
-use Rattle.sim_view.specs.Prelude.{Changes, ReachesWithin, finished, GplOperation, GplState, GSTEP, GSTOP, MachineState, One}
+use Rattle.sim_view.specs.Prelude.{Changes, ReachesWithin, finished, GplOperation, GplState, GSTEP, GSTOP, MachineState}
+use Rattle.sim_view.specs.Prelude.{One}
 use Rattle.sim_view.specs.Prelude.{one, Place, Reason, row_entry, size_of, Source, Stepped, Stopped, Turn, Two, two}
 use Rattle.sim_view.specs.Prelude.{unchanged, value_at, View, view, Width, with_value}
 use Rattle.sim_operands.specs.Values.{of_register}

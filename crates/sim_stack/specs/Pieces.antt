@@ -3,7 +3,8 @@
 use Rattle.std.specs.Prelude.{ℕ, ◌&&◌, ◌+◌, ◌==◌, Bool, if◌then◌else◌, nat_lt, not, slice_index, slice_set}
 use Rattle.sim_rows.specs.Prelude.{CALLN, CALLS, difference_of, Exit, exit, FETCH, FETCHA, FETCHB, FETCHD, FETCHK}
 use Rattle.sim_rows.specs.Prelude.{FETCHN, FETCHP, FETCHR, FETCHS, GOTO, GSTOP, high, join, LOAD, low, marked_by}
-use Rattle.sim_rows.specs.Prelude.{past, RESUME, RETURN_STACK, SEEK, with_grom_address, shifted, SHOW, SLA, SRL, STO, STORE}
+use Rattle.sim_rows.specs.Prelude.{past, RESUME, RETURN_STACK, SEEK, with_grom_address, shifted, SHOW, SLA, SRL, STO}
+use Rattle.sim_rows.specs.Prelude.{STORE}
 use Rattle.sim_rows.specs.Prelude.{sum_of, TAKE, VALUE_STACK, View, WHERE, Word, word_in}
 use Rattle.sim_rows.specs.Pieces.{address_before, at_first, read_once}
 use Rattle.sim_rows.specs.sim_operands.Pieces.{one_if}

@@ -19,7 +19,8 @@ pub record Exits (x y : MachineState) (before after : ℕ) (e : Exit) : Type 0 w
   pub stands : Stands y e.to
 
 -- At most a given number of instructions lead from x to y at an address, of whose view something holds.
-pub record ReachesWithin (most : ℕ) (x y : MachineState) (before after : ℕ) (to : ℕ) (Holds : View → Type 0) : Type 0 where
+pub record ReachesWithin (most : ℕ) (x y : MachineState) (before after : ℕ) (to : ℕ) (Holds : View → Type 0)
+    : Type 0 where
   pub count : ℕ
   pub within : count ≤ most
   pub counted : after ≡ before + count

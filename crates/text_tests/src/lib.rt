@@ -1,5 +1,5 @@
-//! Cases of lines, expressions, instruction lines, modules, object text and streams, worked out by hand. The crate holds
-//! tests alone, so that the crates below it are proved once.
+//! Cases of lines, expressions, instruction lines, modules, object text and streams, worked out by hand. The crate
+//! holds tests alone, so that the crates below it are proved once.
 #![tactic(auto)]
 
 #[cfg(test)]

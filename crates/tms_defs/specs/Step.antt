@@ -1,5 +1,5 @@
--- What the processor does: its operands, its instructions by their forms, and one step. All is said over any memory with
--- the four accesses, so the order of the lines is the order of the accesses.
+-- What the processor does: its operands, its instructions by their forms, and one step. All is said over any memory
+-- with the four accesses, so the order of the lines is the order of the accesses.
 use Rattle.std.specs.Prelude.{ℕ, ℤ, ◌+◌, ◌*◌, ◌==◌, Bool, true, false, if◌then◌else◌, Option, Some, None}
 use Rattle.std.specs.Prelude.{List, [], ◌∷◌, ◌++◌}
 use Rattle.tms_defs.specs.Words.{plus, even}

@@ -76,7 +76,8 @@ Leaves (OverFiles (LinkFiles names)) before after =
     × (questions : List Question) × LinkDialogue before.shelf after.shelf names questions
 Leaves (OverFiles (Watch limit items)) before after =
     TookWithin before.input after.input × (after.shelf ≡ before.shelf)
-Leaves (Plain command) before after = plain.Leaves bench_input command before.input after.input × (after.shelf ≡ before.shelf)
+Leaves (Plain command) before after =
+    plain.Leaves bench_input command before.input after.input × (after.shelf ≡ before.shelf)
 
 -- A call failed of what the command reads: of the input, and then no file was opened; or of the shelf, which `asm` asks
 -- for files after the input was taken whole, at the file that was asked for last.
