@@ -19,3 +19,4 @@ pub mod StartFits
 pub mod MachineFitting
 pub mod MachineLines
 pub mod LineRows
+mod CommandRows

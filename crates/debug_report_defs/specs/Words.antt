@@ -8,10 +8,12 @@ use Rattle.debug_report_defs.specs.declared.command.DebugCommand.TheVariants.{Gl
 use Rattle.debug_report_defs.specs.declared.command.DebugCommand.TheVariants as command
 use Rattle.debug_report_defs.specs.declared.command.DebugName.{DebugName}
 use Rattle.debug_report_defs.specs.declared.command.DebugName.TheVariants as named
-use Rattle.debug_report_defs.specs.declared.command.TheConstants.{COMMANDS}
 
+-- The commands by the words that name them, with what the usage line shows after each.
 abbrev pub commands : List (CommandRow DebugName)
-commands = map (λ row. (row.0.now, row.1.now, row.2)) COMMANDS
+commands =
+    (codes "glist", codes "", named.Glist) ∷ (codes "list", codes "", named.List)
+    ∷ (codes "gsteps", codes " N", named.Gsteps) ∷ (codes "steps", codes " N", named.Steps) ∷ []
 
 -- a command with the words after its name; those in any other shape are none
 abbrev pub command_on : List (List ℕ) → DebugName → Option DebugCommand

@@ -7,4 +7,5 @@ pub mod EnteredWords
 pub mod Fronts
 pub mod ListedFiles
 pub mod Ranges
+mod CommandRows
 mod UsageRows

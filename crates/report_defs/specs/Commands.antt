@@ -1,10 +1,8 @@
 -- The words of the command line.
 use Rattle.std.specs.Prelude.{⊤, ℕ, ◌≤◌, ◌==◌, ◌%◌, Bool, true, false, ◌&&◌}
-use Rattle.std.specs.Prelude.{nat_lt, if◌then◌else◌, List, [], ◌∷◌, length, map, slice_index, Option, Some, None}
+use Rattle.std.specs.Prelude.{nat_lt, if◌then◌else◌, List, [], ◌∷◌, length, slice_index, codes, Option, Some, None}
 use Rattle.std.specs.Option.{option_map, option_and_then}
 use Rattle.source_defs.specs.Numbers.{decimal_up_to, hexadecimal_number}
-use Rattle.report_defs.specs.declared.limits.TheConstants.{MOST_BLOCKS, MOST_INSTRUCTIONS, MOST_STEPS}
-use Rattle.report_defs.specs.declared.command.TheConstants.{COMMANDS}
 use Rattle.report_defs.specs.declared.command.Command.{Command}
 use Rattle.report_defs.specs.declared.command.Command.TheVariants.{Asm, Gasm, Dis, Gdis, Link, Exec, Interp}
 use Rattle.report_defs.specs.declared.command.Command.TheVariants.{Run, Trace, Demo}
@@ -23,15 +21,15 @@ number_word limit word =
 
 -- Profile: exec makes at most 10,000,000 instructions.
 abbrev pub most_instructions : ℕ
-most_instructions = MOST_INSTRUCTIONS
+most_instructions = 10000000
 
 -- Profile: run and trace make at most 100,000 steps.
 abbrev pub most_steps : ℕ
-most_steps = MOST_STEPS
+most_steps = 100000
 
 -- Profile: demo makes its program from a number from 1 to 500.
 abbrev pub most_blocks : ℕ
-most_blocks = MOST_BLOCKS
+most_blocks = 500
 
 abbrev pub demo_of : ℕ → Option Command
 demo_of number = if number == 0 then None else Some (Demo number)
@@ -52,8 +50,16 @@ KeepsLimit (Trace limit) = limit ≤ most_steps
 KeepsLimit (Demo number) = number ≤ most_blocks
 KeepsLimit command = ⊤
 
+-- The commands by the words that name them, with what the usage line shows after each. `bench` has no `watch`, and its
+-- `link` takes no names of files.
 abbrev pub commands : List (CommandRow CommandName)
-commands = map (λ row. (row.0.now, row.1.now, row.2)) COMMANDS
+commands =
+    (codes "asm", codes "", named.Asm) ∷ (codes "link", codes " [NAME ...]", named.Link)
+    ∷ (codes "dis", codes " ADDR", named.Dis) ∷ (codes "exec", codes " N", named.Exec)
+    ∷ (codes "gasm", codes "", named.Gasm) ∷ (codes "gdis", codes " ADDR", named.Gdis)
+    ∷ (codes "interp", codes "", named.Interp) ∷ (codes "run", codes " N", named.Run)
+    ∷ (codes "trace", codes " N", named.Trace) ∷ (codes "demo", codes " K", named.Demo)
+    ∷ (codes "watch", codes " N ITEM ...", named.Watch) ∷ []
 
 -- a command of one word
 abbrev pub command_alone : CommandName → Option Command
