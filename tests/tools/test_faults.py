@@ -8,7 +8,7 @@ from lib.repository import read_text
 SPECS = TOP / 'crates/report_defs/specs'
 FILES = ['FaultLine', 'FileLines', 'SourceFaults', 'ObjectFaults']
 # parts of lines that are no causes, and what no fault line says, since that ends with status 5
-OTHERS = {'line', ':', '', 'out of memory', 'computed', 'ti_bench'}
+OTHERS = {'line', ':', '', 'out of memory', 'computed', 'usage'}
 
 
 def texts():

@@ -38,14 +38,16 @@ class Program:
 
 def other(path, name):
     """The path of a program by the path of ti_bench: its own; or the one that a variable names, as TI_DEBUG; or the one
-    beside it, as in an archive and an installation; or the one that is built in the folder of its crate."""
+    beside it, as in an archive and an installation; or the one that is built in the folder of its crate. If ti_bench is
+    the repository's, so is the other, which is built first if it is missing or old."""
     own = pathlib.Path(path)
     if name == 'ti_bench':
         return path
-    places = [own.with_name(name), own.parent.parent.parent / name / 'out' / name]
-    found = os.environ.get(name.upper()) or next((str(place) for place in places if place.is_file()), None)
-    if not found and own == TOP / 'crates/ti_bench/out/ti_bench':
+    named = os.environ.get(name.upper())
+    if not named and own == TOP / 'crates/ti_bench/out/ti_bench':
         return of_repository(name)
+    places = [own.with_name(name), own.parent.parent.parent / name / 'out' / name]
+    found = named or next((str(place) for place in places if place.is_file()), None)
     if not found:
         raise Stopped(f'no program {name} beside {path}', UNREADABLE)
     return str(pathlib.Path(shutil.which(found) or found).absolute())

@@ -2,6 +2,7 @@
 
 ghost use Rattle.std.specs.Prelude.{◌≡◌, ◌<◌, ◌≤◌, ◌+◌, ◌*◌, ◌++◌, length, take, slice_index, codes};
 ghost use Rattle.source_defs.specs.Digits.{hex_byte, hex_word};
+ghost use Rattle.tms_defs.specs.Words.{words_of_bytes};
 ghost use Rattle.instruction_defs.specs.Printed.{printed};
 ghost use Rattle.bench_io.specs.Written.{Written};
 ghost use Rattle.word_listings.specs.Listing as spec;
@@ -31,7 +32,7 @@ pub(crate) fn origin_line(at: u16) -> Line
 #[tactic(auto, using(bench_io::proofs::Writes::wrote_none))]
 pub(crate) fn put_instructions<O: Sink>(at: u16, bytes: &[u8], out: &mut O) -> Result<(), Failed>
     requires { at + length bytes.now ≤ 65536 }
-    ensures { Written result (O.state out.old) (O.state out.new) (spec.word_lines at (spec.words_of_bytes bytes.now)) }
+    ensures { Written result (O.state out.old) (O.state out.new) (spec.word_lines at (words_of_bytes bytes.now)) }
 {
     let mut line = Line::new();
     let mut place = 0;
@@ -47,8 +48,8 @@ pub(crate) fn put_instructions<O: Sink>(at: u16, bytes: &[u8], out: &mut O) -> R
 /// held; and says how many words it has.
 fn make_front_line(line: &mut Line, bytes: &[u8], at: u16) -> u8
     requires { 1 < length bytes.now }
-    ensures line { line.new.items ≡ spec.listing_line (printed (spec.words_of_bytes bytes.now) at).text }
-    ensures count { result ≡ (printed (spec.words_of_bytes bytes.now) at).count }
+    ensures line { line.new.items ≡ spec.listing_line (printed (words_of_bytes bytes.now) at).text }
+    ensures count { result ≡ (printed (words_of_bytes bytes.now) at).count }
 {
     let words = [word_at(bytes, 0), word_at(bytes, 1), word_at(bytes, 2)];
     let (text, count) = print_instr(&words[..(bytes.len() / 2).min(3)], at);
@@ -63,7 +64,7 @@ fn make_front_line(line: &mut Line, bytes: &[u8], at: u16) -> u8
 #[tactic(auto, using(crate::proofs::Listings::word_of, crate::proofs::Listings::no_word))]
 fn word_at(bytes: &[u8], number: usize) -> u16
     requires { number ≤ 2 }
-    ensures { result ≡ slice_index (spec.words_of_bytes bytes.now) number }
+    ensures { result ≡ slice_index (words_of_bytes bytes.now) number }
 {
     if 2 * number + 1 >= bytes.len() {
         return 0;
