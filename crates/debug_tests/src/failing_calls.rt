@@ -6,7 +6,7 @@ use std::alloc::{AllocError, Global};
 use std::test::Fail;
 
 /// A run in which no call fails.
-const fn run(words: &'static [&'static [u8]], input: &'static [u8], file: &'static [u8]) -> Run {
+fn run(words: &'static [&'static [u8]], input: &'static [u8], file: &'static [u8]) -> Run {
     Run {
         words,
         input,
@@ -17,38 +17,31 @@ const fn run(words: &'static [&'static [u8]], input: &'static [u8], file: &'stat
     }
 }
 
-/// Runs in which no call fails, and how each ends.
-const RUNS: &[(Run, Status)] = &[
+/// Words, an input, the lines of the file `LIB`, and how the run ends if no call fails.
+const RUNS: &[(&[&[u8]], &[u8], &[u8], Status)] = &[
     (
-        run(
-            &[b"glist"],
-            b" BYTE 1,2,3,4,5,6,7,8,9\n ST @>8300,1\n END",
-            b"",
-        ),
+        &[b"glist"],
+        b" BYTE 1,2,3,4,5,6,7,8,9\n ST @>8300,1\n END",
+        b"",
+        Status::Done,
+    ),
+    (&[b"glist"], b" EXIT\n OOPS\n END", b"", Status::Refused),
+    (
+        &[b"gsteps", b"5"],
+        b"S ST @>8300,1\n ST @>8301,2\n ST @>8302,3\n EXIT\n END S",
+        b"",
         Status::Done,
     ),
     (
-        run(&[b"glist"], b" EXIT\n OOPS\n END", b""),
-        Status::Refused,
-    ),
-    (
-        run(
-            &[b"gsteps", b"5"],
-            b"S ST @>8300,1\n ST @>8301,2\n ST @>8302,3\n EXIT\n END S",
-            b"",
-        ),
+        &[b"list"],
+        b" DATA 1\n COPY \"LIB\"\n",
+        b" DATA 2\n",
         Status::Done,
     ),
     (
-        run(&[b"list"], b" DATA 1\n COPY \"LIB\"\n", b" DATA 2\n"),
-        Status::Done,
-    ),
-    (
-        run(
-            &[b"steps", b"10"],
-            b"00008        A0000B0201B7FFFB0581B10FF20000F\n:\n",
-            b"",
-        ),
+        &[b"steps", b"10"],
+        b"00008        A0000B0201B7FFFB0581B10FF20000F\n:\n",
+        b"",
         Status::Done,
     ),
 ];
@@ -129,17 +122,23 @@ fn each_put_fails(alloc: Global, run: Run, status: Status) -> Result<bool, Alloc
 
 #[test]
 fn an_input_that_fails_is_a_read_fault(rt: HostRuntime) -> Result<(), Fail> {
-    for &(run, _) in RUNS {
-        assert!(rt; each_take_fails(rt.alloc(), run)?, "{:?}", run.input);
+    for &(words, input, file, _) in RUNS {
+        assert!(rt;
+            each_take_fails(rt.alloc(), run(words, input, file))?,
+            "{input:?}"
+        );
     }
     Ok(())
 }
 
 #[test]
 fn a_shelf_that_fails_is_a_read_fault(rt: HostRuntime) -> Result<(), Fail> {
-    for &(run, _) in RUNS {
-        if !run.file.is_empty() {
-            assert!(rt; each_shelf_call_fails(rt.alloc(), run)?, "{:?}", run.input);
+    for &(words, input, file, _) in RUNS {
+        if !file.is_empty() {
+            assert!(rt;
+                each_shelf_call_fails(rt.alloc(), run(words, input, file))?,
+                "{input:?}"
+            );
         }
     }
     Ok(())
@@ -147,8 +146,11 @@ fn a_shelf_that_fails_is_a_read_fault(rt: HostRuntime) -> Result<(), Fail> {
 
 #[test]
 fn a_sink_that_fails_keeps_the_lines_before_it(rt: HostRuntime) -> Result<(), Fail> {
-    for &(run, status) in RUNS {
-        assert!(rt; each_put_fails(rt.alloc(), run, status)?, "{:?}", run.input);
+    for &(words, input, file, status) in RUNS {
+        assert!(rt;
+            each_put_fails(rt.alloc(), run(words, input, file), status)?,
+            "{input:?}"
+        );
     }
     Ok(())
 }
