@@ -72,8 +72,8 @@ abbrev pub defs : List Line → List (List ℕ)
 defs [] = []
 defs (line ∷ before) = defs before ++ defs_in line.statement
 
--- Profile: a name of REF stands for something already where a line before defines it, or its line does, or REF names it
--- twice.
+-- Profile: a name of REF stands for something already if it is one of R0 to R15, if a line before or its own line
+-- defines it, or if REF names it twice.
 abbrev pub is_taken : Names → Option (List ℕ) → List (List ℕ) → Bool
 is_taken known label names = any_known known names || repeats (label_in label) names
 

@@ -32,7 +32,7 @@ abbrev pub new_machine : Memory → ℕ → ℕ → MachineState
 new_machine memory wp pc =
     record { cpu = record { memory = memory; pc = even pc; wp = even wp; status = status_at 0 }; count = 0 }
 
--- The count after a step: an instruction that was executed raises it by one.
+-- Profile: the count after a step. An instruction that was executed raises it by one.
 abbrev pub counted : StepEnd → ℕ → ℕ
 counted (Done word) count = saturating_sum count 1
 counted (Refused address) count = count

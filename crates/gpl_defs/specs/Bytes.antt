@@ -72,7 +72,7 @@ operand_bytes operand =
     else if fits_twelve_bits operand then in_twelve_bits operand
     else in_sixteen_bits operand
 
--- the high byte of a word first
+-- GPL Programmer's Guide, the statements: the high byte of a word first
 abbrev pub word_bytes : ℕ → List ℕ
 word_bytes word = high word ∷ low word ∷ []
 

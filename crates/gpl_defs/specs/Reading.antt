@@ -114,9 +114,9 @@ move_at kind immediate = do
   source ← from_at kind
   give (Move length target source)
 
--- The low bit of a code byte is the form of words, the next an immediate source; for MOVE the low bit is an immediate
--- length, and for BR and BS the low five bits are the high ones of the target. The address is the one after the code
--- byte.
+-- GPL Programmer's Guide, the statements: the low bit of a code byte is the form of words, the next an immediate
+-- source; for MOVE the low bit is an immediate length, and for BR and BS the low five bits are the high ones of the
+-- target.
 abbrev pub instr_at : GplOperation → ℕ → Read GplInstr
 instr_at (operation.Plain op) code = give (Plain op)
 instr_at (operation.Byte op) code = read_as (Byte op) byte_at

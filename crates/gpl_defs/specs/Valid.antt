@@ -25,7 +25,7 @@ abbrev pub has_immediate : TwoName → Bool
 has_immediate EX = false
 has_immediate _ = true
 
--- An immediate source of bytes is a byte.
+-- GPL Programmer's Guide, the statements with two operands: an immediate source of bytes is a byte.
 abbrev pub is_valid_source : TwoName → Bool → GplSource → Bool
 is_valid_source op word (source.At operand) = true
 is_valid_source op word (source.Immediate value) = has_immediate op && (word || nat_lt value 256)

@@ -50,12 +50,12 @@ with_byte_in Vdp address byte c = with_video address byte c
 abbrev pub with_byte : Place → ℕ → Changes → Changes
 with_byte p byte c = with_byte_in p.space p.address byte c
 
--- a number of a width, its high byte first
+-- GPL Programmer's Guide, the statements: a number of a width, its high byte first
 abbrev pub with_value : Width → Place → ℕ → Changes → Changes
 with_value Byte p number c = with_byte p number c
 with_value Word p number c = with_byte (behind 1 p) (low number) (with_byte p (high number) c)
 
--- a number of twice a width
+-- GPL Programmer's Guide, "Multiply", "Divide": a number of twice a width, its high part first
 abbrev pub with_double : Width → Place → ℕ → Changes → Changes
 with_double Byte p number c = with_value Word p number c
 with_double Word p number c = with_value Word (behind 2 p) (number % 65536) (with_value Word p (number / 65536) c)
