@@ -1,0 +1,2 @@
+"""The parts of the second reading that ..."""
+PARTS = {}
