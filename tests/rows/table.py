@@ -1,4 +1,5 @@
 """Rows of text: each is a run of a program, with its words, its input, its files, and how it must end."""
+import copy
 import re
 
 from lib.command import UNREADABLE, Stopped
@@ -7,6 +8,7 @@ PROGRAMS = ('ti_bench', 'ti_debug')
 STATUSES = {'Done': 0, 'Refused': 1, 'Usage': 2, 'ReadFault': 3, 'WriteFault': 4, 'Memory': 5, 'Stopped': 7}
 FILE = re.compile(r'(?!\.)[A-Za-z0-9._-]{1,60}')
 ESCAPE = re.compile(r'\\(n|x[0-9A-Fa-f]{2}|)')
+TIMES = re.compile(r'\*([1-9][0-9]{0,6})')
 
 
 class Wrong(Exception):
@@ -28,10 +30,14 @@ def bytes_of(text):
 
 
 def line_of(rest):
-    """The bytes of what stands after a mark: a line feed ends them, unless they come after `-`."""
+    """The bytes of what stands after a mark: a line feed ends them, unless they come after `-`. How many times they
+    come is before that, after `*`."""
+    times = TIMES.match(rest)
+    rest = rest[times.end():] if times else rest
     if rest[:1] not in ('', ' ', '-'):
         raise Wrong('after the mark comes a blank or -')
-    return bytes_of(rest[1:]) + (b'' if rest[:1] == '-' else b'\n')
+    line = bytes_of(rest[1:]) + (b'' if rest[:1] == '-' else b'\n')
+    return line * int(times[1]) if times else line
 
 
 def text_of(data):
@@ -47,18 +53,18 @@ def marked(mark, data):
 
 class Row:
     """A run, and how it must end: with this status and these outputs, of which standard output may have more after it,
-    and has each of some parts."""
+    and has each of some parts. While it is read it may have words of several runs, each of which must end so."""
 
     def __init__(self, place, title):
-        self.place, self.title = place, title
+        self.place, self.title, self.runs = place, title, []
         self.words, self.given, self.files = [], b'', {}
         self.status, self.out, self.more, self.parts, self.err = 'Done', b'', False, [], b''
 
     def take_words(self, rest):
         words = rest.split()
-        if self.words or not words or words[0] not in PROGRAMS:
-            raise Wrong(f'a row has one line of words, of which the first is {" or ".join(PROGRAMS)}')
-        self.words = ['' if word == "''" else word for word in words]
+        if not words or words[0] not in PROGRAMS:
+            raise Wrong(f'the first word of a run is {" or ".join(PROGRAMS)}')
+        self.runs.append(['' if word == "''" else word for word in words])
 
     def take_input(self, rest):
         self.given += line_of(rest)
@@ -96,6 +102,12 @@ class Row:
     def take_error(self, rest):
         self.err += line_of(rest)
 
+    def with_words(self, words):
+        """The row of one of its runs."""
+        row = copy.copy(self)
+        row.words = words
+        return row
+
     def passes(self, run):
         """Whether a run ended as it must."""
         has_output = run.out.startswith(self.out) if self.more else run.out == self.out
@@ -129,6 +141,6 @@ def rows(text, name):
         except Wrong as wrong:
             raise Stopped(f'{place}: {wrong}', UNREADABLE) from None
     for row in found:
-        if not row.words:
+        if not row.runs:
             raise Stopped(f'{row.place}: a row without words', UNREADABLE)
-    return found
+    return [row.with_words(words) for row in found for words in row.runs]

@@ -32,14 +32,16 @@ e line 1: \x5C
 WRONG = [
     ('%\n$ ti_bench asm\n! take 0\n', 'a:3: the mark ! is unknown'),
     ('% only a title\n> one\n', 'a:1: a row without words'),
-    ('%\n$ asm\n', 'a:2: a row has one line of words'),
-    ('%\n$ ti_bench asm\n$ ti_bench dis\n', 'a:3: a row has one line of words'),
+    ('%\n$ asm\n', 'a:2: the first word of a run is ti_bench or ti_debug'),
+    ('%\n$ ti_bench asm\n$\n', 'a:3: the first word of a run is ti_bench or ti_debug'),
     ('<  RT\n%\n$ ti_bench asm\n', 'a:1: a line before the first row'),
     ('%\n$ ti_bench asm\n? Refuse\n', 'a:3: no status Refuse'),
     ('%\n$ ti_bench asm\n@ ../A\n', 'a:3: no name of a file'),
     ('%\n$ ti_bench asm\n@ A\n@ A\n', 'a:4: no name of a file, or one that was there before'),
     ('%\n$ ti_bench asm\n+ RT\n', 'a:3: a line of no file'),
     ('%\n$ ti_bench asm\n<RT\n', 'a:3: after the mark comes a blank or -'),
+    ('%\n$ ti_bench asm\n<*0 RT\n', 'a:3: after the mark comes a blank or -'),
+    ('%\n$ ti_bench asm\n<*2\t\n', 'a:3: after the mark comes a blank or -'),
     ('%\n$ ti_bench asm\n....\n', 'a:3: more is ...'),
     ('%\n$ ti_bench asm\n~ \n', 'a:3: an empty part'),
     ('%\n$ ti_bench asm\n< \\t\n', r'a:3: after \ comes n, or x and two hexadecimal digits'),
@@ -69,6 +71,16 @@ class Tables(unittest.TestCase):
         self.assertEqual(row.files, {'A': b'RT\n', 'B-2.SRC': b''})
         self.assertEqual((row.status, row.out, row.more, row.parts), ('Refused', b'one\ntwo', True, [b'e\nt']))
         self.assertEqual(row.err, b'line 1: \\\n')
+
+    def test_lines_of_words_are_runs_that_end_alike(self):
+        found = table.rows('%\n$ ti_bench asm\n$ ti_debug list\n? Refused\n% other\n$ ti_bench gasm\n', 'a')
+        self.assertEqual([(row.place, row.words, row.status) for row in found],
+                         [('a:1', ['ti_bench', 'asm'], 'Refused'), ('a:1', ['ti_debug', 'list'], 'Refused'),
+                          ('a:5', ['ti_bench', 'gasm'], 'Done')])
+
+    def test_a_line_comes_as_often_as_its_row_says(self):
+        row, = table.rows('%\n$ ti_bench gasm\n<*3  RTN\n<*2-\\n;\n@ A\n+*2 B\n>*300-\\x00\n', 'a')
+        self.assertEqual((row.given, row.files, row.out), (3 * b' RTN\n' + b'\n;\n;', {'A': b'B\nB\n'}, bytes(300)))
 
     def test_a_wrong_line_is_named(self):
         for text, said in WRONG:

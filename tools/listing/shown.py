@@ -1,11 +1,11 @@
-"""What the program prints of the interpreter's words, where documents, examples and tests show it."""
+"""What the program prints of the interpreter's words, where documents and examples show it."""
 import re
 
 from lib.repository import TOP, read_text
 
 
 EXAMPLE = 'examples/interp/expected'
-PARTS = ['docs/REPORTS.md', 'crates/bench_tests/src/interp.rt', 'examples/interp/README.md']
+PARTS = ['docs/REPORTS.md', 'examples/interp/README.md']
 ROW = 16
 
 

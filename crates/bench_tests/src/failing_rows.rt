@@ -20,6 +20,25 @@ $ exec 1
 > end refused >A000
 > pad
 
+% an input that fails and is not read
+$ demo 1
+! take 0
+? Done
+> demo 1
+> image 8
+> steps 1
+> pad 565
+> vdp 0
+> exit
+> count 89
+
+% the third write fails
+$ demo 1
+! put 2
+? WriteFault
+> demo 1
+> image 8
+
 % a shelf that fails
 $ asm
 <  COPY "A.SRC"

@@ -3,26 +3,12 @@
 #![tactic(auto)]
 
 #[cfg(test)]
-mod demo;
-#[cfg(test)]
 mod failing_ends;
 #[cfg(test)]
 mod failing_rows;
-#[cfg(test)]
-mod files;
-#[cfg(test)]
-mod gasm;
-#[cfg(test)]
-mod interp;
-#[cfg(test)]
-mod link;
 #[cfg(test)]
 mod rows;
 #[cfg(test)]
 mod run;
 #[cfg(test)]
 mod statuses;
-#[cfg(test)]
-mod trace;
-#[cfg(test)]
-mod watch;

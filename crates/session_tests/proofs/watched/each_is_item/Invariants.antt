@@ -1,7 +1,7 @@
 use Rattle.std.proofs.Common.{ℕ, ◌<◌, get_or}
 use Rattle.watch_defs.specs.declared.item.Item.{Item}
 use Rattle.watch_defs.specs.Items.{IsItem}
-use Rattle.watch_tests.proofs.watched.each_is_item.Given as goal
+use Rattle.session_tests.proofs.watched.each_is_item.Given as goal
 
 -- each item so far can be watched
 abbrev pub invariant-loop-item : goal.invariant-loop-item

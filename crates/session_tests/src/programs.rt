@@ -1,4 +1,12 @@
-//! Programs that are watched.
+//! Programs that are run.
+
+ghost use Rattle.std.specs.Prelude.{IfSome};
+ghost use Rattle.gpl_run.specs.Sessions.{IsNew};
+
+use gpl_asm::gpl_assemble;
+use gpl_run::{build_interp, load_interpreter};
+use std::alloc::Global;
+use tms_step::Machine;
 
 /// One of them.
 #[derive(Clone, Copy)]
@@ -17,6 +25,24 @@ impl Program {
             Program::Ends => ENDS,
         }
     }
+}
+
+/// The machine of the interpreter with a program.
+pub(crate) fn machine_of(alloc: Global, program: Program) -> Option<Machine>
+    ensures { IfSome result IsNew }
+{
+    let source = program.source();
+    if source.len() > 4096 {
+        return None;
+    }
+    let program = gpl_assemble(alloc, source).ok()?;
+    let interpreter = build_interp(alloc).ok()?;
+    load_interpreter(
+        alloc,
+        &interpreter,
+        program.image.bytes(),
+        program.entry?,
+    ).ok()
 }
 
 /// A screen, a loop that counts down, and a subroutine that goes on by the count.
