@@ -1,61 +1,22 @@
--- CALL, from its dispatch to the end of the step.
-use Rattle.std.proofs.Common.{ℕ, ◌+◌, ◌<◌, ◌==◌, ◌||◌, ◌∙◌, ◌≡◌, ◌≤◌, ap, arith, Bool, Err, false, if◌then◌else◌, List, nat_lt, Ok, Option}
-use Rattle.std.proofs.Common.{refl, Result, slice_index, slice_set, Some, subst, sym, true}
+-- CALL means the next address on the stack: on views alone.
+use Rattle.std.proofs.Common.{◌+◌, ◌<◌, ◌==◌, ◌||◌, ◌∙◌, ◌≡◌, ◌≤◌, ap, arith, Bool, false, if◌then◌else◌, List, nat_lt}
+use Rattle.std.proofs.Common.{refl, slice_index, slice_set, subst, sym, true, ℕ}
 use Rattle.std.proofs.lemmas.Bool.{agree_below_at}
-use Rattle.sim_rows.proofs.Common.{◌>>=◌, at_most, back_is, behind_code, bound, bound_made, CALL, CALLN, CALLS, ShowsChanges, Changes, ReachesWithin, comes, comes_on}
-use Rattle.sim_rows.proofs.Common.{comes_then, Dispatched, EndsRow, Exit, exit, Exits, finished, first_way, from, GOCALL, Goes, goes_in, GplOperation, GplState}
-use Rattle.sim_rows.proofs.Common.{grom_at, GromState, grown_by, GSTOP, high, idle_told, is_turn_end, is_view, join, Jump, just, known, lost, low, MachineState}
-use Rattle.sim_rows.proofs.Common.{marked_by, matches, most_to_dispatch, next_in_grom, on_stack, operation_in, past, plus, PortsAreIdle, reaches, Reason}
-use Rattle.sim_rows.proofs.Common.{from_dispatch, second_way, set_is, shifted, SHOW, SLA, Stack, Stands, step, step_jump, Stepped, Stopped, StoppedBy, sum_of, Turned}
-use Rattle.sim_rows.proofs.Common.{turned_by, View, view, Word, word_at as word_in_grom}
-use Rattle.sim_rows.specs.Prelude.{RETURN_STACK, unchanged, with_cell, with_pc, with_word}
-use Rattle.sim_rows.specs.Pieces.{at_first}
-use Rattle.sim_rows.specs.sim_operands.Pieces.{one_if}
-use Rattle.sim_stack.specs.Pieces.{offset_of, shows_at}
-use Rattle.sim_stack.specs.Family.{is_call}
-use Rattle.sim_stack.proofs.Room.{behind_is, no_room, stop_turned, two_more, with_room}
-use Rattle.sim_stack.proofs.NextAddress.{next_fits}
+use Rattle.sim_rows.proofs.Common.{back_is, behind_code, CALL, CALLN, CALLS, Changes, Dispatched, exit, Exit, GplState}
+use Rattle.sim_rows.proofs.Common.{grom_at, grown_by, GSTEP, high, IsView, lost, low, marked_by, next_in_grom, plus}
+use Rattle.sim_rows.proofs.Common.{SeesFinished, set_is, shifted, SLA, unchanged, View, with_cell, with_pc, with_word}
+use Rattle.sim_rows.proofs.Common.{word_at as word_in_grom}
+use Rattle.sim_stack.proofs.Dispatch.{dispatch_is, dispatch_view}
+use Rattle.sim_stack.proofs.NextAddress.{later_fits}
+use Rattle.sim_stack.proofs.Room.{behind_is, EndsBy, tests}
+use Rattle.sim_stack.proofs.Common.{◌>>◌, at_first, call_offset, call_on, called, end_row, Ends, ends_in, first, jump}
+use Rattle.sim_stack.proofs.Common.{one_at_most, one_if, regroup, row_ends, shows_at}
 use Rattle.sim_stack.specs.Pieces as pieces
-
--- ---- the step
-
--- what CALL changes
-abbrev pub gone_to : GplState → ℕ → ℕ → Changes
-gone_to s top target = with_pc target (with_word top s.pc (with_cell RETURN_STACK top (unchanged s)))
-
-abbrev read_in : GplState → ℕ × ℕ
-read_in s = word_in_grom s.image (behind_code s)
-
-abbrev beyond : GplState → GplState
-beyond s = record s { pc = (read_in s).1 }
-
-abbrev top_in : GplState → ℕ
-top_in s = grown_by 2 (slice_index s.cells 0x73)
-
-abbrev by_call : GplState → Result ℕ Reason → Result GplState Reason
-by_call s r = (r >>= λ top. Ok (gone_to (beyond s) top (read_in s).0)) >>= λ (c : Changes). Ok (finished c)
-
-call_is : (o : Option GplOperation) → is_call o ≡ true → o ≡ Some (Jump CALL)
-call_is (Some (Jump CALL)) e = refl
-call_is _ e = absurd (cc)
-
-step_by : (s : GplState) (r : Result ℕ Reason) → is_call (operation_in s) ≡ true → on_stack 2 (top_in s) ≡ r → step s ≡ by_call s r
-step_by s r family is = step_jump s CALL (call_is (operation_in s) family) ∙ ap (by_call s) is
-
-bound_call : (s next : GplState) → is_call (operation_in s) ≡ true → step s ≡ Ok next → bound s ≡ 440
-bound_call s next family is = bound_made s next (Some (Jump CALL)) (call_is (operation_in s) family) is
 
 -- ---- numbers
 
 low_is : (byte : ℕ) → byte < 256 → low byte ≡ byte
 low_is byte h = omega arith
-
-grown_small : (byte : ℕ) → grown_by 2 byte < 256
-grown_small byte = omega arith
-
-one_at_most : (b : Bool) → 6 + one_if b ≤ 7
-one_at_most true = omega arith
-one_at_most false = omega arith
 
 twelve_at_most : (b c : Bool) → (if b then 9 else if c then 11 else 12) ≤ 12
 twelve_at_most true c = omega arith
@@ -69,122 +30,81 @@ shows_by top = (plus top 1 == 0x7D) || ((top == 0x7D) || false)
 shows_is : (top : ℕ) → top < 256 → shows_at top ≡ shows_by top
 shows_is top h = agree_below_at shows_at shows_by 256 top refl h
 
--- ---- from the dispatch on
+-- ---- the step
 
-module _ (s : GplState) {x a : MachineState} {t t1 : ℕ} (stands : Stands x GOCALL) (d : Dispatched s (view x)) (family : is_call (operation_in s) ≡ true)
-    (read : Exits x a t t1 (pieces.read_call_target (view x))) where
-  abbrev v : View
-  v = view x
+-- the target, and the address after the instruction
+abbrev pub read_in : GplState → ℕ × ℕ
+read_in s = word_in_grom s.image (behind_code s)
 
-  abbrev offset : ℕ
-  offset = offset_of (sum_of Word (join (slice_index v.cells 0x73) (low v.r.r7)) 0x0200)
+abbrev pub beyond : GplState → GplState
+beyond s = record s { pc = (read_in s).1 }
 
-  -- the word that follows was read
-  abbrev told_by : GromState → View
-  told_by grom = record v { r = record v.r { r7 = offset; r14 = join grom.fetched (past grom).fetched }; grom = past (past grom) }
+abbrev pub top_in : GplState → ℕ
+top_in s = grown_by 2 (slice_index s.cells 0x73)
 
-  abbrev told : View
-  told = told_by (grom_at s.image (behind_code s))
+abbrev pub gone_to : GplState → ℕ → Changes
+gone_to s top = with_pc (read_in s).0 (with_word top (read_in s).1 (with_cell 0x73 top (unchanged (beyond s))))
 
-  went_by : Exits x a t t1 (if nat_lt 0xC0 offset then pieces.full 10 told else exit 7 CALLN told)
-  went_by =
-      subst (λ (g : GromState). Exits x a t t1 (if nat_lt 0xC0 offset then pieces.full 10 (told_by g) else exit 7 CALLN (told_by g))) d.sees.grom read
+module _ (s : GplState) (u : View) where
+  abbrev at : View
+  at = dispatch_view s u
 
-  offset_top : offset ≡ top_in s
-  offset_top =
-      two_more (slice_index v.cells 0x73) (low v.r.r7) ((is_view x stands.machine).cells 0x73) (omega arith)
-      ∙ ap (λ (l : List ℕ). grown_by 2 (slice_index l 0x73)) d.sees.cells
+  abbrev next : ℕ
+  next = (read_in s).1
 
-  small : top_in s < 256
-  small = grown_small (slice_index s.cells 0x73)
+  -- the pointer is in register 7, and the target in register 14
+  abbrev told : ℕ → View
+  told pointer = record at {
+    r = record at.r { r7 = pointer; r14 = (read_in s).0 };
+    grom = grom_at s.image next;
+  }
 
-  start : is_turn_end x.cpu.pc ≡ false
-  start = ap is_turn_end stands.pc
+  abbrev stored : List ℕ → ℕ → ℕ → List ℕ
+  stored cells top second = slice_set (slice_set cells top (high next)) second (low next)
 
-  pub stopped : a.cpu.pc ≡ GSTOP → Turned s x a (from_dispatch t t1) (Stopped Stack)
-  stopped here =
-      let k = first_way GSTOP x a t t1 (nat_lt 0xC0 offset) (pieces.full 10 told) (exit 7 CALLN told) went_by (λ q. absurd (omega arith)) here in
-      let full : on_stack 2 (top_in s) ≡ Err Stack = no_room 0xC0 2 (top_in s) refl (ap (nat_lt 0xC0) (sym offset_top) ∙ k.0) in
-      let c : ReachesWithin 10 x a t t1 GSTOP (StoppedBy s Stack) = comes k.1 (goes_in (omega arith)
-      (record { ended = record { cells = d.sees.cells; vdp = d.sees.vdp; registers = d.sees.registers; address = d.address }; reason_is = refl })) in
-      stop_turned s x a t t1 10 start (step_by s (Err Stack) family full) c (omega arith)
+  goes_on : IsView at → top_in s < 256 → Ends (call_on (told (top_in s))) 47 GSTEP (SeesFinished (gone_to s (top_in s)))
+  unfolding call_on
+  goes_on i small =
+      let top = top_in s in
+      let fits : next < 65536 = later_fits (next_in_grom (behind_code s)) i.grom.counter in
+      let more = i.grom.image.fits (behind_code s) in
+      let less = i.grom.image.fits (next_in_grom (behind_code s)) in
+      let ends : View → Exit = λ w. pieces.store_next w >> end_row in
+      let found : ℕ → Exit = λ n. exit (6 + one_if (at_first (next_in_grom next))) CALLS (record (told top) {
+        r = record (told top).r { r4 = shifted SLA (next_in_grom next) 3; r9 = n };
+        grom = lost s.image next;
+      }) in
+      let stores = pieces.store_next (found next).left in
+      let one = one_at_most (at_first (next_in_grom next)) in
+      let twelve = twelve_at_most (nat_lt 0x7D top) (nat_lt top 0x7C) in
+      regroup (pieces.find_next (told top)) pieces.store_next end_row
+      (subst (λ (n : ℕ). Ends (found n >> ends) 47 GSTEP (SeesFinished (gone_to s top))) (sym (back_is next fits))
+      (ends_in (found next >> ends)
+      (first (found next) ends
+      (first stores end_row (row_ends (gone_to s top) stores.left (record {
+        cells = ap (λ (n : ℕ). stored (slice_set s.cells 0x73 n) top (top + 1)) (low_is top small)
+            ∙ ap (stored (slice_set s.cells 0x73 top) top) (sym (behind_is top small));
+        vdp = refl;
+        registers = refl;
+        held = refl;
+        grom = set_is (lost s.image next) (read_in s).0 refl (omega arith);
+        mark = ap (λ (b : Bool). marked_by b 0) (shows_is top small);
+      }))))
+      (omega arith)))
 
-  module _ (elsewhere : a.cpu.pc ≡ GSTOP → ⊥) where
-    went : (nat_lt 0xC0 offset ≡ false) × Exits x a t t1 (exit 7 CALLN told)
-    went = second_way GSTOP x a t t1 (nat_lt 0xC0 offset) (pieces.full 10 told) (exit 7 CALLN told) went_by refl elsewhere
+  turns : IsView at → EndsBy (called at) 54 s (jump CALL (read_in s).0 (unchanged (beyond s)))
+  unfolding called
+  turns i =
+      let byte = i.cells 0x73 in
+      let offset : call_offset at ≡ top_in s = omega arith in
+      tests s 0xC0 2 (call_offset at) (top_in s) 10 (told (call_offset at)) (exit 7 CALLN (told (call_offset at))) call_on
+      54 (gone_to s) refl offset (omega arith)
+      (record { cells = refl; vdp = refl; registers = refl; address = refl })
+      refl
+      (λ near. subst (λ (n : ℕ). Ends (exit 7 CALLN (told n) >> call_on) 54 GSTEP (SeesFinished (gone_to s (top_in s))))
+      (sym offset) (first (exit 7 CALLN (told (top_in s))) call_on (goes_on i (omega arith))))
 
-    pub stands_finding : Stands a CALLN
-    stands_finding = went.1.stands
-
-    -- the next address, and the one that is called
-    abbrev at : ℕ
-    at = (read_in s).1
-
-    abbrev target : ℕ
-    target = (read_in s).0
-
-    at_fits : at < 65536
-    at_fits = next_fits at (subst (λ (w : View). w.grom.counter < 65536) went.1.shows (is_view a went.1.stands.machine).grom.counter)
-
-    target_fits : target < 65536
-    target_fits = subst (λ (w : View). w.r.r14 < 65536) went.1.shows ((is_view a went.1.stands.machine).r 14)
-
-    abbrev located : View
-    located = record told { r = record told.r { r4 = shifted SLA (next_in_grom at) 3; r9 = at }; grom = lost s.image at }
-
-    finds : Goes (pieces.find_next told) 7 CALLS (λ w. w ≡ located)
-    finds =
-        let to : ℕ → Exit = λ n. exit (6 + one_if (at_first (next_in_grom at))) CALLS (record located { r = record located.r { r9 = n } }) in
-        known (ap to (back_is at at_fits)) (just (to at) 7 CALLS (one_at_most (at_first (next_in_grom at))) refl)
-
-    module _ {b : MachineState} {t2 : ℕ} (find : Exits a b t1 t2 (pieces.find_next (view a))) where
-      found : ReachesWithin 14 x b t t2 CALLS (λ w. w ≡ located)
-      found =
-          let c : ReachesWithin 7 x a t t1 CALLN (λ w. w ≡ told) = comes went.1 (record { within = omega arith; to_is = refl; holds = refl }) in
-          comes_then 7 7 c find (from pieces.find_next c.holds finds) refl
-
-      pub stands_storing : Stands b CALLS
-      stands_storing = found.stands
-
-      pub visible_storing : (view b).r.r7 ≤ 0xC0
-      visible_storing = subst (λ (w : View). w.r.r7 ≤ 0xC0) (sym found.holds) (at_most 0xC0 offset went.0)
-
-      -- the pointer and the next address are stored, and GROM goes on at the one that is called
-      abbrev after : Changes
-      after = gone_to (beyond s) (top_in s) target
-
-      abbrev stored : List ℕ → ℕ → ℕ → ℕ → List ℕ
-      stored cells pointer top second = slice_set (slice_set (slice_set cells 0x73 pointer) top (high at)) second (low at)
-
-      stores : Goes (pieces.store_next located) 12 SHOW (ShowsChanges after)
-      stores = record {
-        within = twelve_at_most (nat_lt 0x7D offset) (nat_lt offset 0x7C);
-        to_is = refl;
-        holds = record {
-          cells = ap (λ (l : List ℕ). stored l (low offset) offset (offset + 1)) d.sees.cells
-              ∙ ap (λ (n : ℕ). stored s.cells (low n) n (n + 1)) offset_top
-              ∙ ap (λ (n : ℕ). stored s.cells n (top_in s) (top_in s + 1)) (low_is (top_in s) small)
-              ∙ ap (λ (n : ℕ). stored s.cells (top_in s) (top_in s) n) (sym (behind_is (top_in s) small));
-          vdp = d.sees.vdp;
-          registers = d.sees.registers;
-          held = d.sees.held;
-          grom = set_is (lost s.image at) target refl target_fits;
-          mark = ap (λ (n : ℕ). marked_by (shows_at n) 0) offset_top ∙ ap (λ (b : Bool). marked_by b 0) (shows_is (top_in s) small);
-        };
-      }
-
-      module _ {c : MachineState} {t3 : ℕ} (store : Exits b c t2 t3 (pieces.store_next (view b))) where
-        ending : ReachesWithin 26 x c t t3 SHOW (ShowsChanges after)
-        ending = comes_then 14 12 found store (from pieces.store_next found.holds stores) refl
-
-        pub idle_ending : PortsAreIdle c.cpu.memory
-        idle_ending = idle_told c.cpu.memory ending.holds.held (ap (λ (g : GromState). g.half_written) ending.holds.grom)
-
-        pub turned : (y : MachineState) (t4 : ℕ) → EndsRow c y t3 t4 → Turned s x y (from_dispatch t t4) Stepped
-        turned y t4 ends =
-            let room : on_stack 2 (top_in s) ≡ Ok (top_in s) = with_room 0xC0 2 (top_in s) refl (ap (nat_lt 0xC0) (sym offset_top) ∙ went.0) in
-            let is = step_by s (Ok (top_in s)) family room in
-            let run = comes_on 26 28 ending (ends after ending.holds) refl in
-            let b = bound_call s (finished after) family is in
-            turned_by x y t t4 most_to_dispatch Stepped s (Ok (finished after)) is
-            (refl, reaches most_to_dispatch (bound s) run start refl (omega arith), matches (finished after) y run.stands run.holds)
+pub calls : (s : GplState) (v : View) → IsView v → Dispatched s v →
+    EndsBy (called v) 54 s (jump CALL (read_in s).0 (unchanged (beyond s)))
+calls s v i d =
+    dispatch_is s v (λ w. EndsBy (called w) 54 s (jump CALL (read_in s).0 (unchanged (beyond s)))) i d (turns s v)

@@ -1,28 +1,21 @@
 -- FETCH means the byte at the return address, which goes on: on views alone.
-use Rattle.std.proofs.Common.{ℕ, ◌+◌, ◌<◌, ◌∙◌, ◌≡◌, ◌≤◌, ap, arith, Err, List, nat_lt, None, Ok, Option, refl}
-use Rattle.std.proofs.Common.{Result, slice_index, Some, subst, sym}
-use Rattle.sim_rows.proofs.Common.{◌>>=◌, at_most, AtRow, Byte, bytes_by, cells_at, Changes, Cpu, destination_bytes}
-use Rattle.sim_rows.proofs.Common.{destination_visible, Exit, exit, FETCHB, goes_in, gone_on, GplOperation, GplState}
-use Rattle.sim_rows.proofs.Common.{grom_at, GromState, GSTEP, IsView, join, loaded_of, low, next_in_grom, next_of}
-use Rattle.sim_rows.proofs.Common.{number_of_space, on_stack, One, operands_of, operation_in, past, pick, Place}
-use Rattle.sim_rows.proofs.Common.{place_in, Reason, reads_destination, row_result, row_width, SeesFinished, set_is}
-use Rattle.sim_rows.proofs.Common.{size_of, ShowsChanges, Source, Space, Stack, state_of, Storing, unchanged, value_at}
-use Rattle.sim_rows.proofs.Common.{value_keeps, Vdp, View, WHERE, Width, with_byte, with_byte_from, with_byte_in}
-use Rattle.sim_rows.proofs.Common.{with_grom_address, with_pc, with_value, with_word, Word, word_in}
-use Rattle.sim_rows.proofs.sim_view.Routines.{Ends, first, regroup}
-use Rattle.sim_rows.proofs.Routines.{EndsTurn, load_first, store_first}
-use Rattle.sim_rows.proofs.RowViews.{row_is, row_view, seen_with}
-use Rattle.sim_rows.specs.sim_view.Routines.{◌>>◌}
-use Rattle.sim_rows.specs.sim_operands.Routines.{load, store}
+use Rattle.std.proofs.Common.{◌+◌, ◌<◌, ◌∙◌, ◌≡◌, ◌≤◌, ap, arith, List, None, Ok, Option, refl, slice_index, Some}
+use Rattle.std.proofs.Common.{subst, sym, ℕ}
+use Rattle.sim_rows.proofs.Common.{high-join, AtRow, Byte, bytes_by, cells_at, Changes, Cpu, destination_bytes}
+use Rattle.sim_rows.proofs.Common.{destination_visible, exit, Exit, FETCHB, FETCHN, gone_on, GplOperation, GplState}
+use Rattle.sim_rows.proofs.Common.{grom_at, GromState, GSTEP, IsView, join, loaded_of, next_in_grom, next_of}
+use Rattle.sim_rows.proofs.Common.{number_of_space, One, operands_of, operation_in, past, Place, place_in}
+use Rattle.sim_rows.proofs.Common.{reads_destination, row_result, row_width, SeesFinished, set_is, ShowsChanges}
+use Rattle.sim_rows.proofs.Common.{size_of, Source, Space, state_of, Storing, unchanged, value_at, value_keeps, Vdp}
+use Rattle.sim_rows.proofs.Common.{View, WHERE, Width, with_byte, with_byte_from, with_byte_in, with_grom_address}
+use Rattle.sim_rows.proofs.Common.{with_pc, with_value, with_word, Word, word_in}
 use Rattle.sim_rows.specs.gpl_defs.declared.instruction.OneName.TheVariants.{FETCH}
 use Rattle.sim_rows.specs.gpl_step_defs.Place.{word_at}
-use Rattle.sim_jumps.specs.Routines.{resume_row}
-use Rattle.sim_jumps.proofs.Jumps.{row_resumes}
-use Rattle.sim_stack.specs.Rows.{end_fetch, fetch_on, fetch_stacked, fetched, load_stacked, locate_stacked, set_aside}
-use Rattle.sim_stack.specs.Rows.{turn_at}
 use Rattle.sim_stack.proofs.NextAddress.{aside, aside_first, later_fits, located, located_first, next_fits}
-use Rattle.sim_stack.proofs.Room.{byte_back, no_room, offset_above, stacked_is, with_room}
-use Rattle.sim_stack.proofs.Ways.{offset_in, placed, read}
+use Rattle.sim_stack.proofs.Room.{behind_is, EndsBy, tests}
+use Rattle.sim_stack.proofs.Common.{◌>>◌, ask_store_first, end_fetch, Ends, fetch_on, fetch_stacked, fetched, first}
+use Rattle.sim_stack.proofs.Common.{load, load_first, load_stacked, locate_stacked, regroup, resume_row, return_offset}
+use Rattle.sim_stack.proofs.Common.{row_is, row_resumes, row_view, seen_with, set_aside, store, store_first}
 use Rattle.sim_stack.specs.Pieces as pieces
 
 -- ---- the word on the stack
@@ -40,7 +33,8 @@ stacked_first : (v : View) (top : ℕ) (f : View → Exit) {b to : ℕ} {R : Vie
 stacked_first v top f {b = b} {to = to} {R = R} held at near next =
     let asked = pieces.ask_stacked v in
     let word : value_at (state_of asked.left) Word (place_in 0 v.r.r2) ≡ word_in v.cells top =
-    stacked_is (state_of asked.left) v.r.r2 top at (omega arith) in
+    ap (λ (n : ℕ). value_at (state_of asked.left) Word (place_in 0 n)) at
+    ∙ ap (λ (n : ℕ). join (slice_index v.cells top) (slice_index v.cells n)) (behind_is top (omega arith)) in
     regroup asked load f
     (first asked (λ w. load w >> f)
     (load_first asked.left f held (omega arith) (omega arith) (λ z. omega arith)
@@ -120,17 +114,14 @@ module _ (s : GplState) (place : Place) (top next byte : ℕ) where
         value = refl;
       } in
       regroup (asked >> store >> pieces.store_fetched) store resume_row
-      (regroup (asked >> store) pieces.store_fetched (λ w. store w >> resume_row)
-      (regroup asked store (λ w. pieces.store_fetched w >> (λ u. store u >> resume_row))
-      (first asked (λ w. store w >> (λ u. pieces.store_fetched u >> (λ q. store q >> resume_row)))
-      (store_first (λ w. pieces.store_fetched w >> (λ u. store u >> resume_row)) word (omega arith) (λ z. omega arith)
+      (ask_store_first asked pieces.store_fetched (λ w. store w >> resume_row) word (omega arith) (λ z. omega arith)
       (λ r4 address read.
       let second = pieces.store_fetched (seen_with between asked.left r4 address read) in
       let stores : Storing between Byte place byte second.left = record {
         changed = record { cells = refl; vdp = refl; registers = refl; held = refl; grom = refl; mark = refl };
         bytes_are = refl;
         to_place = record { address = refl; space = refl };
-        value = byte_back byte;
+        value = high-join byte 0;
       } in
       first second (λ w. store w >> resume_row)
       (store_first resume_row stores fits visible
@@ -139,15 +130,12 @@ module _ (s : GplState) (place : Place) (top next byte : ℕ) where
       let seen : ShowsChanges (with_pc next after) left =
       subst (λ (c : Changes). ShowsChanges c left) (pc_aside place.space place.address byte next together)
       (record { cells = refl; vdp = refl; registers = refl; held = refl; grom = refl; mark = refl }) in
-      row_resumes after next left seen (sym (value_keeps Byte place byte together).1) back)))))))
+      row_resumes after next left seen (sym (value_keeps Byte place byte together).1) back))))
 
 -- ---- the row
 
 abbrev pub top_in : GplState → ℕ
 top_in s = slice_index s.cells 0x73
-
-abbrev by_fetch : GplState → Place → Result ℕ Reason → Result Changes Reason
-by_fetch s place r = r >>= λ top. Ok (with_byte_from (word_at s top) top place (unchanged (gone_on s)))
 
 module _ (s : GplState) (place : Place) (source loaded_value : ℕ) (width : Width) (u : View) where
   abbrev at : View
@@ -156,10 +144,17 @@ module _ (s : GplState) (place : Place) (source loaded_value : ℕ) (width : Wid
   abbrev word : ℕ
   word = word_at s (top_in s)
 
+  -- the offset of the top is told, and the operand's place is kept
+  abbrev told : View
+  told = record at { r = record at.r { r2 = return_offset at } }
+
+  abbrev placed : View
+  placed = record told { r = record told.r { r10 = at.r.r7; r11 = FETCHN; r15 = at.r.r8 } }
+
   -- there is room on the stack
-  goes_on : IsView at → offset_in at ≡ top_in s → top_in s ≤ 0xC0 →
+  goes_on : IsView at → return_offset at ≡ top_in s → top_in s ≤ 0xC0 →
       (number_of_space place.space ≡ 0 → place.address + 1 ≤ 0xC2) →
-      Ends (exit 7 WHERE (placed at) >> fetch_on) 131 GSTEP
+      Ends (exit 7 WHERE placed >> fetch_on) 131 GSTEP
       (SeesFinished (with_byte_from word (top_in s) place (unchanged (gone_on s))))
   unfolding fetch_on
   goes_on i offset near visible =
@@ -167,63 +162,43 @@ module _ (s : GplState) (place : Place) (source loaded_value : ℕ) (width : Wid
       let more = i.cells (top_in s) in
       let less = i.cells (top_in s + 1) in
       let read_fits : word < 65536 = omega arith in
-      let v1 = aside (placed at) s.image (next_of s) in
+      let v1 = aside placed s.image (next_of s) in
       let onward_2 : View → Exit = λ w. fetch_stacked w >> (λ q. locate_stacked q >> end_fetch) in
       let onward : View → Exit = λ w. load_stacked w >> onward_2 in
-      first (exit 7 WHERE (placed at)) fetch_on
-      (regroup (set_aside (placed at) >> load_stacked >> fetch_stacked) locate_stacked end_fetch
-      (regroup (set_aside (placed at) >> load_stacked) fetch_stacked (λ w. locate_stacked w >> end_fetch)
-      (regroup (set_aside (placed at)) load_stacked onward_2
-      (aside_first (placed at) s.image (next_of s) onward here
+      first (exit 7 WHERE placed) fetch_on
+      (regroup (set_aside placed >> load_stacked >> fetch_stacked) locate_stacked end_fetch
+      (regroup (set_aside placed >> load_stacked) fetch_stacked (λ w. locate_stacked w >> end_fetch)
+      (regroup (set_aside placed) load_stacked onward_2
+      (aside_first placed s.image (next_of s) onward here
       (stacked_first v1 (top_in s) onward_2 refl offset near
       (λ r4 address byte. let v2 = stacked v1 word r4 address byte in
       fetched_first v2 s.image (next_of s) (λ q. locate_stacked q >> end_fetch) refl read_fits
       (let v3 = fetched_at v2 s.image word in
       located_first v3 s.image (next_in_grom word) end_fetch (later_fits word read_fits)
-      (fetch_ends (gone_on s) place (top_in s) (next_in_grom word) (slice_index s.image word) (offset_in at)
+      (fetch_ends (gone_on s) place (top_in s) (next_in_grom word) (slice_index s.image word) (return_offset at)
       (located v3 s.image (next_in_grom word)) offset near (i.r 7) here visible))))))))
 
   turns : (place_source : Source) → IsView at → u.r.r1 ≡ s.pc →
       (number_of_space place.space ≡ 0 → place.address + 1 ≤ 0xC2) →
-      EndsTurn (fetched at) 131 s (turn_at (pieces.keep_place at).to) (row_result (One FETCH) s place place_source)
+      EndsBy (fetched at) 131 s (row_result (One FETCH) s place place_source)
   unfolding fetched
   turns place_source i address visible =
-      let offset : offset_in at ≡ top_in s =
-      offset_above (slice_index s.cells 0x73) (low u.r.r2) (i.cells 0x73) (omega arith) in
-      let by : Result Changes Reason → Type 0 =
-      EndsTurn (fetched at) 131 s (turn_at (pieces.keep_place at).to) in
-      pick (nat_lt 0xC0 (offset_in at))
-      (λ a. let full : on_stack 2 (top_in s) ≡ Err Stack =
-      no_room 0xC0 2 (top_in s) refl (ap (nat_lt 0xC0) (sym offset) ∙ a) in
-      subst by (sym (ap (by_fetch s place) full))
-      (rw a (
-        refl,
-        λ bytes. goes_in (omega arith) (record {
-          ended = record { cells = refl; vdp = refl; registers = refl; address = address };
-          reason_is = refl;
-        }),
-      )))
-      (λ a. let room : on_stack 2 (top_in s) ≡ Ok (top_in s) =
-      with_room 0xC0 2 (top_in s) refl (ap (nat_lt 0xC0) (sym offset) ∙ a) in
-      let near : top_in s ≤ 0xC0 = subst (λ (n : ℕ). n ≤ 0xC0) offset (at_most 0xC0 (offset_in at) a) in
-      subst by (sym (ap (by_fetch s place) room)) (rw a (refl, goes_on i offset near visible)))
-
-some_bytes : (w : Width) → 1 ≤ size_of w
-some_bytes Byte = omega arith
-some_bytes Word = omega arith
+      let byte = i.cells 0x73 in
+      let offset : return_offset at ≡ top_in s = omega arith in
+      tests s 0xC0 2 (return_offset at) (top_in s) 7 told (exit 7 WHERE placed) fetch_on 131
+      (λ top. with_byte_from (word_at s top) top place (unchanged (gone_on s))) refl offset (omega arith)
+      (record { cells = refl; vdp = refl; registers = refl; address = address }) refl
+      (λ near. goes_on i offset near visible)
 
 pub fetches : (s : GplState) (place : Place) (source : Source) (v : View) → IsView v →
     operation_in s ≡ Some (One FETCH) → AtRow s place source v → operands_of s ≡ Ok (place, source) →
-    EndsTurn (fetched v) 131 s (turn_at (pieces.keep_place v).to) (row_result (One FETCH) s place source)
-fetches s place source v i is row operands =
+    row_width s ≡ Byte → EndsBy (fetched v) 131 s (row_result (One FETCH) s place source)
+fetches s place source v i is row operands narrow =
     let e = row_is s place source v (ap reads_destination is) row in
-    let bytes : destination_bytes s ≡ size_of (row_width s) =
-    ap (λ (o : Option GplOperation). bytes_by o (row_width s)) is in
-    let some = some_bytes (row_width s) in
+    let bytes : destination_bytes s ≡ 1 =
+    ap (λ (o : Option GplOperation). bytes_by o (row_width s)) is ∙ ap size_of narrow in
     let visible : number_of_space place.space ≡ 0 → place.address + 1 ≤ 0xC2 =
-    λ z. let lies = destination_visible s place source operands z in omega arith in
-    subst (λ (w : View). EndsTurn (fetched w) 131 s (turn_at (pieces.keep_place w).to)
-    (row_result (One FETCH) s place source))
-    (sym e)
+    λ z. subst (λ (n : ℕ). place.address + n ≤ 0xC2) bytes (destination_visible s place source operands z) in
+    subst (λ (w : View). EndsBy (fetched w) 131 s (row_result (One FETCH) s place source)) (sym e)
     (turns s place source.number (loaded_of s place) (row_width s) v source
     (subst IsView e i) row.holds.address visible)

@@ -2,11 +2,10 @@ pub mod Dispatch
 pub mod Room
 pub mod Paths
 pub mod NextAddress
+pub mod Ways
 pub mod Calls
 pub mod ReturnRows
-pub mod Ways
 pub mod Pushes
 pub mod Fetches
-pub mod StackRows
 pub mod Meaning
 pub mod Common

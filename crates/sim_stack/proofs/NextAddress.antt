@@ -1,13 +1,9 @@
 -- The address of the next byte is found, and GROM is set to it again: on views alone.
-use Rattle.std.proofs.Common.{ℕ, ◌+◌, ◌<◌, ◌∙◌, ◌≡◌, ap, arith, List, refl, subst, sym}
-use Rattle.sim_rows.proofs.Common.{back_is, Exit, exit, FETCHP, FETCHS, grom_at, GromState, lost, next_in_grom, set_is}
+use Rattle.std.proofs.Common.{◌+◌, ◌<◌, ◌∙◌, ◌≡◌, ap, arith, List, refl, subst, sym, ℕ}
+use Rattle.sim_rows.proofs.Common.{back_is, exit, Exit, FETCHP, FETCHS, grom_at, GromState, lost, next_in_grom, set_is}
 use Rattle.sim_rows.proofs.Common.{shifted, SLA, View, with_grom_address}
-use Rattle.sim_rows.proofs.StepStart.{one_at_most}
-use Rattle.sim_rows.proofs.sim_view.Routines.{Ends}
-use Rattle.sim_rows.specs.Pieces.{address_before, at_first}
-use Rattle.sim_rows.specs.sim_operands.Pieces.{one_if}
-use Rattle.sim_rows.specs.sim_view.Routines.{◌>>◌}
-use Rattle.sim_stack.specs.Rows.{locate_stacked, set_aside}
+use Rattle.sim_stack.proofs.Common.{◌>>◌, address_before, at_first, Ends, locate_stacked, one_at_most, one_if}
+use Rattle.sim_stack.proofs.Common.{set_aside}
 
 -- an address is within GROM where the counter after it is
 pub next_fits : (at : ℕ) → next_in_grom at < 65536 → at < 65536

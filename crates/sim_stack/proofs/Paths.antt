@@ -1,30 +1,27 @@
 -- The runs of the pieces on the view.
-use Rattle.std.proofs.Common.{[], ℕ, ◌+◌, ◌<◌, ◌==◌, ◌∷◌, ◌≡◌, ◌≤◌, arith, false, if◌then◌else◌, List, nat_lt, refl, slice_index, slice_set}
-use Rattle.std.proofs.Common.{true}
-pub use Rattle.sim_rows.proofs.Common.{is_view, piece}
-use Rattle.sim_rows.proofs.Common.{at_most, byte_is, CALLN, CALLS, difference_of, exit, FETCH, FETCHA, FETCHB, FETCHD, FETCHK, FETCHN, FETCHP, FETCHR, FETCHS}
-use Rattle.sim_rows.proofs.Common.{FETCHV, GOCALL, GORTN, GOTO, high, high-join, IsView, join, join-bytes, Leads, leads, LOAD, low, not_above, not_limit, Part}
-use Rattle.sim_rows.proofs.Common.{part_then, past, pick, plus, PUSHV, Rest, rest_is, SEEK, SHOW, spot_cell, STO, STORE, sum_of, TAKE, View, WHERE, Word}
-use Rattle.sim_rows.proofs.Common.{word_in}
+use Rattle.std.proofs.Common.{◌+◌, ◌<◌, ◌==◌, ◌∷◌, ◌≡◌, ◌≤◌, [], arith, false, if◌then◌else◌, List, nat_lt, refl}
+use Rattle.std.proofs.Common.{slice_index, slice_set, true, ℕ}
+use Rattle.sim_rows.proofs.Common.{at_most, byte_is, CALLN, CALLS, difference_of, exit, FETCH, FETCHA, FETCHB, FETCHD}
+use Rattle.sim_rows.proofs.Common.{FETCHK, FETCHN, FETCHP, FETCHR, FETCHS, FETCHV, GOCALL, GORTN, GOTO, high, high-join}
+use Rattle.sim_rows.proofs.Common.{IsView, join, join-bytes, Leads, leads, LOAD, low, not_above, not_limit, Part}
+use Rattle.sim_rows.proofs.Common.{part_then, past, pick, plus, PUSHV, Rest, rest_is, SEEK, SHOW, spot_cell, STO, STORE}
+use Rattle.sim_rows.proofs.Common.{sum_of, TAKE, View, WHERE, Word, word_in}
 use Rattle.sim_rows.specs.native_interp.declared.addresses.TheConstants.{CALLT, RTNW}
-use Rattle.sim_rows.specs.Pieces.{at_first}
-use Rattle.sim_stack.specs.Pieces.{offset_of, pointer_at}
+use Rattle.sim_stack.proofs.Common.{at_first, call_offset, if_room, offset_of, pointer_at, return_offset}
+pub use Rattle.sim_rows.proofs.Common.{is_view, piece}
 use Rattle.sim_stack.specs.Pieces as pieces
 
 -- RTN, part by part
-abbrev top_of : View → ℕ
-top_of v = offset_of (join (slice_index v.cells 0x73) (low v.r.r2))
-
 abbrev with_top : View → View
-with_top v = record v { r = record v.r { r2 = top_of v } }
+with_top v = record v { r = record v.r { r2 = return_offset v } }
 
 abbrev return_ends : List ℕ
 return_ends = TAKE ∷ GOTO ∷ []
 
-return_barred : (v : View) → nat_lt 0xC0 (top_of v) ≡ true → Rest return_ends 0 16 v GORTN (pieces.full 7 (with_top v))
-return_barred v c = record { by = λ f. rw (c, not_limit 0xC0 (top_of v) c) refl }
+return_barred : (v : View) → nat_lt 0xC0 (return_offset v) ≡ true → Rest return_ends 0 16 v GORTN (pieces.full 7 (with_top v))
+return_barred v c = record { by = λ f. rw (c, not_limit 0xC0 (return_offset v) c) refl }
 
-return_near : (v : View) → nat_lt 0xC0 (top_of v) ≡ false → Part return_ends 4 v GORTN (with_top v) RTNW
+return_near : (v : View) → nat_lt 0xC0 (return_offset v) ≡ false → Part return_ends 4 v GORTN (with_top v) RTNW
 return_near v c = record { by = λ f. rw c refl }
 
 abbrev taken : View → View
@@ -45,12 +42,13 @@ return_taken v fits near = record {
 }
 
 pub take_return : (v : View) → IsView v → Leads return_ends v GORTN (pieces.take_return v)
+unfolding if_room
 take_return v i =
     leads return_ends
-    (pick (nat_lt 0xC0 (top_of v))
+    (pick (nat_lt 0xC0 (return_offset v))
     (λ c. rest_is (rw (c, pieces.take_return) refl) (return_barred v c))
     (λ c. rest_is (rw (c, pieces.take_return) refl) (part_then return_ends 4 0 12 (return_near v c)
-    (return_taken (with_top v) i.cells (at_most 0xC0 (top_of v) c)))))
+    (return_taken (with_top v) i.cells (at_most 0xC0 (return_offset v) c)))))
 
 -- CALL, behind its target
 abbrev with_target : View → View
@@ -60,17 +58,16 @@ target_read : (v : View) → IsView v → Part (CALLN ∷ []) 2 v GOCALL (with_t
 target_read v i =
     record { by = λ f. rw (byte_is (past v.grom).fetched (i.grom.image.fits v.grom.counter), high-join v.grom.fetched v.r.r14) refl }
 
-abbrev grown : View → ℕ
-grown v = offset_of (sum_of Word (join (slice_index v.cells 0x73) (low v.r.r7)) 0x0200)
-
 abbrev with_grown : View → View
-with_grown v = record v { r = record v.r { r7 = grown v } }
+with_grown v = record v { r = record v.r { r7 = call_offset v } }
 
-target_told : (v : View) → Rest (CALLN ∷ []) 2 14 v CALLT (if nat_lt 0xC0 (grown v) then pieces.full 10 (with_grown v) else exit 7 CALLN (with_grown v))
+target_told : (v : View) → Rest (CALLN ∷ []) 2 14 v CALLT
+    (if_room 0xC0 (call_offset v) 10 (with_grown v) (exit 7 CALLN (with_grown v)))
+unfolding if_room
 target_told v = record {
   by = λ f.
-      pick (nat_lt 0xC0 (grown v))
-      (λ c. rw (c, not_limit 0xC0 (grown v) c) refl)
+      pick (nat_lt 0xC0 (call_offset v))
+      (λ c. rw (c, not_limit 0xC0 (call_offset v) c) refl)
       (λ c. rw c refl);
 }
 
@@ -99,6 +96,7 @@ store_next v near = record {
 }
 
 pub push_pointer : (v : View) → Leads (STO ∷ []) v PUSHV (pieces.push_pointer v)
+unfolding if_room
 push_pointer v = record {
   by = λ f q.
       pick (nat_lt 0xC1 (offset_of (sum_of Word (pointer_at 0x72 v) 0x0100)))
@@ -107,10 +105,11 @@ push_pointer v = record {
 }
 
 pub keep_place : (v : View) → Leads (WHERE ∷ []) v FETCHV (pieces.keep_place v)
+unfolding if_room
 keep_place v = record {
   by = λ f q.
-      pick (nat_lt 0xC0 (offset_of (join (slice_index v.cells 0x73) (low v.r.r2))))
-      (λ c. rw (c, not_limit 0xC0 (offset_of (join (slice_index v.cells 0x73) (low v.r.r2))) c) refl)
+      pick (nat_lt 0xC0 (return_offset v))
+      (λ c. rw (c, not_limit 0xC0 (return_offset v) c) refl)
       (λ c. rw c refl);
 }
 

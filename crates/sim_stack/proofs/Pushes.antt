@@ -1,31 +1,17 @@
 -- PUSH means the byte on the data stack: on views alone.
-use Rattle.std.proofs.Common.{ℕ, ◌<◌, ◌∙◌, ◌≡◌, ◌≤◌, ap, arith, Err, List, nat_lt, Ok, Option, refl, Result}
-use Rattle.std.proofs.Common.{slice_index, slice_set, Some, subst, sym}
-use Rattle.sim_rows.proofs.Common.{◌>>=◌, at_most, AtRow, Byte, bytes_by, cells_at, Changes, destination_bytes, exit}
-use Rattle.sim_rows.proofs.Common.{goes_in, gone_on, GplOperation, GplState, grown_by, GSTEP, high, in_register, IsView}
-use Rattle.sim_rows.proofs.Common.{loaded_of, on_stack, One, operation_in, pick, Place, PUSH, reads_destination, Reason}
-use Rattle.sim_rows.proofs.Common.{row_result, row_width, SeesFinished, size_of, Source, Stack, STO, Storing, unchanged}
-use Rattle.sim_rows.proofs.Common.{value_at, View, Width, width_in, with_cell, Word}
-use Rattle.sim_rows.proofs.sim_view.Routines.{Ends, ends_in, first}
-use Rattle.sim_rows.proofs.Routines.{EndsTurn, row_finishes}
-use Rattle.sim_rows.proofs.RowViews.{row_is, row_view}
-use Rattle.sim_rows.specs.sim_view.Routines.{◌>>◌}
-use Rattle.sim_rows.specs.Routines.{finish_row}
-use Rattle.sim_stack.specs.Rows.{pushed, turn_at}
-use Rattle.sim_stack.specs.Pieces.{offset_of}
-use Rattle.sim_stack.proofs.Room.{byte_back, no_room, one_more, one_stored, with_room}
-use Rattle.sim_stack.proofs.Ways.{grown_in, pointed}
-use Rattle.sim_stack.specs.Pieces as pieces
-
-pub one_byte : (w : Width) → size_of w ≡ 1 → w ≡ Byte
-one_byte Byte e = refl
-one_byte Word e = absurd (omega arith)
+use Rattle.std.proofs.Common.{◌<◌, ◌∙◌, ◌≡◌, ◌≤◌, ap, arith, List, Ok, Option, refl, slice_index, slice_set, Some}
+use Rattle.std.proofs.Common.{subst, sym, ℕ}
+use Rattle.sim_rows.proofs.Common.{high-join, ◌>>=◌, AtRow, Byte, bytes_by, cells_at, Changes, destination_bytes, exit, gone_on}
+use Rattle.sim_rows.proofs.Common.{GplOperation, GplState, grown_by, GSTEP, high, in_register, IsView, loaded_of}
+use Rattle.sim_rows.proofs.Common.{on_stack, One, operation_in, Place, PUSH, reads_destination, row_result, row_width}
+use Rattle.sim_rows.proofs.Common.{SeesFinished, size_of, Source, STO, Storing, sum_of, unchanged, value_at, View}
+use Rattle.sim_rows.proofs.Common.{Width, width_in, with_cell, Word}
+use Rattle.sim_stack.proofs.Room.{EndsBy, tests}
+use Rattle.sim_stack.proofs.Common.{◌>>◌, Ends, ends_in, finish_row, first, offset_of, pointer_at, pushed, row_finishes}
+use Rattle.sim_stack.proofs.Common.{row_is, row_view}
 
 abbrev pub top_in : GplState → ℕ
 top_in s = grown_by 1 (slice_index s.cells 0x72)
-
-abbrev by_push : GplState → ℕ → Result ℕ Reason → Result Changes Reason
-by_push s byte r = r >>= λ top. Ok (with_cell top byte (with_cell 0x72 top (unchanged (gone_on s))))
 
 module _ (s : GplState) (place : Place) (source loaded byte : ℕ) (value : high loaded ≡ byte) (u : View) where
   abbrev at : View
@@ -34,13 +20,23 @@ module _ (s : GplState) (place : Place) (source loaded byte : ℕ) (value : high
   abbrev before : Changes
   before = with_cell 0x72 (top_in s) (unchanged (gone_on s))
 
+  -- the pointer is made, and its offset told; it is stored, and STO is asked for the byte
+  abbrev pointer : ℕ
+  pointer = sum_of Word (pointer_at 0x72 at) 0x0100
+
+  abbrev told : View
+  told = record at { r = record at.r { r7 = offset_of pointer; r12 = pointer } }
+
+  abbrev pointed : View
+  pointed = record told { r = record told.r { r8 = 0 }; cells = slice_set s.cells 0x72 (high pointer) }
+
   -- there is room on the stack
-  goes_on : slice_index s.cells 0x72 < 256 → offset_of (grown_in at) ≡ top_in s → top_in s ≤ 0xC1 →
-      Ends (exit 10 STO (pointed at) >> finish_row) 131 GSTEP (SeesFinished (with_cell (top_in s) byte before))
+  goes_on : slice_index s.cells 0x72 < 256 → offset_of pointer ≡ top_in s → top_in s ≤ 0xC1 →
+      Ends (exit 10 STO pointed >> finish_row) 131 GSTEP (SeesFinished (with_cell (top_in s) byte before))
   goes_on small offset near =
-      let stores : Storing before Byte (cells_at (top_in s)) byte (pointed at) = record {
+      let stores : Storing before Byte (cells_at (top_in s)) byte pointed = record {
         changed = record {
-          cells = ap (slice_set s.cells 0x72) (one_stored (slice_index s.cells 0x72) small);
+          cells = ap (slice_set s.cells 0x72) (omega arith);
           vdp = refl;
           registers = refl;
           held = refl;
@@ -51,36 +47,24 @@ module _ (s : GplState) (place : Place) (source loaded byte : ℕ) (value : high
         to_place = record { address = offset; space = refl };
         value = value;
       } in
-      ends_in (exit 10 STO (pointed at) >> finish_row)
-      (first (exit 10 STO (pointed at)) finish_row (row_finishes stores (omega arith) (λ z. omega arith)))
+      ends_in (exit 10 STO pointed >> finish_row)
+      (first (exit 10 STO pointed) finish_row (row_finishes stores (omega arith) (λ z. omega arith)))
       (omega arith)
 
-  abbrev by : Result Changes Reason → Type 0
-  by = EndsTurn (pushed at) 131 s (turn_at (pieces.push_pointer at).to)
-
-  pub turns : slice_index s.cells 0x72 < 256 → u.r.r1 ≡ s.pc → by (by_push s byte (on_stack 1 (top_in s)))
+  pub turns : slice_index s.cells 0x72 < 256 → u.r.r1 ≡ s.pc →
+      EndsBy (pushed at) 131 s
+      (on_stack 1 (top_in s) >>= λ top. Ok (with_cell top byte (with_cell 0x72 top (unchanged (gone_on s)))))
   unfolding pushed
   turns small address =
-      let offset : offset_of (grown_in at) ≡ top_in s = one_more (slice_index s.cells 0x72) small in
-      pick (nat_lt 0xC1 (offset_of (grown_in at)))
-      (λ a. let full : on_stack 1 (top_in s) ≡ Err Stack =
-      no_room 0xC1 1 (top_in s) refl (ap (nat_lt 0xC1) (sym offset) ∙ a) in
-      subst by (sym (ap (by_push s byte) full))
-      (rw a (
-        refl,
-        λ bytes. goes_in (omega arith) (record {
-          ended = record { cells = refl; vdp = refl; registers = refl; address = address };
-          reason_is = refl;
-        }),
-      )))
-      (λ a. let room : on_stack 1 (top_in s) ≡ Ok (top_in s) =
-      with_room 0xC1 1 (top_in s) refl (ap (nat_lt 0xC1) (sym offset) ∙ a) in
-      let near : top_in s ≤ 0xC1 = subst (λ (n : ℕ). n ≤ 0xC1) offset (at_most 0xC1 (offset_of (grown_in at)) a) in
-      subst by (sym (ap (by_push s byte) room)) (rw a (refl, goes_on small offset near)))
+      let offset : offset_of pointer ≡ top_in s = omega arith in
+      tests s 0xC1 1 (offset_of pointer) (top_in s) 10 told (exit 10 STO pointed) finish_row 131
+      (λ top. with_cell top byte (with_cell 0x72 top (unchanged (gone_on s)))) refl offset (omega arith)
+      (record { cells = refl; vdp = refl; registers = refl; address = address }) refl
+      (λ near. goes_on small offset near)
 
 pub pushes : (s : GplState) (place : Place) (source : Source) (v : View) → IsView v → operation_in s ≡ Some (One PUSH) →
     AtRow s place source v → row_width s ≡ Byte →
-    EndsTurn (pushed v) 131 s (turn_at (pieces.push_pointer v).to) (row_result (One PUSH) s place source)
+    EndsBy (pushed v) 131 s (row_result (One PUSH) s place source)
 pushes s place source v i is row narrow =
     let byte = value_at s (row_width s) place in
     let bytes : width_in (destination_bytes s) ≡ Byte =
@@ -88,13 +72,11 @@ pushes s place source v i is row narrow =
     (λ (w : Width). width_in (size_of w)) narrow in
     let value : high (loaded_of s place) ≡ byte =
     ap (λ (w : Width). high (in_register w (value_at s w place))) bytes
-    ∙ byte_back (value_at s Byte place) ∙ ap (λ (w : Width). value_at s w place) (sym narrow) in
+    ∙ high-join (value_at s Byte place) 0 ∙ ap (λ (w : Width). value_at s w place) (sym narrow) in
     let e : v ≡ row_view s place source.number (loaded_of s place) Byte v =
     row_is s place source v (ap reads_destination is) row
     ∙ ap (λ (w : Width). row_view s place source.number (loaded_of s place) w v) narrow in
     let small : slice_index s.cells 0x72 < 256 =
     subst (λ (l : List ℕ). slice_index l 0x72 < 256) row.holds.sees.cells (i.cells 0x72) in
-    subst (λ (w : View). EndsTurn (pushed w) 131 s (turn_at (pieces.push_pointer w).to)
-    (row_result (One PUSH) s place source))
-    (sym e)
+    subst (λ (w : View). EndsBy (pushed w) 131 s (row_result (One PUSH) s place source)) (sym e)
     (turns s place source.number (loaded_of s place) byte value v small row.holds.address)

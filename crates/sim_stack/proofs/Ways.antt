@@ -1,54 +1,46 @@
--- Which way FETCH and PUSH went: there is room on the stack, or they stopped.
-use Rattle.std.proofs.Common.{ℕ, ◌≡◌, arith, false, nat_lt, refl, slice_index, slice_set, true}
-use Rattle.sim_rows.proofs.Common.{exit, Exits, FETCHN, first_way, GSTOP, high, join, low, MachineState, second_way}
-use Rattle.sim_rows.proofs.Common.{STO, sum_of, View, view, WHERE, Word}
-use Rattle.sim_stack.specs.Pieces.{full, offset_of, pointer_at}
-use Rattle.sim_stack.specs.Pieces as pieces
+-- Where the machine went that tested a stack: it stopped, or there was room.
+use Rattle.std.proofs.Common.{ℕ, ◌==◌, ◌∙◌, ◌≡◌, ap, arith, Bool, false, if◌then◌else◌, nat_lt, refl, sym, true}
+use Rattle.std.proofs.lemmas.Bool.{ne_eqb}
+use Rattle.sim_rows.proofs.Common.{exit, Exit, Exits, first_way, GOTO, GSTOP, is_turn_end, MachineState, second_way}
+use Rattle.sim_rows.proofs.Common.{Stands, TAKE, View, view}
+use Rattle.sim_rows.proofs.sim_view.Routines.{exit_then, exits_by}
+use Rattle.sim_rows.specs.sim_view.Routines.{◌>>?◌}
+use Rattle.sim_stack.specs.Pieces.{full, if_room}
 
--- ---- FETCH
+module _ {x y : MachineState} {before middle : ℕ} where
+  -- it stopped, and nothing follows
+  pub stopped : {e : Exit} (f : View → Exit) → y.cpu.pc ≡ GSTOP → Exits x y before middle e →
+      Exits x y before middle (e >>? f)
+  stopped {e = e} f here run =
+      let there : (e.to == GSTOP) ≡ true = ap (λ (n : ℕ). n == GSTOP) (sym run.stands.pc ∙ here) in
+      exits_by (rw there refl) run
 
-abbrev pub offset_in : View → ℕ
-offset_in v = offset_of (join (slice_index v.cells 0x73) (low v.r.r2))
+  -- it went on
+  pub goes_then : {z : MachineState} {after to : ℕ} {e : Exit} (f : View → Exit) → (y.cpu.pc ≡ GSTOP → ⊥) →
+      Exits x y before middle e → Stands y to → is_turn_end to ≡ false → Exits y z middle after (f (view y)) →
+      Exits x z before after (e >>? f)
+  goes_then {e = e} f elsewhere run at end last =
+      let away : (e.to == GSTOP) ≡ false = ne_eqb e.to GSTOP (λ is. elsewhere (run.stands.pc ∙ is)) in
+      exits_by (rw away refl) (exit_then f run (ap is_turn_end (sym run.stands.pc ∙ at.pc) ∙ end) last)
 
-abbrev pub read : View → View
-read v = record v { r = record v.r { r2 = offset_in v } }
+  -- there was room
+  pub room : (last offset count : ℕ) (v : View) (on : Exit) → (y.cpu.pc ≡ GSTOP → ⊥) →
+      Exits x y before middle (if_room last offset count v on) →
+      (nat_lt last offset ≡ false) × Exits x y before middle on
+  unfolding if_room
+  room last offset count v on elsewhere run =
+      second_way GSTOP x y before middle (nat_lt last offset) (full count v) on run refl elsewhere
 
-abbrev pub placed : View → View
-placed v = record (read v) { r = record (read v).r { r10 = v.r.r7; r11 = FETCHN; r15 = v.r.r8 } }
+  -- ---- RTN goes on at TAKE, and RTNC at GOTO
 
--- ---- PUSH
+  pub clears : {b : Bool} {v : View} → y.cpu.pc ≡ TAKE →
+      Exits x y before middle (if b then exit 10 TAKE v else exit 11 GOTO v) →
+      (b ≡ true) × Exits x y before middle (exit 10 TAKE v)
+  clears {b = b} {v = v} here run =
+      first_way TAKE x y before middle b (exit 10 TAKE v) (exit 11 GOTO v) run (λ q. absurd (omega arith)) here
 
-abbrev pub grown_in : View → ℕ
-grown_in v = sum_of Word (pointer_at 0x72 v) 0x0100
-
-abbrev pub grown : View → View
-grown v = record v { r = record v.r { r7 = offset_of (grown_in v); r12 = grown_in v } }
-
-abbrev pub pointed : View → View
-pointed v =
-    record (grown v) { r = record (grown v).r { r8 = 0 }; cells = slice_set v.cells 0x72 (high (grown_in v)) }
-
-module _ {x a : MachineState} {t u : ℕ} where
-  pub place_barred : a.cpu.pc ≡ GSTOP → Exits x a t u (pieces.keep_place (view x)) →
-      (nat_lt 0xC0 (offset_in (view x)) ≡ true) × Exits x a t u (full 7 (read (view x)))
-  place_barred here e =
-      first_way GSTOP x a t u (nat_lt 0xC0 (offset_in (view x))) (full 7 (read (view x)))
-      (exit 7 WHERE (placed (view x))) e (λ q. absurd (omega arith)) here
-
-  pub place_kept : (a.cpu.pc ≡ GSTOP → ⊥) → Exits x a t u (pieces.keep_place (view x)) →
-      (nat_lt 0xC0 (offset_in (view x)) ≡ false) × Exits x a t u (exit 7 WHERE (placed (view x)))
-  place_kept elsewhere e =
-      second_way GSTOP x a t u (nat_lt 0xC0 (offset_in (view x))) (full 7 (read (view x)))
-      (exit 7 WHERE (placed (view x))) e refl elsewhere
-
-  pub push_barred : a.cpu.pc ≡ GSTOP → Exits x a t u (pieces.push_pointer (view x)) →
-      (nat_lt 0xC1 (offset_of (grown_in (view x))) ≡ true) × Exits x a t u (full 10 (grown (view x)))
-  push_barred here e =
-      first_way GSTOP x a t u (nat_lt 0xC1 (offset_of (grown_in (view x)))) (full 10 (grown (view x)))
-      (exit 10 STO (pointed (view x))) e (λ q. absurd (omega arith)) here
-
-  pub pushed_on : (a.cpu.pc ≡ GSTOP → ⊥) → Exits x a t u (pieces.push_pointer (view x)) →
-      (nat_lt 0xC1 (offset_of (grown_in (view x))) ≡ false) × Exits x a t u (exit 10 STO (pointed (view x)))
-  pushed_on elsewhere e =
-      second_way GSTOP x a t u (nat_lt 0xC1 (offset_of (grown_in (view x)))) (full 10 (grown (view x)))
-      (exit 10 STO (pointed (view x))) e refl elsewhere
+  pub keeps : {b : Bool} {v : View} → (y.cpu.pc ≡ TAKE → ⊥) →
+      Exits x y before middle (if b then exit 10 TAKE v else exit 11 GOTO v) →
+      (b ≡ false) × Exits x y before middle (exit 11 GOTO v)
+  keeps {b = b} {v = v} elsewhere run =
+      second_way TAKE x y before middle b (exit 10 TAKE v) (exit 11 GOTO v) run refl elsewhere

@@ -3,15 +3,6 @@ use Rattle.std.specs.Prelude.{Bool, false, Option, Some, true}
 use Rattle.sim_rows.specs.Prelude.{CALL, GplOperation, Jump, One, Plain, PUSH, RTN, RTNC}
 use Rattle.sim_rows.specs.gpl_defs.declared.instruction.OneName.TheVariants.{FETCH}
 
-abbrev pub is_return : Option GplOperation → Bool
-is_return (Some (Plain RTN)) = true
-is_return (Some (Plain RTNC)) = true
-is_return _ = false
-
-abbrev pub is_call : Option GplOperation → Bool
-is_call (Some (Jump CALL)) = true
-is_call _ = false
-
 abbrev pub is_stack_row : Option GplOperation → Bool
 is_stack_row (Some (One FETCH)) = true
 is_stack_row (Some (One PUSH)) = true

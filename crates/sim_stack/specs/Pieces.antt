@@ -20,31 +20,39 @@ offset_of pointer = shifted SRL pointer 8
 abbrev pub full : ℕ → View → Exit
 full count v = exit count GSTOP (record v { r = record v.r { r0 = 3 } })
 
+-- The test of a stack: the stop where the offset is above the last that has room, and else as the piece goes on.
+unfoldable pub if_room : (last offset count : ℕ) → View → Exit → Exit
+if_room last offset count v on = if nat_lt last offset then full count v else on
+
+-- The offset of the word on the return stack's top, and of the next one, as a register has them; its high half has the
+-- pointer, and below that stays what is there.
+abbrev pub return_offset : View → ℕ
+return_offset v = offset_of (join (slice_index v.cells RETURN_STACK) (low v.r.r2))
+
+abbrev pub call_offset : View → ℕ
+call_offset v = offset_of (sum_of Word (join (slice_index v.cells RETURN_STACK) (low v.r.r7)) 0x0200)
+
 -- GORTN: the word is taken off the stack, if it may be read; RTN, whose code byte is 0, goes on at TAKE.
 abbrev pub take_return : View → Exit
 take_return v =
-    let offset = offset_of (join (slice_index v.cells RETURN_STACK) (low v.r.r2)) in
-    if nat_lt 0xC0 offset
-    then full 7 (record v { r = record v.r { r2 = offset } })
-    else (
+    let offset = return_offset v in
     let less = difference_of Word offset 2 in
     let taken = record v {
       r = record v.r { r2 = less; r6 = word_in v.cells offset };
       cells = slice_set v.cells RETURN_STACK (low less);
     } in
-    if v.r.r0 == 0 then exit 10 TAKE taken else exit 11 GOTO taken
-    )
+    if_room 0xC0 offset 7 (record v { r = record v.r { r2 = offset } })
+    (if v.r.r0 == 0 then exit 10 TAKE taken else exit 11 GOTO taken)
 
 -- GOCALL: the word that follows is the target, if there is room for the next address on the stack.
 abbrev pub read_call_target : View → Exit
 read_call_target v =
     let second = past v.grom in
-    let offset = offset_of (sum_of Word (join (slice_index v.cells RETURN_STACK) (low v.r.r7)) 0x0200) in
     let told = record v {
-      r = record v.r { r7 = offset; r14 = join v.grom.fetched second.fetched };
+      r = record v.r { r7 = call_offset v; r14 = join v.grom.fetched second.fetched };
       grom = past second;
     } in
-    if nat_lt 0xC0 offset then full 10 told else exit 7 CALLN told
+    if_room 0xC0 (call_offset v) 10 told (exit 7 CALLN told)
 
 -- CALLN: the next address is the value to store.
 abbrev pub find_next : View → Exit
@@ -75,21 +83,18 @@ abbrev pub push_pointer : View → Exit
 push_pointer v =
     let pointer = sum_of Word (pointer_at VALUE_STACK v) 0x0100 in
     let told = record v { r = record v.r { r7 = offset_of pointer; r12 = pointer } } in
-    if nat_lt 0xC1 (offset_of pointer)
-    then full 10 told
-    else exit 10 STO (record told {
+    if_room 0xC1 (offset_of pointer) 10 told
+    (exit 10 STO (record told {
       r = record told.r { r8 = 0 };
       cells = slice_set v.cells VALUE_STACK (high pointer);
-    })
+    }))
 
 -- FETCHV: the operand's place is kept, and WHERE is asked for the next address, if the word on the stack may be read.
 abbrev pub keep_place : View → Exit
 keep_place v =
-    let offset = offset_of (join (slice_index v.cells RETURN_STACK) (low v.r.r2)) in
-    let told = record v { r = record v.r { r2 = offset } } in
-    if nat_lt 0xC0 offset
-    then full 7 told
-    else exit 7 WHERE (record told { r = record told.r { r10 = v.r.r7; r11 = FETCHN; r15 = v.r.r8 } })
+    let told = record v { r = record v.r { r2 = return_offset v } } in
+    if_room 0xC0 (return_offset v) 7 told
+    (exit 7 WHERE (record told { r = record told.r { r10 = v.r.r7; r11 = FETCHN; r15 = v.r.r8 } }))
 
 -- FETCHN: that address is kept, and GROM is set to it again.
 abbrev pub keep_back : View → Exit

@@ -4,8 +4,6 @@ ghost use Rattle.std.specs.Prelude.{◌≡◌};
 ghost use Rattle.sim_rows.specs.Prelude.{Exits, IsVisible, Stands, view};
 ghost use Rattle.sim_rows.specs.sim_operands.Routines.{CanStore};
 ghost use Rattle.sim_rows.specs.native_interp.declared.addresses.TheConstants as address;
-ghost use Rattle.sim_stack.specs.Rows.{turn_at};
-ghost use Rattle.sim_stack.specs.Pieces as piece;
 ghost use Rattle.sim_stack.specs.Rows as row;
 
 use crate::pieces::{
@@ -16,7 +14,7 @@ use sim_jumps::resume_row_routine;
 use sim_rows::labels::{FETCH, GSTOP, WHERE};
 use sim_rows::processor::{Machine, Steps};
 use sim_rows::subroutines::{fetch_byte, load_routine, seek_address, store_routine};
-use sim_rows::{Reason, Turn, where_next};
+use sim_rows::where_next;
 use std::sync::ledger::Ledger;
 
 /// Keeps the next address, where GROM goes on.
@@ -66,8 +64,7 @@ fn locate_stacked<L: Ledger>(machine: &mut Machine, steps: &mut Steps<L>)
 /// Stores the address and the byte, and goes on after the instruction.
 fn end_fetch<L: Ledger>(machine: &mut Machine, steps: &mut Steps<L>)
     requires stands { Stands machine.old address.FETCHS }
-    requires stack { let r = (view machine.old).r in IsVisible 0 r.r7 r.r3 }
-    requires visible { let r = (view machine.old).r in IsVisible r.r15 r.r10 1 }
+    requires visible { row.CanEnd (view machine.old) }
     ensures { Exits machine.old machine.new steps.old steps.new (row.end_fetch (view machine.old)) }
 {
     store_stacked(machine, steps);
@@ -78,21 +75,19 @@ fn end_fetch<L: Ledger>(machine: &mut Machine, steps: &mut Steps<L>)
 }
 
 /// Runs FETCH from its row to the end of the step.
-pub fn run_fetched<L: Ledger>(machine: &mut Machine, steps: &mut Steps<L>) -> Turn
+pub fn run_fetched<L: Ledger>(machine: &mut Machine, steps: &mut Steps<L>)
     requires stands { Stands machine.old address.FETCHV }
     requires byte { (view machine.old).r.r3 ≡ 1 }
     requires visible { CanStore (view machine.old) }
-    ensures exits { Exits machine.old machine.new steps.old steps.new (row.fetched (view machine.old)) }
-    ensures turn { result ≡ turn_at (piece.keep_place (view machine.old)).to }
+    ensures { Exits machine.old machine.new steps.old steps.new (row.fetched (view machine.old)) }
 {
     keep_place(machine, steps);
     if machine.pc() == GSTOP {
-        return Turn::Stopped(Reason::Stack);
+        return;
     }
     set_aside(machine, steps);
     load_stacked(machine, steps);
     fetch_stacked(machine, steps);
     locate_stacked(machine, steps);
     end_fetch(machine, steps);
-    Turn::Stepped
 }

@@ -1,6 +1,6 @@
 use Rattle.sim_rows.proofs.Family.{at_row, entry, stopped}
 use Rattle.sim_stack.proofs.Dispatch.{rows}
-use Rattle.sim_stack.proofs.StackRows.{byte_row, turned}
+use Rattle.sim_stack.proofs.Meaning.{byte_row, turned}
 use Rattle.sim_stack.proofs.family.run_stack_row.Goals as goal
 
 pub start_row-requires : goal.start_row-requires
@@ -16,4 +16,4 @@ pub run_row-requires-clause-byte : goal.run_row-requires-clause-byte
 run_row-requires-clause-byte g c = byte_row c.requires c.in-Some.is c.start_row.ensures
 
 pub returns : goal.returns
-returns g c = turned c.requires c.in-Some.is c.start_row.ensures _ _ c.run_row.result c.run_row.ensures
+returns g c = turned c.requires c.in-Some.is c.start_row.ensures c.run_row.ensures c.turn_here.ensures

@@ -1,10 +1,8 @@
-use Rattle.sim_stack.proofs.Common.{ap, even, exit_then, is_turn_end, refl, ℕ}
-use Rattle.sim_rows.specs.sim_operands.Pieces as subroutine
-use Rattle.sim_stack.specs.Pieces as piece
+use Rattle.sim_stack.proofs.Common.{ap, even, exit_then, is_turn_end, refl, ℕ, keep_stacked_next, seek}
 use Rattle.sim_stack.proofs.fetch.locate_stacked.Goals as goal
 
 pub returns : goal.returns
 returns g c =
-    let kept = exit_then piece.keep_stacked_next c.where_next.ensures (ap (λ (n : ℕ). is_turn_end (even n)) c.requires.link)
+    let kept = exit_then keep_stacked_next c.where_next.ensures (ap (λ (n : ℕ). is_turn_end (even n)) c.requires.link)
     c.keep_stacked_next.ensures in
-    exit_then subroutine.seek kept refl c.seek_address.ensures
+    exit_then seek kept refl c.seek_address.ensures
