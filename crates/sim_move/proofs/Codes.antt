@@ -1,7 +1,7 @@
 -- Facts about the code bytes of MOVE, by trying all 256.
 use Rattle.std.proofs.Common.{ℕ, ◌%◌, ◌&&◌, ◌/◌, ◌<◌, ◌==◌, ◌∙◌, ◌≡◌, ap, Bool, false, if◌then◌else◌, nat_lt, not, Option, refl, Some, sym, true}
 use Rattle.std.proofs.lemmas.Bool.{agree_below_at, and_parts}
-use Rattle.sim_rows.proofs.Common.{GplOperation, GromIndexedToMemory, GromToMemory, GromToRegisters, Move, MoveKind, operation_at}
+use Rattle.sim_rows.proofs.Common.{GplOperation, GromIndexedToMemory, GromToMemory, GromToRegisters, MemoryToMemory, Move, MoveKind, operation_at}
 
 abbrev pub to_memory : MoveKind → Bool
 to_memory GromToRegisters = false
@@ -15,6 +15,10 @@ is_low _ = false
 abbrev pub has_index : MoveKind → Bool
 has_index GromIndexedToMemory = true
 has_index _ = false
+
+abbrev pub from_grom : MoveKind → Bool
+from_grom MemoryToMemory = false
+from_grom _ = true
 
 abbrev same : Bool → Bool → Bool
 same a b = if a then b else not b

@@ -1,12 +1,12 @@
 -- MOVE from its dispatch to the end of the step.
 use Rattle.std.proofs.Common.{ℕ, ◌*◌, ◌+◌, ◌≡◌, ap, arith, Err, false, Ok, refl, Some, subst, sym, true}
 use Rattle.sim_rows.proofs.Common.{bound, bound_stop, Changes, comes_on, fetched_of, finished, From, FromGrom, FromMemory, GOMOVE, GplState, grom_at, GSTOP}
-use Rattle.sim_rows.proofs.Common.{idle_of, is_turn_end, MachineState, matches, most_to_dispatch, Move, MOVEB, MoveKind, number_of, operation_in, reaches, Reason}
+use Rattle.sim_rows.proofs.Common.{idle_of, is_turn_end, MachineState, matches, most_to_dispatch, Move, MOVEB, MoveKind, number_of, operation_in, reaches, ReachesWithin, Reason, StoppedBy}
 use Rattle.sim_rows.proofs.Common.{from_dispatch, ShowsState, Stands, Stepped, Stopped, stops, To, Turned, turned_by, View, view, WORKSPACE}
 use Rattle.sim_copy.specs.Copying.{CopiesBytes, StandsFrom}
 use Rattle.sim_move.specs.Family.{is_move}
 use Rattle.sim_move.specs.Moves.{AtCopy, begun, copy_in, FindsCopy, MayCopy, source_read, target_read}
-use Rattle.sim_move.proofs.Arrivals.{Found, found, Missing, missing}
+use Rattle.sim_move.proofs.Ends.{came, Comes, stopped}
 use Rattle.sim_move.proofs.Copies.{kind_of}
 use Rattle.sim_move.proofs.Lies.{FromLies, registers_there, source_lies, source_visible, target_lies, target_visible, ToLies}
 use Rattle.sim_move.proofs.MoveSteps.{bound_is, made, no_exit, parts, step_copies, step_stops}
@@ -35,54 +35,57 @@ module _ (s : GplState) {x a : MachineState} {t t1 : ℕ} (stands : Stands x GOM
     start : is_turn_end x.cpu.pc ≡ false
     start = ap is_turn_end stands.pc
 
+    arrives : Comes 160 s x a t t1 MOVEB (AtCopy kind s) (copy_in kind s)
+    arrives = record { by = finds.by kind known }
+
     -- a check fails
     module _ (here : a.cpu.pc ≡ GSTOP) where
-      m : Missing 160 s x a t t1 (copy_in kind s)
-      m = missing 160 s x a t t1 MOVEB (AtCopy kind s) (copy_in kind s) (λ e. absurd (omega arith)) here (finds.by kind known)
+      m : (reason : Reason) × (copy_in kind s ≡ Err reason) × ReachesWithin 160 x a t t1 GSTOP (StoppedBy s reason)
+      m = stopped (copy_in kind s) arrives refl here
 
       pub workspace : a.cpu.wp ≡ WORKSPACE
-      workspace = m.comes.stands.wp
+      workspace = m.2.stands.wp
 
-      pub stopped : (told : Reason) → ((reason : Reason) → (view a).r.r0 ≡ number_of reason → told ≡ reason) → Turned s x a (from_dispatch t t1) (Stopped told)
-      stopped told is =
-          let e = step_stops s kind known m.reason m.is in
-          let b = bound_stop s m.reason e in
-          let same : told ≡ m.reason = is m.reason m.comes.holds.reason_is in
+      pub stops_by : (told : Reason) → ((reason : Reason) → (view a).r.r0 ≡ number_of reason → told ≡ reason) → Turned s x a (from_dispatch t t1) (Stopped told)
+      stops_by told is =
+          let e = step_stops s kind known m.0 m.1 in
+          let b = bound_stop s m.0 e in
+          let same : told ≡ m.0 = is m.0 m.2.holds.reason_is in
           let P : Reason → Type 0 = λ r. Turned s x a (from_dispatch t t1) (Stopped r) in
           subst P (sym same)
-          (turned_by x a t t1 most_to_dispatch (Stopped m.reason) s (Err m.reason) e
-          (refl, reaches most_to_dispatch (bound s) m.comes start refl (omega arith), stops s m.reason a (no_exit s kind m.reason m.is) m.comes.stands m.comes.holds))
+          (turned_by x a t t1 most_to_dispatch (Stopped m.0) s (Err m.0) e
+          (refl, reaches most_to_dispatch (bound s) m.2 start refl (omega arith), stops s m.0 a (no_exit s kind m.0 m.1) m.2.stands m.2.holds))
 
     -- all is found
     module _ (away : a.cpu.pc ≡ GSTOP → ⊥) where
-      g : Found 160 x a t t1 MOVEB (AtCopy kind s) (copy_in kind s)
-      g = found 160 s x a t t1 MOVEB (AtCopy kind s) (copy_in kind s) away (finds.by kind known)
+      g : (found : (ℕ × To) × From) × (copy_in kind s ≡ Ok found) × ReachesWithin 160 x a t t1 MOVEB (AtCopy kind s found)
+      g = came (copy_in kind s) arrives away
 
-      to_lies : ToLies g.found.0.0 g.found.0.1
-      to_lies = target_lies s g.found.0.0 (target_read kind s).0 g.found.0.1 (parts s kind g.found g.is).target
+      to_lies : ToLies g.0.0.0 g.0.0.1
+      to_lies = target_lies s g.0.0.0 (target_read kind s).0 g.0.0.1 (parts s kind g.0 g.1).target
 
-      from_lies : FromLies g.found.0.0 g.found.1
-      from_lies = source_lies s g.found.0.0 (source_read kind s).0 g.found.1 (parts s kind g.found g.is).source
+      from_lies : FromLies g.0.0.0 g.0.1
+      from_lies = source_lies s g.0.0.0 (source_read kind s).0 g.0.1 (parts s kind g.0 g.1).source
 
       pub may_copy : MayCopy a
       may_copy =
-          let h = g.comes.holds in
-          let at = place_in_grom (begun kind s) g.found.1 in
-          let sees = sees_of kind s g.found (view a) h in
+          let h = g.2.holds in
+          let at = place_in_grom (begun kind s) g.0.1 in
+          let sees = sees_of kind s g.0 (view a) h in
           record {
-            stands = g.comes.stands;
+            stands = g.2.stands;
             idle = idle_of a.cpu.memory s at sees;
             fetched = fetched_of a.cpu.memory s at sees;
-            source = source_visible g.found.0.0 (begun kind s) g.found.1 (view a) h.stands_from h.left from_lies;
-            target = target_visible g.found.0.0 g.found.0.1 (view a) h.stands_to h.left to_lies;
-            registers = registers_there g.found.0.0 g.found.0.1 (view a) h.stands_to h.left to_lies;
+            source = source_visible g.0.0.0 (begun kind s) g.0.1 (view a) h.stands_from h.left from_lies;
+            target = target_visible g.0.0.0 g.0.0.1 (view a) h.stands_to h.left to_lies;
+            registers = registers_there g.0.0.0 g.0.0.1 (view a) h.stands_to h.left to_lies;
           }
 
       pub turned : {y : MachineState} {t2 : ℕ} → CopiesBytes a y t1 t2 → Turned s x y (from_dispatch t t2) Stepped
       turned {y = y} {t2 = t2} copies =
-          let bytes = g.found.0.0 in
-          let next = finished (made s kind g.found) in
-          let c = comes_on 160 (31 * bytes + 41) g.comes (copies (begun kind s) g.found.1 g.found.0.1 bytes g.comes.holds) refl in
-          let e = step_copies s kind known g.found g.is in
-          let b = bound_is s kind known g.found g.is in
+          let bytes = g.0.0.0 in
+          let next = finished (made s kind g.0) in
+          let c = comes_on 160 (31 * bytes + 41) g.2 (copies (begun kind s) g.0.1 g.0.0.1 bytes g.2.holds) refl in
+          let e = step_copies s kind known g.0 g.1 in
+          let b = bound_is s kind known g.0 g.1 in
           turned_by x y t t2 most_to_dispatch Stepped s (Ok next) e (refl, reaches most_to_dispatch (bound s) c start refl (omega arith), matches next y c.stands c.holds)

@@ -1,11 +1,13 @@
 pub mod Numbers
 pub mod Paths
-pub mod CopyPaths
-pub mod Lengths
 pub mod Codes
+pub mod Ends
+pub mod Operands
+pub mod Seen
+pub mod Lengths
 pub mod Targets
 pub mod Sources
-pub mod Arrivals
+pub mod Common
 pub mod Copies
 pub mod Lies
 pub mod MoveSteps

@@ -2,7 +2,7 @@
 use Rattle.std.proofs.Common.{ℕ, ◌+◌, ◌<◌, ◌∙◌, ◌≡◌, ◌≤◌, arith, Err, nat_le, Ok, refl, Result, Some, subst, sym}
 use Rattle.std.proofs.lemmas.Bool.{leb-true}
 use Rattle.sim_rows.proofs.Common.{◌>>=◌, Changes, From, FromGrom, FromMemory, GplState, indexed, lies_at, MoveSource, MoveTarget, number_of_space, origin_of}
-use Rattle.sim_rows.proofs.Common.{Place, place_lies, place_of, Reason, Register, space_small, target_of, To, ToMemory, ToRegisters, View}
+use Rattle.sim_rows.proofs.Common.{place_lies, place_of, Reason, space_small, target_of, To, ToMemory, ToRegisters, View}
 use Rattle.sim_rows.proofs.Common.{pick}
 use Rattle.sim_copy.specs.Copying.{StandsFrom, StandsTo}
 use Rattle.sim_rows.specs.gpl_defs.declared.instruction.MoveTarget.TheVariants as target
@@ -16,36 +16,32 @@ abbrev pub FromLies : ℕ → From → Type 0
 FromLies bytes (FromMemory place) = number_of_space place.space ≡ 0 → place.address + bytes ≤ 0xC2
 FromLies bytes (FromGrom address) = Unit {0}
 
--- what an answer gives lies so
-abbrev Gives : {X : Type 0} → (X → Type 0) → Result X Reason → Type 0
+-- what an answer gives is so
+abbrev pub Gives : {X : Type 0} → (X → Type 0) → Result X Reason → Type 0
 Gives Good (Ok x) = Good x
 Gives Good (Err reason) = Unit {0}
 
-gives_at : {X : Type 0} (Good : X → Type 0) (r : Result X Reason) (x : X) → Gives Good r → r ≡ Ok x → Good x
+pub gives_at : {X : Type 0} (Good : X → Type 0) (r : Result X Reason) (x : X) → Gives Good r → r ≡ Ok x → Good x
 gives_at Good r x h e = subst (Gives Good) e h
 
-place_gives : {X : Type 0} (Good : X → Type 0) (bytes : ℕ) (r : Result Place Reason) (f : Place → X) → ((place : Place) → r ≡ Ok place → Good (f place)) →
-    Gives Good (r >>= λ p. Ok (f p))
-place_gives Good bytes (Ok place) f h = h place refl
-place_gives Good bytes (Err reason) f h = tt
-
-index_gives : (bytes : ℕ) (r : Result ℕ Reason) → Gives (FromLies bytes) (r >>= λ address. Ok (FromGrom address))
-index_gives bytes (Ok address) = tt
-index_gives bytes (Err reason) = tt
+pub then_gives : {X Y : Type 0} (Good : Y → Type 0) (r : Result X Reason) (f : X → Result Y Reason) →
+    ((x : X) → r ≡ Ok x → Gives Good (f x)) → Gives Good (r >>= f)
+then_gives Good (Ok x) f h = h x refl
+then_gives Good (Err reason) f h = tt
 
 target_gives : (s : GplState) (bytes : ℕ) (t : MoveTarget) → Gives (ToLies bytes) (target_of s bytes t)
 target_gives s bytes (target.At operand) =
-    place_gives (ToLies bytes) bytes (place_of s bytes operand) ToMemory (λ place e. lies_at bytes (place_of s bytes operand) place
+    then_gives (ToLies bytes) (place_of s bytes operand) _ (λ place e. lies_at bytes (place_of s bytes operand) place
     (place_lies s bytes operand) e)
 target_gives s bytes (target.Register number) =
     pick (nat_le (number + bytes) 8) (λ e. rw e (leb-true (number + bytes) 8 e)) (λ e. rw e tt)
 
 source_gives : (s : GplState) (bytes : ℕ) (t : MoveSource) → Gives (FromLies bytes) (origin_of s bytes t)
 source_gives s bytes (source.At operand) =
-    place_gives (FromLies bytes) bytes (place_of s bytes operand) FromMemory (λ place e. lies_at bytes (place_of s bytes operand) place
+    then_gives (FromLies bytes) (place_of s bytes operand) _ (λ place e. lies_at bytes (place_of s bytes operand) place
     (place_lies s bytes operand) e)
 source_gives s bytes (source.Grom address) = tt
-source_gives s bytes (source.GromIndexed address index) = index_gives bytes (indexed s (Some index) address)
+source_gives s bytes (source.GromIndexed address index) = then_gives (FromLies bytes) (indexed s (Some index) address) _ (λ a e. tt)
 
 pub target_lies : (s : GplState) (bytes : ℕ) (t : MoveTarget) (to : To) → target_of s bytes t ≡ Ok to → ToLies bytes to
 target_lies s bytes t to e = gives_at (ToLies bytes) (target_of s bytes t) to (target_gives s bytes t) e

@@ -2,7 +2,7 @@
 use Rattle.std.proofs.Common.{ℕ, ◌*◌, ◌+◌, ◌∙◌, ◌≡◌, ap, Err, nat_le, nat_lt, Ok, refl, Result, Some, subst}
 use Rattle.sim_rows.proofs.Common.{◌>>=◌, bound, bound_made, bytes_or_none, Changes, copied, finished, From, FromMemory, GplState, indexed, is_visible}
 use Rattle.sim_rows.proofs.Common.{length_of, Lies, Move, moved, MoveKind, MoveLength, MoveSource, MoveTarget, operation_in, origin_of, Place}
-use Rattle.sim_rows.proofs.Common.{place_lies, place_of, place_same, Reason, Register, step, step_move, target_of, To, ToMemory, value_at}
+use Rattle.sim_rows.proofs.Common.{place_lies, place_of, place_same, Reason, step, step_move, target_of, To, ToMemory, value_at}
 use Rattle.sim_rows.proofs.Common.{value_same, within_limit, Word, pick}
 use Rattle.sim_rows.specs.gpl_step_defs.declared.reason.Reason.TheVariants.{Exit}
 use Rattle.sim_rows.specs.gpl_defs.declared.instruction.MoveLength.TheVariants as counted
@@ -10,7 +10,7 @@ use Rattle.sim_rows.specs.gpl_defs.declared.instruction.MoveTarget.TheVariants a
 use Rattle.sim_rows.specs.gpl_defs.declared.instruction.MoveSource.TheVariants as source
 use Rattle.sim_rows.proofs.Steps.{bind_same}
 use Rattle.sim_move.specs.Moves.{begun, copy_in, length_read, source_read, target_in, target_read}
-use Rattle.sim_move.proofs.Arrivals.{both}
+use Rattle.sim_move.proofs.Lies.{Gives, gives_at, then_gives}
 use Rattle.sim_move.proofs.Numbers.{within_is}
 
 -- ---- another pc makes no difference
@@ -100,41 +100,22 @@ module _ (s : GplState) (kind : MoveKind) where
     pub target : target_of s f.0.0 (target_read kind s).0 ≡ Ok f.0.1
     pub source : origin_of s f.0.0 (source_read kind s).0 ≡ Ok f.1
 
-  same_parts : (f : (ℕ × To) × From) (g : (ℕ × To) × From) → ◌≡◌ {A = Result ((ℕ × To) × From) Reason} (Ok g) (Ok f) → g ≡ f
-  same_parts f g e = ap (in_ok f) e
-    where
-      in_ok : (ℕ × To) × From → Result ((ℕ × To) × From) Reason → (ℕ × To) × From
-      in_ok other (Ok f) = f
-      in_ok other (Err reason) = other
+  abbrev TargetParts : ℕ → ℕ × To → Type 0
+  TargetParts count found = (count ≡ found.0) × (target_of s found.0 (target_read kind s).0 ≡ Ok found.1)
+
+  target_parts : (count : ℕ) → Gives (TargetParts count) (target_in s count (target_read kind s).0)
+  target_parts count =
+      then_gives (TargetParts count) (within_limit count) _ (λ bytes limit.
+      then_gives (TargetParts count) (target_of s bytes (target_read kind s).0) _ (λ to is. ((within_is count bytes limit).0, is)))
 
   pub parts : (f : (ℕ × To) × From) → copy_in kind s ≡ Ok f → Parts f
   parts f e =
-      let o = (source_read kind s).0 in
-      let t = (target_read kind s).0 in
-      let one = both (length_of s (length_read s).0) (λ count. (target_in s count t >>= λ found. (origin_of s found.0 o >>= triple_of found))) f e in
-      let two = both (target_in s one.0 t) (λ found. (origin_of s found.0 o >>= triple_of found)) f one.2 in
-      let three = both (origin_of s two.0.0 o) (triple_of two.0) f two.2 in
-      let four = both (within_limit one.0) (λ bytes. (target_of s bytes t >>= pair_of bytes)) two.0 two.1 in
-      let five = both (target_of s four.0 t) (pair_of four.0) two.0 four.2 in
-      let limit = (within_is one.0 four.0 four.1).0 in
-      let pair_is : (four.0, five.0) ≡ two.0 = pair_in two.0 (four.0, five.0) five.2 in
-      let all : (two.0, three.0) ≡ f = same_parts f (two.0, three.0) three.2 in
-      let P : ℕ × To → Type 0 = λ q. (length_of s (length_read s).0 ≡ Ok q.0) × (target_of s q.0 t ≡ Ok q.1) in
-      let first : P two.0 = subst P pair_is (one.1 ∙ ap Ok limit, five.1) in
-      subst Parts all (record { length = first.0; target = first.1; source = three.1 })
-    where
-      triple_of : ℕ × To → From → Result ((ℕ × To) × From) Reason
-      triple_of found from = Ok (found, from)
-
-      pair_of : ℕ → To → Result (ℕ × To) Reason
-      pair_of bytes to = Ok (bytes, to)
-
-      pair_in : (f g : ℕ × To) → ◌≡◌ {A = Result (ℕ × To) Reason} (Ok g) (Ok f) → g ≡ f
-      pair_in f g e = ap (found_in f) e
-        where
-          found_in : ℕ × To → Result (ℕ × To) Reason → ℕ × To
-          found_in other (Ok f) = f
-          found_in other (Err reason) = other
+      gives_at Parts (copy_in kind s) f
+      (then_gives Parts (length_of s (length_read s).0) _ (λ count length.
+      then_gives Parts (target_in s count (target_read kind s).0) _ (λ found is.
+      let target = gives_at (TargetParts count) (target_in s count (target_read kind s).0) found (target_parts count) is in
+      then_gives Parts (origin_of s found.0 (source_read kind s).0) _ (λ from source.
+      record { length = length ∙ ap Ok target.0; target = target.1; source = source })))) e
 
   pub bound_is : operation_in s ≡ Some (Move kind) → (f : (ℕ × To) × From) → copy_in kind s ≡ Ok f → bound s ≡ 440 + 64 * f.0.0
   bound_is known f e =

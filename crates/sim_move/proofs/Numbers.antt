@@ -2,7 +2,9 @@
 use Rattle.std.proofs.Common.{ℕ, ◌%◌, ◌*◌, ◌+◌, ◌/◌, ◌<◌, ◌==◌, ◌≡◌, ◌≤◌, ap, arith, Bool, eqb, Err, false, if◌then◌else◌, nat_lt, Ok, refl}
 use Rattle.std.proofs.Common.{Result, true}
 use Rattle.std.proofs.lemmas.Bool.{agree_below_at, eqb-true, ltb-false}
-use Rattle.sim_rows.proofs.Common.{join, last_out, Length, Reason, shifted, SRL, within_limit}
+use Rattle.std.proofs.lemmas.Nat.{and_assoc, and_le_r, and_mask}
+use Rattle.std.specs.Int.Bits.{bit_and}
+use Rattle.sim_rows.proofs.Common.{conjunction_of, join, last_out, Length, Reason, shifted, SRL, within_limit}
 use Rattle.sim_move.specs.Pieces.{form_of}
 
 -- a byte that was read over a cleared register comes down
@@ -29,6 +31,15 @@ form_index code = let n : form_by code / 64 % 2 ≡ code / 2 % 2 = omega arith i
 
 pub form_space : (code : ℕ) → (form_by code / 32 % 2 == 1) ≡ true
 form_space code = let n : form_by code / 32 % 2 ≡ 1 = omega arith in ap (λ (k : ℕ). eqb k 1) n
+
+-- Its lowest bit is video memory, whatever the code byte.
+pub form_odd : (code : ℕ) → conjunction_of (form_of code) 1 ≡ 1
+form_odd code =
+    let low = and_mask (bit_and code 2) 1 in
+    let swap = and_assoc 1 code 2 in
+    let none : bit_and code (bit_and 2 1) ≤ 0 = and_le_r code 0 in
+    let odd = and_mask (form_of code) 1 in
+    omega arith
 
 number_in : Result ℕ Reason → ℕ
 number_in (Ok n) = n

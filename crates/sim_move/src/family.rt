@@ -9,11 +9,10 @@ ghost use Rattle.sim_move.specs.Moves.{FindsCopy, MayCopy};
 ghost use Rattle.sim_rows.specs.native_interp.declared.addresses.TheConstants as address;
 
 use crate::length::find_length;
-use crate::operand::find_operand;
 use crate::source::{index_source, turn_to_source};
-use crate::target::find_target;
+use crate::target::find_places;
 use sim_copy::copy_bytes;
-use sim_rows::labels::{GSTOP, MOVES, WORKSPACE};
+use sim_rows::labels::{GSTOP, MOVEL, MOVES, WORKSPACE};
 use sim_rows::processor::{Machine, Steps};
 use sim_rows::{Reason, Turn, register};
 use std::sync::ledger::Ledger;
@@ -26,15 +25,11 @@ fn decode_move<L: Ledger>(machine: &mut Machine, steps: &mut Steps<L>)
     ensures { let s = state_at_dispatch (view machine.old) in FindsCopy s machine.old machine.new steps.old steps.new }
 {
     find_length(machine, steps);
-    if machine.pc() == GSTOP {
+    if machine.pc() != MOVEL {
         return;
     }
-    find_target(machine, steps);
-    if machine.pc() == GSTOP {
-        return;
-    }
+    find_places(machine, steps);
     if machine.pc() != MOVES {
-        find_operand(machine, steps);
         return;
     }
     index_source(machine, steps);

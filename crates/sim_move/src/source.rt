@@ -1,33 +1,31 @@
 //! A source in GROM.
 
-ghost use Rattle.sim_rows.specs.Prelude.{Stands};
-ghost use Rattle.sim_move.specs.Moves.{IndexesSource, TurnsToSource};
+ghost use Rattle.sim_rows.specs.Prelude.{Exits, Stands, view};
 ghost use Rattle.sim_rows.specs.native_interp.declared.addresses.TheConstants as address;
+ghost use Rattle.sim_move.specs.Rows as row;
 
+use crate::operand::check_index;
 use crate::pieces::{ask_index, ask_next, ask_source, seek_source, turn_to_grom};
 use sim_rows::processor::{Machine, Steps};
-use sim_rows::subroutines::{add_index, check_range, seek_address, stream_value};
+use sim_rows::subroutines::{seek_address, stream_value};
 use sim_rows::where_next;
 use std::sync::ledger::Ledger;
 
 /// Reads the address of a source in GROM and adds its index, or stops by reason 2.
 pub(crate) fn index_source<L: Ledger>(machine: &mut Machine, steps: &mut Steps<L>)
     requires { Stands machine.old address.MOVES }
-    ensures { IndexesSource machine.old machine.new steps.old steps.new }
+    ensures { Exits machine.old machine.new steps.old steps.new (row.index_source (view machine.old)) }
 {
     ask_source(machine, steps);
     stream_value(machine, steps);
     ask_index(machine, steps);
-    if !add_index(machine, steps) {
-        return;
-    }
-    check_range(machine, steps);
+    check_index(machine, steps);
 }
 
 /// Keeps the next address and sets GROM to the address of the source.
 pub(crate) fn turn_to_source<L: Ledger>(machine: &mut Machine, steps: &mut Steps<L>)
     requires { Stands machine.old address.MOVEX }
-    ensures { TurnsToSource machine.old machine.new steps.old steps.new }
+    ensures { Exits machine.old machine.new steps.old steps.new (row.turn_to_source (view machine.old)) }
 {
     ask_next(machine, steps);
     where_next(machine, steps);

@@ -1,31 +1,48 @@
-//! The target of MOVE.
+//! The target of MOVE, and the source where it is in memory.
 
-ghost use Rattle.sim_move.specs.Moves.{AsksTarget, FindsTarget};
+ghost use Rattle.sim_rows.specs.Prelude.{Exits, Stands, view};
+ghost use Rattle.sim_rows.specs.native_interp.declared.addresses.TheConstants as address;
+ghost use Rattle.sim_move.specs.Rows as row;
 
 use crate::operand::find_operand;
 use crate::pieces::{count_registers, keep_length, keep_target};
-use sim_rows::labels::{GSTOP, MOVER};
+use sim_rows::labels::{ADDR, MOVED, MOVER};
 use sim_rows::processor::{Machine, Steps};
 use std::sync::ledger::Ledger;
 
-/// Keeps the length of MOVE and finds the target: a place in memory, or registers of the video processor. It stops by
-/// reason 4 where the length is above its limit, by reason 5 where a register is not there, and by reason
-/// 2 where a cell is not visible.
-pub(crate) fn find_target<L: Ledger>(machine: &mut Machine, steps: &mut Steps<L>)
-    requires { AsksTarget machine.old }
-    ensures { FindsTarget machine.old machine.new steps.old steps.new }
+/// Keeps the target, and finds the source where that is in memory too, or stops by reason 2.
+fn find_source<L: Ledger>(machine: &mut Machine, steps: &mut Steps<L>)
+    requires { Stands machine.old address.MOVED }
+    ensures { Exits machine.old machine.new steps.old steps.new (row.find_source (view machine.old)) }
+{
+    keep_target(machine, steps);
+    if machine.pc() == ADDR {
+        find_operand(machine, steps);
+    }
+}
+
+/// Finds a target in memory and goes on to the source, or stops by reason 2.
+fn find_in_memory<L: Ledger>(machine: &mut Machine, steps: &mut Steps<L>)
+    requires { Stands machine.old address.ADDR }
+    ensures { Exits machine.old machine.new steps.old steps.new (row.find_in_memory (view machine.old)) }
+{
+    find_operand(machine, steps);
+    if machine.pc() == MOVED {
+        find_source(machine, steps);
+    }
+}
+
+/// Keeps the length of MOVE and finds the target, a place in memory or registers of the video processor, and the
+/// source, unless that is in GROM. It stops by reason 4 where the length is above its limit, by reason 5 where a
+/// register is not there, and by reason 2 where a cell is not visible.
+pub(crate) fn find_places<L: Ledger>(machine: &mut Machine, steps: &mut Steps<L>)
+    requires { Stands machine.old address.MOVEL }
+    ensures { Exits machine.old machine.new steps.old steps.new (row.find_places (view machine.old)) }
 {
     keep_length(machine, steps);
-    if machine.pc() == GSTOP {
-        return;
-    }
     if machine.pc() == MOVER {
         count_registers(machine, steps);
-        return;
+    } else if machine.pc() == ADDR {
+        find_in_memory(machine, steps);
     }
-    find_operand(machine, steps);
-    if machine.pc() == GSTOP {
-        return;
-    }
-    keep_target(machine, steps);
 }

@@ -9,7 +9,7 @@ reason_told-requires g c =
 
 pub returns-then-pc-eq-GSTOP : goal.returns-then-pc-eq-GSTOP
 returns-then-pc-eq-GSTOP g c =
-    Dispatch.stopped (state c.args.machine.now) (stands_move c.requires) c.requires.family c.decode_move.ensures (on c.pc.ensures.value c.if-pc-eq-GSTOP.true)
+    Dispatch.stops_by (state c.args.machine.now) (stands_move c.requires) c.requires.family c.decode_move.ensures (on c.pc.ensures.value c.if-pc-eq-GSTOP.true)
     c.reason_told.result c.reason_told.ensures
 
 pub copy_found-requires : goal.copy_found-requires

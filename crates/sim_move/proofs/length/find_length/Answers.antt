@@ -1,28 +1,13 @@
-use Rattle.sim_rows.proofs.Common.{off, on}
-use Rattle.sim_move.proofs.Lengths
+use Rattle.sim_move.proofs.Common.{ADDR, asks_on, exit_then, find_length, goes_at, load_count, load_placed, refl, stays, view}
 use Rattle.sim_move.proofs.length.find_length.Goals as goal
 
-pub load_count-requires : goal.load_count-requires
-load_count-requires g c = Lengths.asks_direct _ c.requires.dispatched c.ask_length.ensures (off c.pc.ensures.value c.if-pc-ne-ADDR.true)
+pub returns-then-pc-eq-ADDR : goal.returns-then-pc-eq-ADDR
+unfolding find_length
+returns-then-pc-eq-ADDR g c =
+    goes_at c.pc.ensures.value ADDR load_placed _ c.ask_length.ensures c.if-pc-eq-ADDR.true refl c.load_placed.ensures
 
-pub returns-then-pc-ne-ADDR : goal.returns-then-pc-ne-ADDR
-returns-then-pc-ne-ADDR g c =
-    Lengths.found_direct _ c.requires.dispatched c.ask_length.ensures (off c.pc.ensures.value c.if-pc-ne-ADDR.true) c.load_count.ensures.following
-
-pub find_operand-requires : goal.find_operand-requires
-find_operand-requires g c = Lengths.asks_operand _ c.requires.dispatched c.ask_length.ensures (on c.pc.ensures.value c.if-pc-ne-ADDR.false)
-
-pub returns-then-pc-eq-GSTOP : goal.returns-then-pc-eq-GSTOP
-returns-then-pc-eq-GSTOP g c =
-    Lengths.stopped _ c.requires.dispatched c.ask_length.ensures (on c.pc.ensures.value c.if-pc-ne-ADDR.false) _ _ c.find_operand.ensures
-    (on c.pc-2.ensures.value c.if-pc-eq-GSTOP.true)
-
-pub load_count-requires-2 : goal.load_count-requires-2
-load_count-requires-2 g c =
-    Lengths.asks_placed _ c.requires.dispatched c.ask_length.ensures (on c.pc.ensures.value c.if-pc-ne-ADDR.false) _ _ c.find_operand.ensures
-    (off c.pc-2.ensures.value c.if-pc-eq-GSTOP.false)
-
-pub returns : goal.returns
-returns g c =
-    Lengths.found_placed _ c.requires.dispatched c.ask_length.ensures (on c.pc.ensures.value c.if-pc-ne-ADDR.false) _ _ c.find_operand.ensures
-    (off c.pc-2.ensures.value c.if-pc-eq-GSTOP.false) c.load_count-2.ensures.placed
+pub returns-else-pc-eq-ADDR : goal.returns-else-pc-eq-ADDR
+unfolding find_length
+returns-else-pc-eq-ADDR g c =
+    stays c.pc.ensures.value ADDR load_placed c.ask_length.ensures c.if-pc-eq-ADDR.false
+    (exit_then load_count c.ask_length.ensures (asks_on (view c.args.machine.now)) c.load_count.ensures)

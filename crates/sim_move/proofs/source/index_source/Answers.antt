@@ -1,13 +1,11 @@
-use Rattle.std.proofs.Common.{◌∙◌, sym}
-use Rattle.sim_move.proofs.Sources
+use Rattle.std.proofs.Common.{refl}
+use Rattle.sim_rows.proofs.sim_view.Routines.{exit_then}
+use Rattle.sim_rows.specs.sim_operands.Pieces as subroutine
+use Rattle.sim_move.specs.Rows.{check_index}
+use Rattle.sim_move.specs.Pieces as piece
 use Rattle.sim_move.proofs.source.index_source.Goals as goal
 
-pub returns-then-not-add_index : goal.returns-then-not-add_index
-returns-then-not-add_index g c s bytes next fits h =
-    Sources.stopped c.ask_source.ensures c.stream_value.ensures c.ask_index.ensures c.add_index.ensures.exits s fits h
-    (sym c.add_index.ensures.went ∙ c.if-not-add_index.true)
-
 pub returns : goal.returns
-returns g c s bytes next fits h =
-    Sources.found c.ask_source.ensures c.stream_value.ensures c.ask_index.ensures c.add_index.ensures.exits s fits h c.check_range.ensures
-    (sym c.add_index.ensures.went ∙ c.if-not-add_index.false)
+returns g c =
+    let read = exit_then subroutine.stream c.ask_source.ensures refl c.stream_value.ensures in
+    exit_then check_index (exit_then piece.ask_index read refl c.ask_index.ensures) refl c.check_index.ensures
