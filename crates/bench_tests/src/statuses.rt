@@ -8,7 +8,13 @@ use std::alloc::{AllocError, Global};
 use std::test::Fail;
 
 /// Words that are no command.
-const NO_COMMANDS: &[&[&[u8]]] = &[&[], &[b""], &[b"GASM"], &[b"run", b"007"], &[b"demo", b"1", b"1"]];
+const NO_COMMANDS: &[&[&[u8]]] = &[
+    &[],
+    &[b""],
+    &[b"GASM"],
+    &[b"run", b"007"],
+    &[b"demo", b"1", b"1"],
+];
 
 /// Whether words are answered by the usage line, and nothing is read.
 fn is_usage(alloc: Global, words: &[&[u8]]) -> Result<bool, AllocError> {

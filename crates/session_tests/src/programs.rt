@@ -37,12 +37,7 @@ pub(crate) fn machine_of(alloc: Global, program: Program) -> Option<Machine>
     }
     let program = gpl_assemble(alloc, source).ok()?;
     let interpreter = build_interp(alloc).ok()?;
-    load_interpreter(
-        alloc,
-        &interpreter,
-        program.image.bytes(),
-        program.entry?,
-    ).ok()
+    load_interpreter(alloc, &interpreter, program.image.bytes(), program.entry?).ok()
 }
 
 /// A screen, a loop that counts down, and a subroutine that goes on by the count.
