@@ -6,7 +6,7 @@ import gpl_demo
 import gpl_images
 from gpl_assembler import Refused, assemble, image_bytes
 from gpl_listing import listing, listing_text
-from gpl_programs import program, raw_program
+from gpl_programs import program, raw_program, short_program
 from gpl_report import Run, comparable
 from gpl_sources import damaged, source, text_of
 from gpl_step import EXIT, Console
@@ -46,7 +46,8 @@ def given_text(generator):
     choice = generator.random()
     if choice < 0.1:
         return source(generator)
-    lines = raw_program(generator) if choice < 0.25 else program(generator)
+    make = short_program if choice < 0.3 else raw_program if choice < 0.4 else program
+    lines = make(generator)
     return text_of(generator, damaged(generator, lines) if generator.random() < 0.15 else lines)
 
 

@@ -3,6 +3,7 @@ stop."""
 import gpl_images
 import gpl_writing
 from gpl_assembler import Assembler
+from gpl_borders import AT_BUFFER, CALL_STACKS, DATA_STACKS, DONE, LAST, PAIRS, STOPS
 from gpl_table import TWO
 from gpl_writing import BY_FORM, OPERATIONS
 
@@ -16,29 +17,6 @@ PLAIN_ONE = [name for name in BY_FORM['one'] if name not in ('CASE', 'DCASE', 'F
 PLAIN_TWO = sorted(name for name in TWO if name not in ('MUL', 'DIV', 'EX'))
 COMPARES = ('CH', 'CHE', 'CGT', 'CGE', 'CEQ', 'CLOG')
 TESTS = ('H', 'GT', 'CARRY', 'OVF')
-STOPS = (
-    ' BYTE >0F', ' BYTE >98,>00', ' ST @>83C2,1', ' DST @>83C1,1', ' MUL @>83C1,2', ' DDIV @>83BF,1', ' ST *>837C,1',
-    ' CLR V*>837C', ' ST @>8300,@>8300(@>83C1)', ' CLR *>83C1', ' MOVE 16385,V@0,V@0', ' MOVE 9,R@0,G@0',
-    ' MOVE 0,R@9,G@0', ' MOVE 195,@>8300,V@0', ' MOVE 1,@>83C2,G@0', ' MOVE 0,@>83C3,G@0', ' MOVE 0,V@0,G@0(@>83C1)',
-    ' MOVE @>83C1,V@0,V@0', ' EXIT', ' BYTE >C2,0,0', ' DINC V*>83C1', ' INC *>8320(@>83C1)', ' FETCH @>83C2',
-    ' PUSH @>83C2', ' MOVE 2,V@0,@>83C1', ' MOVE @>8300,R@8,G@0',
-)
-# steps at the borders of what is visible and of MOVE, which are done
-DONE = (
-    ' MOVE 0,@>83C2,G@0', ' MOVE 0,R@8,G@0', ' MOVE 8,R@0,G@>7FFC', ' MOVE 194,V@>3FFF,@>8300', ' MOVE 16384,V@1,V@0',
-    ' MOVE 34,@>83A0,V@>3FF0', ' DST @>83C0,>8000', ' MUL @>83C0,3', ' DMUL @>83BE,3', ' DDIV @>83BE,3',
-    ' DEX @>83C0,@>8340', ' CLR V*>837B', ' ST V@0(@>83C0),1', ' FETCH V@>3FFF', ' PUSH @>8372', ' PUSH @>8373',
-    ' DINC V@>3FFF', ' DCLR @>837C', ' MUL V@>3FFE,>FF', ' DDIV V@>3FFD,>7FFF', ' DADD @>837B,>0101',
-    ' ST @>837C,>FF', ' DNEG @>837C', ' EX @>837C,@>837D', ' MOVE 4,@>8341,@>8340', ' MOVE 4,@>8340,@>8341',
-    ' MOVE 4,V@1,V@0', ' MOVE 3,@>837C,@>837B', ' MOVE 1,@>837D,@>837D', ' ST *>8320,*>8322', ' RAND 0', ' RAND 255',
-    ' SRA @>8340,15', ' DSRC @>8340,16', ' SRC @>8340,8', ' SLL @>8340,9',
-)
-# stack pointers at the borders: in the cells, at their own cells, past the cells, and where a byte wraps
-CALL_STACKS = (0xBE, 0xFE, 0xFE, 0x00, 0x40, 0xBD, 0xBF, 0x71, 0x70, 0x6F)
-DATA_STACKS = (0xC0, 0xFF, 0xFF, 0x40, 0x71, 0x72, 0x7C, 0xC1)
-# stores at the character buffer, and steps beside it
-AT_BUFFER = (' ST @>837D,>41', ' DST @>837C,>2041', ' DINC @>837D', ' MOVE 3,@>837B,G@>6000', ' RAND 5',
-             ' EX @>837D,@>837E', ' NEG @>837D', ' MUL @>837C,3', ' DIV @>837D,3', ' SLL @>837D,0')
 
 
 class Author:
@@ -173,8 +151,10 @@ class Author:
         elif choice < 0.9:
             self.add(f' ST @>8373,>{generator.choice(CALL_STACKS):02X}', f' CALL {self.fetching}', ' BYTE 1,2',
                      ' ST @>8373,>7E')
-        else:
+        elif choice < 0.95:
             self.add(generator.choice(DONE))
+        else:
+            self.add(*generator.choice(PAIRS))
 
     def straight(self):
         generator = self.generator
@@ -294,6 +274,19 @@ def subroutines(author):
         author.add(generator.choice((' RTN', ' RTN', ' RTNC')))
     cells = author.cell(), author.cell()
     author.add(f'{author.fetching} FETCH @>{cells[0]:04X}', f' FETCH @>{cells[1]:04X}', ' RTN')
+
+
+def short_program(generator):
+    """The lines of a program with a few steps and one at a border, or one that stops or leads away."""
+    author = Author(generator)
+    author.add(f' GROM >{0x2000 * generator.choice((0, 3, 7)):04X}', 'START', ' MOVE 194,@>8300,G@LOWER',
+               ' DST @>8372,>9F7E')
+    for _ in range(generator.randrange(3)):
+        author.straight()
+    author.add(*generator.choice((*LAST, *((line,) for line in STOPS), *PAIRS, *((line,) for line in DONE))))
+    author.add(' EXIT', *table(generator, 'LOWER', 194))
+    subroutines(author)
+    return [*author.lines, ' END START']
 
 
 def bytes_lines(numbers):

@@ -85,7 +85,7 @@ def address_word(generator, address):
 
 def dis(generator):
     """Words with their listing, or bytes that run past the end of memory."""
-    count = generator.choice((0, 0, 1, 1, 2, 3, 4, 10, 40, 100, 300))
+    count = generator.choice((0, 0, 1, 1, 2, 3, 4, 40, 400, 1500))
     given = b''.join(word(generator).to_bytes(2, 'big') for _ in range(count))
     given += bytes([generator.randrange(256)]) * generator.randrange(2)
     address = generator.choice((0, 2, 0x100, 0x7FFE, 0x8000, 0xA000, 0xFFFE, 0x10000 - len(given) & 0xFFFE,

@@ -70,9 +70,9 @@ def copied(generator):
         lines = ['x' * (tms_copied.LARGEST_INPUT + generator.choice((-3, 1)))]
     else:
         lines = tms_sources.Source(generator).write()
-        if chance < 0.25:
+        if chance < 0.2:
             lines = tms_damage.damaged(generator, lines)
-        elif chance < 0.5:
+        elif chance < 0.35:
             lines.insert(generator.randint(0, len(lines)), generator.choice(ODD))
         lines = cut(generator, lines, files, 0)
         if generator.random() < 0.05 and files:

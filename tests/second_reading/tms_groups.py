@@ -136,8 +136,6 @@ def checked(generator, line, compressed):
             found = '7' + number_text(-sum((line + '7').encode('latin-1')) & 0xFFFF, compressed)
     elif choice < 17:
         found = '8' + number_text(tms_expressions.number(generator), compressed)
-    elif choice == 17 and generator.random() < 0.2:
-        found = '7' + number_text(tms_expressions.number(generator), compressed)
     return line + found
 
 

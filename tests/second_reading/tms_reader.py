@@ -73,8 +73,11 @@ class Reader:
         return field
 
     def symbol(self):
-        """A DEF or REF name of six characters, the last ones perhaps blanks."""
-        return self.characters(6, symbol_fits).rstrip(' \t')
+        """A DEF or REF name of six characters, the last ones perhaps blanks, but not all."""
+        found = self.characters(6, symbol_fits).rstrip(' \t')
+        if not found:
+            raise Bad('bad tag')
+        return found
 
     def read(self, line):
         """Reads the groups of one line up to F or ':'."""
@@ -143,10 +146,8 @@ class Reader:
 
 
 def symbol_fits(before, character):
-    """Whether a character can stand in a name field: a blank not first, and behind a blank nothing else."""
-    if character in ' \t':
-        return bool(before)
-    return '!' <= character <= '~' and not before.endswith((' ', '\t'))
+    """Whether a character can stand in a name field: behind a blank only blanks."""
+    return character in ' \t' or '!' <= character <= '~' and not before.endswith((' ', '\t'))
 
 
 def modules(data):

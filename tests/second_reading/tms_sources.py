@@ -42,7 +42,7 @@ class Source:
                 start = generator.choice(SECTION_STARTS)
                 kind = RELOCATABLE if start == 'RORG' else ABSOLUTE
                 self.planned(start, kind)
-            for _ in range(generator.choice((0, 2, 5, 8, 12, 20))):
+            for _ in range(generator.choice((0, 3, 8, 15, 30, 50))):
                 operation = generator.choice(PLAIN)
                 if operation == 'EQU':
                     self.planned('EQU', generator.choice((ABSOLUTE, RELOCATABLE)), 1)
