@@ -38,7 +38,7 @@ def console_of(text):
 
 
 def limit_of(generator):
-    return generator.choice((0, 1, 2, 5, 20, 50, 200, 200, 500, 1000, 1000, 3000))
+    return generator.choice((0, 1, 2, 5, 20, 50, 200, 200, 500, 1000, 1000, 3000, 30000))
 
 
 def given_text(generator):
