@@ -204,7 +204,7 @@ class Author:
         self.add(end)
 
     def cases(self, depth):
-        """A table of branches behind CASE."""
+        """A table of branches after CASE."""
         generator = self.generator
         cell = self.cell(2)
         word = generator.random() < 0.3
@@ -219,7 +219,7 @@ class Author:
         self.add(end)
 
     def call(self, depth):
-        """A call, with the bytes behind it for FETCH, or of a subroutine."""
+        """A call, with the bytes after it for FETCH, or of a subroutine."""
         generator = self.generator
         if self.subroutines and generator.random() < 0.7:
             self.add(f' CALL {generator.choice(self.subroutines)}')

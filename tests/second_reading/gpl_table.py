@@ -1,5 +1,5 @@
 """The operations of GPL by the GPL Programmer's Guide, as names, forms and code bytes; the forms of operands and of
-MOVE are those of the profile."""
+MOVE are the profile's."""
 
 PLAIN = {'RTN': 0x00, 'RTNC': 0x01, 'H': 0x09, 'GT': 0x0A, 'EXIT': 0x0B, 'CARRY': 0x0C, 'OVF': 0x0D}
 BYTE_VALUE = {'RAND': 0x02, 'BACK': 0x04, 'ALL': 0x07}

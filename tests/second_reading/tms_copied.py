@@ -18,7 +18,7 @@ QUOTED_NAME = re.compile(f"'({FILE_NAME})'|\"({FILE_NAME})\"", re.ASCII)
 
 
 class TooLarge(Exception):
-    """A file that is too large is told without its place."""
+    """A file that is too large is reported without its place."""
 
 
 class Copying:

@@ -163,7 +163,7 @@ def lines_of(generator, modules, form):
 
 
 def ended(generator, line, form):
-    """A line with F, behind which anything may stand, or without."""
+    """A line with F, after which anything may stand, or without."""
     if form == LINES and generator.randrange(6) == 0:
         return line
     return line + 'F' + generator.choice(('', ' ', ' junk 0', '\x00\xff'))

@@ -14,7 +14,7 @@ class LinkRefused(Exception):
 
 
 def bases(modules):
-    """Where the modules' relocatable code goes: each to the first even address behind the one before it."""
+    """Where the modules' relocatable code goes: each to the first even address after the one before it."""
     found, base = [], FIRST
     for module in modules:
         found.append(base)

@@ -113,7 +113,7 @@ class Program:
         self.put(code(name) | target << 6 | source, *more, *others)
 
     def port_write(self):
-        """Sets an address of the video processor or the GROMs, and reads or writes behind it."""
+        """Sets an address of the video processor or the GROMs, and reads or writes after it."""
         generator = self.generator
         vdp = self.chance(0.7)
         register = generator.randrange(16)
@@ -172,7 +172,7 @@ class Program:
             self.put(code('JNE') | back & 0xFF)
 
     def end(self):
-        """A jump to itself, a word that is refused, or whatever lies behind."""
+        """A jump to itself, a word that is refused, or whatever lies after."""
         choice = self.generator.randrange(6)
         if choice < 3:
             self.put(0x10FF)

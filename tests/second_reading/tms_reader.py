@@ -62,7 +62,7 @@ class Reader:
         return int(match.group(), 16)
 
     def characters(self, count, fits):
-        """A field of characters, each of which must fit behind those before it."""
+        """A field of characters, each of which must fit after those before it."""
         field = self.line[self.at:self.at + count]
         for number, character in enumerate(field):
             if not fits(field[:number], character):
@@ -146,7 +146,7 @@ class Reader:
 
 
 def symbol_fits(before, character):
-    """Whether a character can stand in a name field: behind a blank only blanks."""
+    """Whether a character can stand in a name field: after a blank only blanks."""
     return character in ' \t' or '!' <= character <= '~' and not before.endswith((' ', '\t'))
 
 

@@ -204,7 +204,7 @@ def origin(source, kind):
 
 
 def relocatable_origin(source, kind):
-    """RORG: behind all that was reached, or at a number."""
+    """RORG: after all that was reached, or at a number."""
     source.section_kind = RELOCATABLE
     if source.chance(0.5):
         return ''

@@ -16,7 +16,7 @@ UPPER = {ord(letter): letter.upper() for letter in 'abcdefghijklmnopqrstuvwxyz'}
 
 
 class Refused(Exception):
-    """A refusal of a line; its text is that of the fault line behind the line's number."""
+    """A refusal of a line; its text is that of the fault line after the line's number."""
 
 
 def lines(data):
