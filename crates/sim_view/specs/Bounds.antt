@@ -1,5 +1,5 @@
--- How many instructions the parts of a step take at most, as their contracts say. A bound stands here alone. That of
--- a step up to its dispatch is `most_to_dispatch`, beside what the interpreter is.
+-- How many instructions the parts of a step take at most, by contracts that several crates cite. The bound of a step up
+-- to its dispatch is `most_to_dispatch`, beside what the interpreter is.
 use Rattle.std.specs.Prelude.{ℕ}
 
 -- ADDR, from its entry to its return or to the stop
@@ -92,29 +92,9 @@ most_of_exchange_row = 67
 abbrev pub most_of_case_row : ℕ
 most_of_case_row = 25
 
-abbrev pub most_of_stack_row : ℕ
-most_of_stack_row = 131
-
 -- MOVE, from the dispatch to its copy or its stop
 abbrev pub most_to_copy : ℕ
 most_to_copy = 160
-
--- MOVE: the length that follows or is in memory is loaded; the length, the target and the index of the source are
--- found; GROM is turned to the source
-abbrev pub most_to_load_length : ℕ
-most_to_load_length = 16
-
-abbrev pub most_to_length : ℕ
-most_to_length = 61
-
-abbrev pub most_to_target : ℕ
-most_to_target = 50
-
-abbrev pub most_to_source_index : ℕ
-most_to_source_index = 32
-
-abbrev pub most_to_turn : ℕ
-most_to_turn = 17
 
 -- MOVE's copy: from one byte to the next; and its beginning and its end together
 abbrev pub most_of_byte : ℕ
