@@ -5,12 +5,13 @@ use Rattle.sim_rows.proofs.Common.{GromIndexedToMemory, GromToMemory, GromToRegi
 use Rattle.sim_rows.proofs.Common.{MemoryToMemory, Move, MOVEB, MoveKind, MOVEL, MOVES, MOVEX, next_in_grom, operation_entry, operation_in, operation_in_view}
 use Rattle.sim_rows.proofs.Common.{origin_of, Reason, ReachesWithin, Stands, state_at_dispatch, StoppedBy, To, ToMemory, ToRegisters, View, view, word_at}
 use Rattle.sim_rows.specs.sim_view.Prelude.{HoldsBytes}
+use Rattle.sim_rows.proofs.sim_operands.Ends.{EndsBy, not_at}
 use Rattle.sim_copy.specs.Copying.{StandsTo}
 use Rattle.sim_move.specs.Family.{is_move}
 use Rattle.sim_move.specs.Moves.{AtCopy, copy_in, FindsCopy, length_read, source_read, target_in, target_read}
 use Rattle.sim_move.specs.Rows.{find_length, find_places, index_source, turn_to_source}
 use Rattle.sim_move.proofs.Codes.{from_grom, has_index, Told, told}
-use Rattle.sim_move.proofs.Ends.{Comes, comes_as_said, comes_stopped, comes_there, EndsBy, not_at, then_comes}
+use Rattle.sim_move.proofs.Arrivals.{Comes, comes_as_said, comes_stopped, comes_there, then_comes}
 use Rattle.sim_move.proofs.Lengths.{length_ends}
 use Rattle.sim_move.proofs.Seen.{dispatched_is, LengthTold, number_to, seen, SourceTold, space_to, stood, TargetTold}
 use Rattle.sim_move.proofs.Sources.{source_ends, source_returns, turned, turns}

@@ -6,7 +6,7 @@ use Rattle.sim_rows.proofs.Common.{from_dispatch, ShowsState, Stands, Stepped, S
 use Rattle.sim_copy.specs.Copying.{CopiesBytes, StandsFrom}
 use Rattle.sim_move.specs.Family.{is_move}
 use Rattle.sim_move.specs.Moves.{AtCopy, begun, copy_in, FindsCopy, MayCopy, source_read, target_read}
-use Rattle.sim_move.proofs.Ends.{came, Comes, stopped}
+use Rattle.sim_move.proofs.Arrivals.{came, Comes, stopped}
 use Rattle.sim_move.proofs.Copies.{kind_of}
 use Rattle.sim_move.proofs.Lies.{FromLies, registers_there, source_lies, source_visible, target_lies, target_visible, ToLies}
 use Rattle.sim_move.proofs.MoveSteps.{bound_is, made, no_exit, parts, step_copies, step_stops}

@@ -1,15 +1,16 @@
 -- The length of MOVE, on views alone.
 use Rattle.std.proofs.Common.{ℕ, ◌%◌, ◌+◌, ◌<◌, ◌==◌, ◌∙◌, ◌≡◌, ◌≤◌, ap, arith, false, Ok, refl, Result, subst, sym}
-use Rattle.sim_rows.proofs.Common.{◌>>=◌, ADDR, behind_code, code_byte, Exit, exit, Goes, GplState, grom_at}
-use Rattle.sim_rows.proofs.Common.{is_turn_end, last_out, MOVEL, MOVEN, length_of, lies_at, number_of_space, operand_at, pick, Place}
+use Rattle.sim_rows.proofs.Common.{◌>>=◌, ADDR, behind_code, code_byte, Exit, exit, Goes, GplState, grom_at, GSTOP}
+use Rattle.sim_rows.proofs.Common.{is_turn_end, last_out, MOVEL, MOVEN, length_of, lies_at, next_at, number_of_space, operand_at, pick, Place}
 use Rattle.sim_rows.proofs.Common.{place_in, place_is, place_lies, place_of, previous-next, Reason, shifted, space_small}
-use Rattle.sim_rows.proofs.Common.{SRL, state_of, StoppedBy, value_at, value_same, View, Word, word_at}
-use Rattle.sim_rows.specs.sim_operands.Routines.{load}
+use Rattle.sim_rows.proofs.Common.{SRL, state_of, StoppedBy, value_at, value_same, View, visible_of, Word, word_at}
+use Rattle.sim_rows.specs.sim_operands.Routines.{CanLoad, find_operand, go_on, load}
 use Rattle.sim_rows.specs.sim_view.Prelude.{HoldsBytes}
+use Rattle.sim_rows.proofs.sim_operands.Ends.{after, EndsBy, ends_within, gave, goes_after, goes_within, then_ends}
+use Rattle.sim_rows.proofs.sim_operands.FoundPlaces.{operand_goes}
 use Rattle.sim_rows.proofs.sim_operands.Routines.{load_goes, stream_goes}
 use Rattle.sim_move.specs.Moves.{length_read}
-use Rattle.sim_move.specs.Rows.{find_length, find_operand, go_on, load_count, load_placed}
-use Rattle.sim_move.proofs.Ends.{after, EndsBy, ends_within, goes_after, goes_within, then_ends}
+use Rattle.sim_move.specs.Rows.{find_length, IsReady, load_count, load_placed}
 use Rattle.sim_move.proofs.Numbers.{odd_bit}
 use Rattle.sim_move.proofs.Seen.{LengthTold, operand_found, seen, shown}
 use Rattle.sim_move.specs.Pieces as pieces
@@ -76,6 +77,17 @@ module _ (s : GplState) (place : Place) (next r4 r6 : ℕ) (u : View) where
       })
 
 -- ---- the length is found
+
+-- A word that was found is visible.
+pub word_found : (v : View) → IsReady v → HoldsBytes 65536 v.grom.image → v.r.r3 ≡ 2 →
+    ((find_operand v).to == GSTOP) ≡ false → CanLoad (find_operand v).left
+word_found v ready bytes two on =
+    let q = place_of (state_of v) v.r.r3 (operand_at v.grom.image (next_at v)).0 in
+    let g = gave q (operand_goes v (next_at v) ready bytes (omega arith)) on in
+    let p = g.2.holds in
+    let lies = lies_at v.r.r3 q g.0 (place_lies (state_of v) v.r.r3 (operand_at v.grom.image (next_at v)).0) g.1 in
+    visible_of g.0 v.r.r3 _ _ _ (ap (λ (w : View). w.r.r5) p.is) (ap (λ (w : View). w.r.r2) p.is)
+    (ap (λ (w : View). w.r.r3) p.is) (omega arith) lies
 
 -- LOAD keeps register 2.
 kept_address : (e : Exit) → (go_on MOVEN e load_count).left.r.r2 ≡ e.left.r.r2

@@ -1,8 +1,7 @@
 pub mod Numbers
 pub mod Paths
 pub mod Codes
-pub mod Ends
-pub mod Operands
+pub mod Arrivals
 pub mod Seen
 pub mod Lengths
 pub mod Targets

@@ -4,9 +4,10 @@ use Rattle.sim_rows.proofs.Common.{behind_code, code_byte, Dispatched, GplState,
 use Rattle.sim_rows.proofs.Common.{number_of_space, operand_at, place_of, Placed, previous-next, Reason}
 use Rattle.sim_rows.proofs.Common.{return_of, StoppedBy, To, ToMemory, ToRegisters, View}
 use Rattle.sim_rows.specs.sim_view.Prelude.{HoldsBytes}
-use Rattle.sim_move.specs.Rows.{find_operand, IsReady}
-use Rattle.sim_move.proofs.Ends.{ends_as, EndsBy}
-use Rattle.sim_move.proofs.Operands.{operand_goes}
+use Rattle.sim_rows.specs.sim_operands.Routines.{find_operand}
+use Rattle.sim_rows.proofs.sim_operands.Ends.{ends_as, EndsBy}
+use Rattle.sim_rows.proofs.sim_operands.FoundPlaces.{operand_goes}
+use Rattle.sim_move.specs.Rows.{IsReady}
 
 -- The view while the parts of MOVE are found: the state is seen, and GROM gives the byte at an address next; registers 0
 -- and 1 have the code byte and its address, and no byte was stored. All else is as in another view.

@@ -8,8 +8,9 @@ use Rattle.sim_rows.proofs.StepStart.{one_at_most}
 use Rattle.sim_rows.specs.Pieces.{address_before, at_first}
 use Rattle.sim_rows.specs.sim_operands.Pieces.{one_if}
 use Rattle.sim_rows.specs.sim_view.Routines.{◌>>◌}
-use Rattle.sim_move.specs.Rows.{check_index, index_source, turn_to_source}
-use Rattle.sim_move.proofs.Ends.{after, answered, ends_as, EndsBy, then_ends}
+use Rattle.sim_rows.specs.sim_operands.Routines.{check_index}
+use Rattle.sim_rows.proofs.sim_operands.Ends.{after, answered, ends_as, EndsBy, then_ends}
+use Rattle.sim_move.specs.Rows.{index_source, turn_to_source}
 use Rattle.sim_move.proofs.Numbers.{form_by, form_fits, form_index, form_is, form_odd, form_space}
 use Rattle.sim_move.proofs.Seen.{halted, seen, SourceTold, stood}
 use Rattle.sim_rows.specs.sim_operands.Pieces as operands

@@ -9,9 +9,10 @@ use Rattle.sim_rows.specs.sim_view.Prelude.{HoldsBytes}
 use Rattle.sim_rows.specs.gpl_defs.declared.instruction.MoveSource.TheVariants as source
 use Rattle.sim_rows.specs.gpl_defs.declared.instruction.MoveTarget.TheVariants as target
 use Rattle.sim_move.specs.Moves.{AtCopy, length_read, source_read, target_in, target_read}
-use Rattle.sim_move.specs.Rows.{find_in_memory, find_operand, find_places, find_source}
+use Rattle.sim_rows.specs.sim_operands.Routines.{find_operand}
+use Rattle.sim_rows.proofs.sim_operands.Ends.{after, EndsBy, ends_into, ends_within, then_ends}
+use Rattle.sim_move.specs.Rows.{find_in_memory, find_places, find_source}
 use Rattle.sim_move.proofs.Codes.{from_grom, Told}
-use Rattle.sim_move.proofs.Ends.{after, EndsBy, ends_into, ends_within, then_ends}
 use Rattle.sim_move.proofs.Seen.{halted, operand_found, seen, TargetTold}
 use Rattle.sim_move.specs.Pieces as pieces
 

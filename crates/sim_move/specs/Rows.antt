@@ -1,35 +1,15 @@
 -- MOVE up to its copy: the pieces one after the other, as the code has them.
-use Rattle.std.specs.Prelude.{ℕ, ◌==◌, ◌≡◌, if◌then◌else◌}
-use Rattle.sim_rows.specs.Prelude.{ADDR, ASPACE, Exit, grom_at, INDEX, MOVED, MOVEN, MOVER, next_at, View}
+use Rattle.std.specs.Prelude.{◌≡◌}
+use Rattle.sim_rows.specs.Prelude.{ADDR, Exit, grom_at, MOVED, MOVEN, MOVER, next_at, View}
 use Rattle.sim_rows.specs.sim_view.Routines.{◌>>◌}
-use Rattle.sim_rows.specs.sim_operands.Routines.{load}
-use Rattle.sim_rows.specs.native_interp.declared.addresses.TheConstants.{ASHORT}
+use Rattle.sim_rows.specs.sim_operands.Routines.{check_index, find_operand, go_on, load, on_at}
 use Rattle.sim_rows.specs.sim_operands.Pieces as subroutine
 use Rattle.sim_rows.specs.Pieces as step
 use Rattle.sim_move.specs.Pieces as piece
 
--- Where a stretch ends at an address, another follows it; elsewhere it is as something else says, or nothing follows.
-abbrev pub on_at : ℕ → Exit → (View → Exit) → Exit → Exit
-on_at address e f other = if e.to == address then e >> f else other
-
-abbrev pub go_on : ℕ → Exit → (View → Exit) → Exit
-go_on address e f = on_at address e f e
-
 -- GROM gives a byte next, with no half of an address written.
 abbrev pub IsReady : View → Type 0
 IsReady v = v.grom ≡ grom_at v.grom.image (next_at v)
-
--- ADDR: from INDEX on, from APTR on, and whole
-unfoldable pub check_index : View → Exit
-check_index v = go_on ASPACE (subroutine.index v) subroutine.range
-
-unfoldable pub follow_pointer : View → Exit
-follow_pointer v = go_on INDEX (subroutine.pointer v) check_index
-
-unfoldable pub find_operand : View → Exit
-find_operand v =
-    let read = subroutine.address v in
-    on_at ASHORT read subroutine.short_range (read >> follow_pointer)
 
 -- the length, which follows or is at an operand
 abbrev pub load_count : View → Exit

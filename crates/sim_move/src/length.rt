@@ -7,11 +7,10 @@ ghost use Rattle.sim_rows.specs.native_interp.declared.addresses.TheConstants as
 ghost use Rattle.sim_move.specs.Rows.{IsReady};
 ghost use Rattle.sim_move.specs.Rows as row;
 
-use crate::operand::find_operand;
 use crate::pieces::{ask_length, load_length};
 use sim_rows::labels::{ADDR, MOVEN};
 use sim_rows::processor::{Machine, Steps};
-use sim_rows::subroutines::load_routine;
+use sim_rows::subroutines::{address_routine, load_routine};
 use std::sync::ledger::Ledger;
 
 /// Loads the length of MOVE, which follows in GROM or is at a place that was found.
@@ -31,7 +30,7 @@ fn load_placed<L: Ledger>(machine: &mut Machine, steps: &mut Steps<L>)
     requires word { (view machine.old).r.r3 ≡ 2 }
     ensures { Exits machine.old machine.new steps.old steps.new (row.load_placed (view machine.old)) }
 {
-    find_operand(machine, steps);
+    address_routine(machine, steps);
     if machine.pc() == MOVEN {
         load_count(machine, steps);
     }

@@ -3,7 +3,6 @@
 
 mod family;
 mod length;
-mod operand;
 mod pieces;
 mod source;
 mod target;

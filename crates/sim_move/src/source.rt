@@ -4,10 +4,9 @@ ghost use Rattle.sim_rows.specs.Prelude.{Exits, Stands, view};
 ghost use Rattle.sim_rows.specs.native_interp.declared.addresses.TheConstants as address;
 ghost use Rattle.sim_move.specs.Rows as row;
 
-use crate::operand::check_index;
 use crate::pieces::{ask_index, ask_next, ask_source, seek_source, turn_to_grom};
 use sim_rows::processor::{Machine, Steps};
-use sim_rows::subroutines::{seek_address, stream_value};
+use sim_rows::subroutines::{check_index, seek_address, stream_value};
 use sim_rows::where_next;
 use std::sync::ledger::Ledger;
 

@@ -4,10 +4,10 @@ ghost use Rattle.sim_rows.specs.Prelude.{Exits, Stands, view};
 ghost use Rattle.sim_rows.specs.native_interp.declared.addresses.TheConstants as address;
 ghost use Rattle.sim_move.specs.Rows as row;
 
-use crate::operand::find_operand;
 use crate::pieces::{count_registers, keep_length, keep_target};
 use sim_rows::labels::{ADDR, MOVED, MOVER};
 use sim_rows::processor::{Machine, Steps};
+use sim_rows::subroutines::address_routine;
 use std::sync::ledger::Ledger;
 
 /// Keeps the target, and finds the source where that is in memory too, or stops by reason 2.
@@ -17,7 +17,7 @@ fn find_source<L: Ledger>(machine: &mut Machine, steps: &mut Steps<L>)
 {
     keep_target(machine, steps);
     if machine.pc() == ADDR {
-        find_operand(machine, steps);
+        address_routine(machine, steps);
     }
 }
 
@@ -26,7 +26,7 @@ fn find_in_memory<L: Ledger>(machine: &mut Machine, steps: &mut Steps<L>)
     requires { Stands machine.old address.ADDR }
     ensures { Exits machine.old machine.new steps.old steps.new (row.find_in_memory (view machine.old)) }
 {
-    find_operand(machine, steps);
+    address_routine(machine, steps);
     if machine.pc() == MOVED {
         find_source(machine, steps);
     }

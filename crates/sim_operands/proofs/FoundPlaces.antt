@@ -1,148 +1,87 @@
--- The pieces of ADDR, one after the other.
-use Rattle.std.proofs.Common.{ℕ, ◌%◌, ◌/◌, ◌==◌, ◌∙◌, ◌≡◌, ◌≤◌, ap, arith, eqb, Err, false, Ok, refl, Result, subst, sym, true}
-use Rattle.std.proofs.lemmas.Bool.{eq-eqb}
-use Rattle.sim_view.proofs.Common.{◌>>=◌, ADDR, APTR, ASPACE, ReachesWithin, comes, comes_as, comes_then, Exit, Exits, Goes, GplOperand, GSTOP, INDEX, index_at}
-use Rattle.sim_view.proofs.Common.{indexed, is_view, IsFetched, MachineState, Place, place_of, pointed, PortsAreIdle, ranged, Reason}
-use Rattle.sim_view.proofs.Common.{space_at, Stands, View, view}
-use Rattle.sim_view.specs.gpl_step_defs.declared.reason.Reason.TheVariants.{Cell}
-use Rattle.sim_operands.specs.Subroutines.{Addressed, OperandStop, Finds, FindsOperand, next_at, Placed, state_of}
-use Rattle.sim_operands.proofs.Ready.{ready}
-use Rattle.sim_operands.proofs.AddressPieces.{address_read, AddressRead, Answers, index_read, pointer_read, range_read}
-use Rattle.sim_operands.proofs.Facts.{not_both}
-use Rattle.sim_operands.proofs.AddressPieces.{short_range_read, short_read, ShortRead}
-use Rattle.sim_operands.specs.Pieces as pieces
+-- ADDR as a routine: the place of the operand that follows, or a stop; on views, and on the machine.
+use Rattle.std.proofs.Common.{ℕ, ◌%◌, ◌/◌, ◌==◌, ◌≡◌, ◌≤◌, arith, eqb, Err, false, nat_lt, Ok, refl, Result, subst, sym, true}
+use Rattle.sim_view.proofs.Common.{◌>>=◌, ADDR, ASPACE, comes, Exit, Exits, GplOperand, HoldsBytes, INDEX, index_at, indexed}
+use Rattle.sim_view.proofs.Common.{is_view, IsFetched, MachineState, operand_at, pick, Place, place_of, pointed, PortsAreIdle, ranged}
+use Rattle.sim_view.proofs.Common.{Reason, shifted, SLA, space_at, SRL, Stands, View, view}
 use Rattle.sim_view.specs.native_interp.declared.addresses.TheConstants.{ASHORT}
+use Rattle.sim_view.specs.Prelude.{is_turn_end}
+use Rattle.sim_view.specs.Routines.{◌>>◌}
+use Rattle.sim_operands.specs.Pieces.{return_of}
+use Rattle.sim_operands.specs.Routines.{check_index, find_operand, follow_pointer}
+use Rattle.sim_operands.specs.Subroutines.{Addressed, Finds, FindsOperand, grom_at, next_at, OperandStop, Placed, state_of}
+use Rattle.sim_operands.proofs.AddressPieces.{address_read, index_read, pointer_read, range_read, short_range_read, short_read}
+use Rattle.sim_operands.proofs.Ends.{after, answered, ends_within, EndsBy, stayed, then_ends, went}
+use Rattle.sim_operands.proofs.Ready.{ready}
+use Rattle.sim_operands.specs.Pieces as pieces
 
--- an answer that is no value, and one that is no stop
-stops : {X : Type 0} (r : Result X Reason) {Good : X → Type 0} {Bad : Type 0} → Answers r Good Bad → ((y : X) → Good y → ⊥) → (r ≡ Err Cell) × Bad
-stops (Ok y) a never = absurd (never y a)
-stops (Err reason) a never = (ap Err a.0, a.1)
+-- ---- on views
 
-gives : {X : Type 0} (r : Result X Reason) {Good : X → Type 0} {Bad : Type 0} → Answers r Good Bad → (Bad → ⊥) → (y : X) × (r ≡ Ok y) × Good y
-gives (Ok y) a never = (y, refl, a)
-gives (Err reason) a never = absurd (never a.1)
+-- The first piece never stops.
+pub address_goes : (v : View) → is_turn_end (pieces.address v).to ≡ false
+address_goes v =
+    pick (nat_lt v.grom.fetched 0x80) (λ a. rw a refl)
+    (λ a. pick (shifted SRL (shifted SLA v.grom.fetched 12) 4 == 0x0F00) (λ b. rw (a, b) refl) (λ b. rw (a, b) refl))
 
-elsewhere : {e : Exit} {most to : ℕ} {Q : View → Type 0} → eqb e.to to ≡ false → Goes e most to Q → ⊥
-elsewhere {e = e} {to = to} c g = not_both (eqb e.to to) (eq-eqb e.to to g.to_is) c
+module _ (v : View) (at : ℕ) (ready : v.grom ≡ grom_at v.grom.image at) (bytes : HoldsBytes 65536 v.grom.image)
+    (few : v.r.r3 ≤ 16384) where
+  abbrev Found : Exit → ℕ → GplOperand × ℕ → Type 0
+  Found e most read =
+      EndsBy e most (return_of v) (Placed v read.1) (OperandStop v) (place_of (state_of v) v.r.r3 read.0)
 
-there : (to : ℕ) {e : Exit} {most other : ℕ} {Q : View → Type 0} → eqb e.to to ≡ true → eqb other to ≡ false → Goes e most other Q → ⊥
-there to {e = e} c d g = not_both (eqb e.to to) c (ap (λ (n : ℕ). eqb n to) g.to_is ∙ d)
+  short : eqb (pieces.address v).to ASHORT ≡ true → Found (find_operand v) 38 (operand_at v.grom.image at)
+  unfolding find_operand
+  short is =
+      let a = short_read v at ready bytes is in
+      let e = pieces.address v in
+      let q = ranged v.r.r3 (space_at 0) a.address in
+      subst (Found (find_operand v) 38) (sym a.means)
+      (subst (λ (d : Exit). EndsBy d 38 (return_of v) (Placed v a.next) (OperandStop v) q)
+      (sym (went ASHORT e pieces.short_range (e >> follow_pointer) is))
+      (ends_within q (after e pieces.short_range 4 q a.goes.within
+      (answered (pieces.short_range e.left) 9 9 (return_of v) (Placed v a.next) (OperandStop v) q (omega arith)
+      (short_range_read v e.left a.address a.next a.below few a.goes.holds))) (omega arith)))
 
--- an operand with an address in one byte
-module _ (x y z : MachineState) (s t u : ℕ) (stands : Stands x ADDR) (idle : PortsAreIdle x.cpu.memory) (is : IsFetched x.cpu.memory.grom)
-    (bytes : (view x).r.r3 ≤ 16384) (short : eqb (pieces.address (view x)).to ASHORT ≡ true) (e : Exits x y s t (pieces.address (view x)))
-    (f : Exits y z t u (pieces.short_range (view y))) where
-  abbrev seen : View
-  seen = view x
+  long : eqb (pieces.address v).to ASHORT ≡ false → Found (find_operand v) 38 (operand_at v.grom.image at)
+  unfolding find_operand follow_pointer check_index
+  long is =
+      let a = address_read v at ready bytes is in
+      let e = pieces.address v in
+      let index = index_at a.form v.grom.image a.next in
+      let ranges : ℕ → Result Place Reason = λ address. ranged v.r.r3 (space_at a.form) address in
+      let adds : ℕ → Result Place Reason = λ base. (indexed (state_of v) index.0 base >>= ranges) in
+      let q = pointed (state_of v) (a.form / 16 % 2 == 1) a.address in
+      subst (Found (find_operand v) 38) (sym a.means)
+      (subst (λ (d : Exit). EndsBy d 38 (return_of v) (Placed v index.1) (OperandStop v) (q >>= adds))
+      (sym (stayed ASHORT e pieces.short_range (e >> follow_pointer) is))
+      (after e follow_pointer 10 (q >>= adds) a.goes.within
+      (then_ends INDEX (pieces.pointer e.left) check_index q adds refl
+      (answered (pieces.pointer e.left) 7 9 INDEX (λ base. Addressed v base (a.form / 32) a.next) (OperandStop v) q (omega arith)
+      (pointer_read v e.left a.address a.form a.next a.form_fits a.goes.holds))
+      (λ base known p.
+      let w = (pieces.pointer e.left).left in
+      then_ends ASPACE (pieces.index w) pieces.range (indexed (state_of v) index.0 base) ranges refl
+      (answered (pieces.index w) 8 10 ASPACE (λ address. Addressed v address (a.form / 32) index.1) (OperandStop v)
+      (indexed (state_of v) index.0 base) (omega arith) (index_read v w base a.form a.next a.form_fits p))
+      (λ address known p.
+      answered (pieces.range (pieces.index w).left) 9 9 (return_of v) (Placed v index.1) (OperandStop v) (ranges address) (omega arith)
+      (range_read v (pieces.index w).left address a.form index.1 a.form_fits few p))))))
 
-  at_short : ShortRead seen (next_at seen) (pieces.address seen)
-  at_short = short_read seen (next_at seen) (ready x.cpu.memory idle is) (is_view x stands.machine).grom.image short
+  pub operand_goes : Found (find_operand v) 38 (operand_at v.grom.image at)
+  operand_goes = pick (eqb (pieces.address v).to ASHORT) short long
 
-  there_short : ReachesWithin 4 x y s t ASHORT (Addressed seen at_short.address 0 at_short.next)
-  there_short = comes e at_short.goes
+-- ---- on the machine
 
-  short_by : (q : Result Place Reason) → Answers q (λ place. Goes (pieces.short_range (view y)) 9 (pieces.return_of seen) (Placed seen at_short.next place))
-      (Goes (pieces.short_range (view y)) 9 GSTOP (OperandStop seen Cell)) → Finds x z s u at_short.next q
-  short_by (Ok place) g = comes_as 38 (Placed seen at_short.next place) (comes_then 4 9 there_short f g refl) (omega arith) (λ w b. b)
-  short_by (Err reason) g =
-      let P : Reason → Type 0 = λ r. Finds x z s u at_short.next (Err r) in
-      subst P (sym g.0) (comes_as 38 (OperandStop seen Cell) (comes_then 4 9 there_short f g.1 refl) (omega arith) (λ w b. b))
+module _ {x y : MachineState} {s t : ℕ} where
+  found : {e : Exit} (next : ℕ) (r : Result Place Reason) → Exits x y s t e →
+      EndsBy e 38 (return_of (view x)) (Placed (view x) next) (OperandStop (view x)) r → Finds x y s t next r
+  found next (Ok place) run g = comes run g.by
+  found next (Err reason) run g = comes run g.by
 
-  pub short_ends : FindsOperand x z s u
-  short_ends =
-      let P : GplOperand × ℕ → Type 0 = λ read. Finds x z s u read.1 (place_of (state_of seen) seen.r.r3 read.0) in
-      subst P (sym at_short.means)
-      (short_by (ranged seen.r.r3 (space_at 0) at_short.address)
-      (short_range_read seen (view y) at_short.address at_short.next at_short.below bytes there_short.holds))
-
-module _ (x : MachineState) (s : ℕ) (stands : Stands x ADDR) (idle : PortsAreIdle x.cpu.memory) (is : IsFetched x.cpu.memory.grom)
-    (bytes : (view x).r.r3 ≤ 16384) (long : eqb (pieces.address (view x)).to ASHORT ≡ false) where
-  abbrev v : View
-  v = view x
-
-  pub found : AddressRead v (next_at v) (pieces.address v)
-  found = address_read v (next_at v) (ready x.cpu.memory idle is) (is_view x stands.machine).grom.image long
-
-  -- after the address
-  addressed : (y : MachineState) (t : ℕ) → Exits x y s t (pieces.address v) → ReachesWithin 10 x y s t APTR
-      (Addressed v found.address found.form found.next)
-  addressed y t e = comes e found.goes
-
-  -- the answer of the definition, once it is split
-  abbrev split : (y : MachineState) (t : ℕ) → Result ℕ Reason → Type 0
-  split y t first =
-      let index = index_at found.form v.grom.image found.next in
-      Finds x y s t index.1 (first >>= λ base. (indexed (state_of v) index.0 base >>= λ address. ranged v.r.r3 (space_at found.form) address))
-
-  whole : (y : MachineState) (t : ℕ) → split y t (pointed (state_of v) (found.form / 16 % 2 == 1) found.address) → FindsOperand x y s t
-  whole y t h =
-      let P : GplOperand × ℕ → Type 0 = λ read. Finds x y s t read.1 (place_of (state_of v) v.r.r3 read.0) in
-      subst P (sym found.means) h
-
-  -- a pointer that stops
-  pub pointer_stops : (y z : MachineState) (t u : ℕ) → Exits x y s t (pieces.address v) → Exits y z t u (pieces.pointer (view y)) →
-      eqb (pieces.pointer (view y)).to INDEX ≡ false → FindsOperand x z s u
-  pointer_stops y z t u e1 e f =
-      let c = addressed y t e1 in
-      let a = stops (pointed (state_of v) (found.form / 16 % 2 == 1) found.address) (pointer_read v (view y) found.address found.form found.next
-      found.form_fits c.holds) (λ base. elsewhere f) in
-      whole z u (subst (split z u) (sym a.0) (comes_as 38 (OperandStop v Cell) (comes_then 10 7 c e a.1 refl) (omega arith) (λ w b. b)))
-
-  -- a pointer that goes on
-  pub record Pointed (y : MachineState) (t : ℕ) : Type 0 where
-    pub base : ℕ
-    pub is_pointed : pointed (state_of v) (found.form / 16 % 2 == 1) found.address ≡ Ok base
-    pub comes : ReachesWithin 19 x y s t INDEX (Addressed v base (found.form / 32) found.next)
-
-  pub pointer_goes : (y z : MachineState) (t u : ℕ) → Exits x y s t (pieces.address v) → Exits y z t u (pieces.pointer (view y)) →
-      eqb (pieces.pointer (view y)).to INDEX ≡ true → Pointed z u
-  pointer_goes y z t u e1 e f =
-      let c = addressed y t e1 in
-      let a = gives (pointed (state_of v) (found.form / 16 % 2 == 1) found.address) (pointer_read v (view y) found.address found.form found.next
-      found.form_fits c.holds) (there INDEX f refl) in
-      record { base = a.0; is_pointed = a.1; comes = comes_then 10 9 c e a.2 refl }
-
-  -- an index that stops
-  pub index_stops : (y z : MachineState) (t u : ℕ) → Pointed y t → Exits y z t u (pieces.index (view y)) → eqb (pieces.index (view y)).to ASPACE ≡ false →
-      FindsOperand x z s u
-  index_stops y z t u p e f =
-      let index = index_at found.form v.grom.image found.next in
-      let a = stops (indexed (state_of v) index.0 p.base) (index_read v (view y) p.base found.form found.next found.form_fits p.comes.holds)
-      (λ address. elsewhere f) in
-      let Q : Result ℕ Reason → Type 0 = λ second. Finds x z s u index.1 (second >>= λ address. ranged v.r.r3 (space_at found.form) address) in
-      whole z u (subst (split z u) (sym p.is_pointed)
-      (subst Q (sym a.0) (comes_as 38 (OperandStop v Cell) (comes_then 19 8 p.comes e a.1 refl) (omega arith) (λ w b. b))))
-
-  -- an index that goes on
-  pub record Indexed (y : MachineState) (t : ℕ) : Type 0 where
-    pub base : ℕ
-    pub address : ℕ
-    pub is_pointed : pointed (state_of v) (found.form / 16 % 2 == 1) found.address ≡ Ok base
-    pub is_indexed : indexed (state_of v) (index_at found.form v.grom.image found.next).0 base ≡ Ok address
-    pub comes : ReachesWithin 29 x y s t ASPACE (Addressed v address (found.form / 32) (index_at found.form v.grom.image found.next).1)
-
-  pub index_goes : (y z : MachineState) (t u : ℕ) → Pointed y t → Exits y z t u (pieces.index (view y)) → eqb (pieces.index (view y)).to ASPACE ≡ true →
-      Indexed z u
-  index_goes y z t u p e f =
-      let index = index_at found.form v.grom.image found.next in
-      let a = gives (indexed (state_of v) index.0 p.base) (index_read v (view y) p.base found.form found.next found.form_fits p.comes.holds)
-      (there ASPACE f refl) in
-      record { base = p.base; address = a.0; is_pointed = p.is_pointed; is_indexed = a.1; comes = comes_then 19 10 p.comes e a.2 refl }
-
-  -- the range
-  ends : (y z : MachineState) (t u : ℕ) → Indexed y t → Exits y z t u (pieces.range (view y)) → (q : Result Place Reason) →
-      Answers q (λ place. Goes (pieces.range (view y)) 9 (pieces.return_of v) (Placed v (index_at found.form v.grom.image found.next).1 place))
-      (Goes (pieces.range (view y)) 9 GSTOP (OperandStop v Cell)) →
-      Finds x z s u (index_at found.form v.grom.image found.next).1 q
-  ends y z t u p e (Ok place) g = comes_then 29 9 p.comes e g refl
-  ends y z t u p e (Err reason) g =
-      let P : Reason → Type 0 = λ r. Finds x z s u (index_at found.form v.grom.image found.next).1 (Err r) in
-      subst P (sym g.0) (comes_then 29 9 p.comes e g.1 refl)
-
-  pub range_ends : (y z : MachineState) (t u : ℕ) → Indexed y t → Exits y z t u (pieces.range (view y)) → FindsOperand x z s u
-  range_ends y z t u p e =
-      let index = index_at found.form v.grom.image found.next in
-      let q = ranged v.r.r3 (space_at found.form) p.address in
-      let Q : Result ℕ Reason → Type 0 = λ second. Finds x z s u index.1 (second >>= λ address. ranged v.r.r3 (space_at found.form) address) in
-      whole z u (subst (split z u) (sym p.is_pointed)
-      (subst Q (sym p.is_indexed) (ends y z t u p e q (range_read v (view y) p.address found.form index.1 found.form_fits bytes p.comes.holds))))
+  pub finds_operand : Stands x ADDR → PortsAreIdle x.cpu.memory → IsFetched x.cpu.memory.grom → (view x).r.r3 ≤ 16384 →
+      Exits x y s t (find_operand (view x)) → FindsOperand x y s t
+  finds_operand stands idle fetched few run =
+      let v = view x in
+      let read = operand_at v.grom.image (next_at v) in
+      let all = (is_view x stands.machine).grom.image in
+      found read.1 (place_of (state_of v) v.r.r3 read.0) run
+      (operand_goes v (next_at v) (ready x.cpu.memory idle fetched) all few)

@@ -1,12 +1,33 @@
--- STORE and LOAD as functions on views: their pieces together, and what they change of a view. Whatever is not named
--- stays, so the address to which they return and the registers after them are known without a proof.
-use Rattle.std.specs.Prelude.{◌==◌, if◌then◌else◌, nat_lt}
-use Rattle.sim_view.specs.Prelude.{Exit, View}
+-- ADDR, STORE and LOAD as functions on views: their pieces together.
+use Rattle.std.specs.Prelude.{ℕ, ◌==◌, if◌then◌else◌, nat_lt}
+use Rattle.sim_view.specs.Prelude.{ASPACE, Exit, INDEX, View}
 use Rattle.sim_view.specs.Routines.{◌>>◌}
+use Rattle.sim_view.specs.native_interp.declared.addresses.TheConstants.{ASHORT}
 use Rattle.sim_operands.specs.Pieces.{exit, return_of}
 use Rattle.sim_operands.specs.Values.{IsVisible}
 use Rattle.sim_operands.specs.Pieces as piece
 
+-- Where a stretch ends at an address, another follows it; elsewhere it is as something else says, or nothing follows.
+abbrev pub on_at : ℕ → Exit → (View → Exit) → Exit → Exit
+on_at address e f other = if e.to == address then e >> f else other
+
+abbrev pub go_on : ℕ → Exit → (View → Exit) → Exit
+go_on address e f = on_at address e f e
+
+-- ADDR: from INDEX on, from APTR on, and whole
+unfoldable pub check_index : View → Exit
+check_index v = go_on ASPACE (piece.index v) piece.range
+
+unfoldable pub follow_pointer : View → Exit
+follow_pointer v = go_on INDEX (piece.pointer v) check_index
+
+unfoldable pub find_operand : View → Exit
+find_operand v =
+    let read = piece.address v in
+    on_at ASHORT read piece.short_range (read >> follow_pointer)
+
+-- STORE and LOAD, and what they change of a view. Whatever is not named stays, so the address to which they return and
+-- the registers after them are known without a proof.
 unfoldable pub store_pieces : View → Exit
 store_pieces v =
     if v.r.r8 == 1

@@ -5,6 +5,7 @@ ghost use Rattle.sim_view.specs.Prelude.{Exits, IsFetched, PortsAreIdle, Stands,
 ghost use Rattle.sim_view.specs.native_interp.declared.addresses.TheConstants as address;
 ghost use Rattle.sim_operands.specs.Subroutines.{FindsOperand};
 ghost use Rattle.sim_operands.specs.Pieces as piece;
+ghost use Rattle.sim_operands.specs.Routines as routine;
 
 use sim_view::labels::{APTR, ASHORT, ASPACE, INDEX};
 use sim_view::processor::{Machine, Steps};
@@ -59,6 +60,39 @@ pub fn check_range<L: Ledger>(machine: &mut Machine, steps: &mut Steps<L>)
     run_piece(machine, steps, &[]);
 }
 
+/// ADDR from its index on: adds the index, finds the space and checks the range, or stops by reason 2.
+pub fn check_index<L: Ledger>(machine: &mut Machine, steps: &mut Steps<L>)
+    requires { Stands machine.old address.INDEX }
+    ensures { Exits machine.old machine.new steps.old steps.new (routine.check_index (view machine.old)) }
+{
+    if add_index(machine, steps) {
+        check_range(machine, steps);
+    }
+}
+
+/// Reads the pointer of an operand whose address is longer than one byte, and goes on to its index, or stops by
+/// reason 2.
+fn follow_pointer<L: Ledger>(machine: &mut Machine, steps: &mut Steps<L>)
+    requires { Stands machine.old address.APTR }
+    ensures { Exits machine.old machine.new steps.old steps.new (routine.follow_pointer (view machine.old)) }
+{
+    if read_pointer(machine, steps) {
+        check_index(machine, steps);
+    }
+}
+
+/// ADDR, whole. It does what its pieces do: it finds the place of an operand, or stops by reason 2.
+pub fn address_routine<L: Ledger>(machine: &mut Machine, steps: &mut Steps<L>)
+    requires { Stands machine.old address.ADDR }
+    ensures { Exits machine.old machine.new steps.old steps.new (routine.find_operand (view machine.old)) }
+{
+    if read_address(machine, steps) {
+        check_short(machine, steps);
+    } else {
+        follow_pointer(machine, steps);
+    }
+}
+
 /// Runs ADDR: finds the place of the operand that follows in GROM, for as many bytes as register 3 says, in registers 2
 /// and 5, or stops by reason 2. It takes at most 38 instructions, changes registers 4 and 6 too, leaves GROM after the
 /// operand where there is a place, and comes to the address in register 11, or to GSTOP.
@@ -69,15 +103,5 @@ pub fn run_address<L: Ledger>(machine: &mut Machine, steps: &mut Steps<L>)
     requires bytes { (view machine.old).r.r3 ≤ 16384 }
     ensures { FindsOperand machine.old machine.new steps.old steps.new }
 {
-    if read_address(machine, steps) {
-        check_short(machine, steps);
-        return;
-    }
-    if !read_pointer(machine, steps) {
-        return;
-    }
-    if !add_index(machine, steps) {
-        return;
-    }
-    check_range(machine, steps);
+    address_routine(machine, steps);
 }

@@ -9,7 +9,10 @@ mod load;
 mod seek;
 mod store;
 
-pub use address::{add_index, check_range, check_short, read_address, read_pointer, run_address};
+pub use address::{
+    add_index, address_routine, check_index, check_range, check_short, read_address, read_pointer,
+    run_address,
+};
 pub use fetch::{fetch_byte, run_fetch};
 pub use load::{load_routine, load_value, load_video, run_load, stream_value};
 pub use seek::{run_seek, seek_address};

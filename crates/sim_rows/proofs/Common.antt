@@ -3,7 +3,7 @@ pub use Rattle.sim_view.proofs.Common.{comes, comes_as, comes_on, comes_then, gi
 pub use Rattle.sim_view.proofs.Common.{no_turns, on, one_more_turn, Part, part_then, pick, piece, previous-next, reg_word, Rest, runs_steps, TurnsMade}
 pub use Rattle.sim_view.proofs.Routines.{just}
 pub use Rattle.sim_view.specs.Bounds.{most_of_address, most_of_alu_row, most_of_byte, most_of_case_row, most_of_exchange_row, most_of_load, most_of_product_row}
-pub use Rattle.sim_view.specs.Bounds.{most_of_quotient_row, most_of_shift_row, most_of_stack_row, most_of_store, most_to_copy}
+pub use Rattle.sim_view.specs.Bounds.{most_of_quotient_row, most_of_shift_row, most_of_store, most_to_copy}
 pub use Rattle.sim_operands.proofs.AddressPieces.{Answers, index_read, IndexRead, range_read, RangeRead}
 pub use Rattle.sim_operands.proofs.Facts.{at_most, byte_is, down, no_other, not_limit, spot_cell}
 pub use Rattle.sim_operands.proofs.Paths.{rest_is}

@@ -1,16 +1,16 @@
 -- STORE and LOAD with what follows them, and the end of a row, on views alone.
-use Rattle.std.proofs.Common.{ℕ, ◌%◌, ◌*◌, ◌+◌, ◌<◌, ◌==◌, ◌∙◌, ◌≡◌, ap, arith, Bool, Err, false, List, None, Ok, refl}
-use Rattle.std.proofs.Common.{Result, slice_index, slice_set, subst, sym, true}
+use Rattle.std.proofs.Common.{ℕ, ◌%◌, ◌*◌, ◌+◌, ◌<◌, ◌==◌, ◌∙◌, ◌≡◌, ap, arith, Bool, false, List, None, refl}
+use Rattle.std.proofs.Common.{slice_index, slice_set, subst, sym, true}
 use Rattle.std.proofs.lemmas.Bool.{eqb-false, eqb-true}
 use Rattle.sim_view.proofs.Common.{Goes, goes_in, high-join, pick}
-use Rattle.sim_view.proofs.Routines.{AreBytes, comes_by, Ends, first, regroup}
+use Rattle.sim_view.proofs.Routines.{AreBytes, Ends, first, regroup}
 use Rattle.sim_view.specs.Routines.{◌>>◌}
 use Rattle.sim_operands.proofs.Routines.{load_goes, store_goes}
 use Rattle.sim_operands.specs.Routines.{CanLoad, CanStore, load, store, store_pieces}
-use Rattle.sim_rows.specs.Prelude.{Changes, Exit, exit, Exits, finished, GplState, grom_at, GSTEP, GSTOP, high}
-use Rattle.sim_rows.specs.Prelude.{in_register, join, low, MachineState, marked_by, Place, place_in, Reason}
-use Rattle.sim_rows.specs.Prelude.{SeesFinished, shifted, ShowsChanges, SLA, SRL, state_of, Stepped, Stopped, StoppedBy}
-use Rattle.sim_rows.specs.Prelude.{STORE, Stored, Storing, sum_of, Turn, TurnsBy, unchanged, value_at, View, Width}
+use Rattle.sim_rows.specs.Prelude.{Changes, Exit, exit, finished, GplState, grom_at, GSTEP, high}
+use Rattle.sim_rows.specs.Prelude.{in_register, join, low, marked_by, Place, place_in}
+use Rattle.sim_rows.specs.Prelude.{SeesFinished, shifted, ShowsChanges, SLA, SRL, state_of}
+use Rattle.sim_rows.specs.Prelude.{STORE, Stored, Storing, sum_of, unchanged, value_at, View, Width}
 use Rattle.sim_rows.specs.Prelude.{width_in, with_value, Word}
 use Rattle.sim_rows.specs.Routines.{end_row, finish_row}
 use Rattle.sim_rows.proofs.FirstOperand.{space_small}
@@ -187,16 +187,3 @@ row_finishes {c = c} {width = width} {place = place} {number = number} {v = v} h
     (first (pieces.store_result v) (λ w. store w >> end_row)
     (store_first end_row asked fits can (λ r4 address byte. row_ends (with_value width place number c) _
     (record { cells = refl; vdp = refl; registers = refl; held = refl; grom = refl; mark = refl }))))
-
--- ---- a row that may stop
-
--- It ends as its result says, and so does its turn.
-abbrev pub EndsTurn : Exit → ℕ → GplState → Turn → Result Changes Reason → Type 0
-EndsTurn e most s turn (Ok c) = (turn ≡ Stepped) × Ends e most GSTEP (SeesFinished c)
-EndsTurn e most s turn (Err reason) = (turn ≡ Stopped reason) × Ends e most GSTOP (StoppedBy s reason)
-
-pub turns_by : {x y : MachineState} {before after : ℕ} {e : Exit} (most : ℕ) (s : GplState) (turn : Turn) →
-    Exits x y before after e → (r : Result Changes Reason) → EndsTurn e most s turn r →
-    TurnsBy most s x y before after turn r
-turns_by most s turn run (Ok c) h = (h.0, comes_by run h.1)
-turns_by most s turn run (Err reason) h = (h.0, comes_by run h.1)

@@ -8,7 +8,7 @@ use Rattle.sim_rows.proofs.Common.{SeesFinished, set_is, shifted, SLA, unchanged
 use Rattle.sim_rows.proofs.Common.{word_at as word_in_grom}
 use Rattle.sim_stack.proofs.Dispatch.{dispatch_is, dispatch_view}
 use Rattle.sim_stack.proofs.NextAddress.{later_fits}
-use Rattle.sim_stack.proofs.Room.{behind_is, EndsBy, tests}
+use Rattle.sim_stack.proofs.Room.{behind_is, EndsByRoom, tests}
 use Rattle.sim_stack.proofs.Common.{◌>>◌, at_first, call_offset, call_on, called, end_row, Ends, ends_in, first, jump}
 use Rattle.sim_stack.proofs.Common.{one_at_most, one_if, regroup, row_ends, shows_at}
 use Rattle.sim_stack.specs.Pieces as pieces
@@ -92,7 +92,7 @@ module _ (s : GplState) (u : View) where
       }))))
       (omega arith)))
 
-  turns : IsView at → EndsBy (called at) 54 s (jump CALL (read_in s).0 (unchanged (beyond s)))
+  turns : IsView at → EndsByRoom (called at) 54 s (jump CALL (read_in s).0 (unchanged (beyond s)))
   unfolding called
   turns i =
       let byte = i.cells 0x73 in
@@ -105,6 +105,6 @@ module _ (s : GplState) (u : View) where
       (sym offset) (first (exit 7 CALLN (told (top_in s))) call_on (goes_on i (omega arith))))
 
 pub calls : (s : GplState) (v : View) → IsView v → Dispatched s v →
-    EndsBy (called v) 54 s (jump CALL (read_in s).0 (unchanged (beyond s)))
+    EndsByRoom (called v) 54 s (jump CALL (read_in s).0 (unchanged (beyond s)))
 calls s v i d =
-    dispatch_is s v (λ w. EndsBy (called w) 54 s (jump CALL (read_in s).0 (unchanged (beyond s)))) i d (turns s v)
+    dispatch_is s v (λ w. EndsByRoom (called w) 54 s (jump CALL (read_in s).0 (unchanged (beyond s)))) i d (turns s v)

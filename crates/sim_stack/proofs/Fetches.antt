@@ -12,7 +12,7 @@ use Rattle.sim_rows.proofs.Common.{with_pc, with_value, with_word, Word, word_in
 use Rattle.sim_rows.specs.gpl_defs.declared.instruction.OneName.TheVariants.{FETCH}
 use Rattle.sim_rows.specs.gpl_step_defs.Place.{word_at}
 use Rattle.sim_stack.proofs.NextAddress.{aside, aside_first, later_fits, located, located_first, next_fits}
-use Rattle.sim_stack.proofs.Room.{behind_is, EndsBy, tests}
+use Rattle.sim_stack.proofs.Room.{behind_is, EndsByRoom, tests}
 use Rattle.sim_stack.proofs.Common.{◌>>◌, ask_store_first, end_fetch, Ends, fetch_on, fetch_stacked, fetched, first}
 use Rattle.sim_stack.proofs.Common.{load, load_first, load_stacked, locate_stacked, regroup, resume_row, return_offset}
 use Rattle.sim_stack.proofs.Common.{row_is, row_resumes, row_view, seen_with, set_aside, store, store_first}
@@ -180,7 +180,7 @@ module _ (s : GplState) (place : Place) (source loaded_value : ℕ) (width : Wid
 
   turns : (place_source : Source) → IsView at → u.r.r1 ≡ s.pc →
       (number_of_space place.space ≡ 0 → place.address + 1 ≤ 0xC2) →
-      EndsBy (fetched at) 131 s (row_result (One FETCH) s place place_source)
+      EndsByRoom (fetched at) 131 s (row_result (One FETCH) s place place_source)
   unfolding fetched
   turns place_source i address visible =
       let byte = i.cells 0x73 in
@@ -192,13 +192,13 @@ module _ (s : GplState) (place : Place) (source loaded_value : ℕ) (width : Wid
 
 pub fetches : (s : GplState) (place : Place) (source : Source) (v : View) → IsView v →
     operation_in s ≡ Some (One FETCH) → AtRow s place source v → operands_of s ≡ Ok (place, source) →
-    row_width s ≡ Byte → EndsBy (fetched v) 131 s (row_result (One FETCH) s place source)
+    row_width s ≡ Byte → EndsByRoom (fetched v) 131 s (row_result (One FETCH) s place source)
 fetches s place source v i is row operands narrow =
     let e = row_is s place source v (ap reads_destination is) row in
     let bytes : destination_bytes s ≡ 1 =
     ap (λ (o : Option GplOperation). bytes_by o (row_width s)) is ∙ ap size_of narrow in
     let visible : number_of_space place.space ≡ 0 → place.address + 1 ≤ 0xC2 =
     λ z. subst (λ (n : ℕ). place.address + n ≤ 0xC2) bytes (destination_visible s place source operands z) in
-    subst (λ (w : View). EndsBy (fetched w) 131 s (row_result (One FETCH) s place source)) (sym e)
+    subst (λ (w : View). EndsByRoom (fetched w) 131 s (row_result (One FETCH) s place source)) (sym e)
     (turns s place source.number (loaded_of s place) (row_width s) v source
     (subst IsView e i) row.holds.address visible)

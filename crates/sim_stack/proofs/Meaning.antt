@@ -13,7 +13,7 @@ use Rattle.sim_stack.proofs.Calls.{beyond, calls, read_in}
 use Rattle.sim_stack.proofs.Fetches.{fetches}
 use Rattle.sim_stack.proofs.Pushes.{pushes}
 use Rattle.sim_stack.proofs.ReturnRows.{before as behind, returns}
-use Rattle.sim_stack.proofs.Room.{EndsBy, never_exits}
+use Rattle.sim_stack.proofs.Room.{EndsByRoom, never_exits}
 use Rattle.sim_stack.proofs.Common.{called, comes_by, HasStarted, is_stack, is_stack_row, jump, plain, returned, row}
 use Rattle.sim_stack.proofs.Common.{turn_at}
 use Rattle.std.proofs.lemmas.Bool.{agree_below_at, eqb-true}
@@ -27,7 +27,7 @@ one_byte Word e = absurd (omega arith)
 -- FETCH and PUSH by their operands
 pub row_ends : (op : GplOperation) → is_stack_row (Some op) ≡ true → (s : GplState) (place : Place) (source : Source)
     (v : View) → IsView v → v.r.r3 ≡ 1 → operation_in s ≡ Some op → AtRow s place source v →
-    operands_of s ≡ Ok (place, source) → EndsBy (row op v) 131 s (row_result op s place source)
+    operands_of s ≡ Ok (place, source) → EndsByRoom (row op v) 131 s (row_result op s place source)
 row_ends (One FETCH) e s place source v i one is at operands =
     fetches s place source v i is at operands (one_byte (row_width s) (sym at.holds.bytes_are ∙ one))
 row_ends (One PUSH) e s place source v i one is at operands =
@@ -37,7 +37,7 @@ row_ends _ e s place source v i one is at operands = absurd (cc)
 module _ {x y : MachineState} {before after : ℕ} {turn : Turn} (turn_is : turn ≡ turn_at y.cpu.pc) where
   -- the turn, by where it ended
   pub turns_at : {e : Exit} (most : ℕ) (s : GplState) (r : Result Changes Reason) → Exits x y before after e →
-      EndsBy e most s r → TurnsBy most s x y before after turn r
+      EndsByRoom e most s r → TurnsBy most s x y before after turn r
   turns_at most s (Ok c) run h = let k = comes_by run h in (turn_is ∙ ap turn_at k.stands.pc, k)
   turns_at most s (Err reason) run h =
       let k = comes_by run h.1 in (turn_is ∙ ap turn_at k.stands.pc ∙ ap Stopped (sym h.0), k)
@@ -45,7 +45,7 @@ module _ {x y : MachineState} {before after : ℕ} {turn : Turn} (turn_is : turn
   -- what is no row, by its result
   turned_by_result : (s : GplState) (r : Result Changes Reason) {e : Exit} → is_turn_end x.cpu.pc ≡ false →
       step s ≡ (r >>= λ (c : Changes). Ok (finished c)) → ((next : GplState) → step s ≡ Ok next → bound s ≡ 440) →
-      Exits x y before after e → EndsBy e 54 s r → Turned s x y (from_dispatch before after) turn
+      Exits x y before after e → EndsByRoom e 54 s r → Turned s x y (from_dispatch before after) turn
   turned_by_result s (Ok c) start is bound_is run h =
       let k = turns_at 54 s (Ok c) run h in
       let b = bound_is (finished c) is in

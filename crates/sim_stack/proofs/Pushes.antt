@@ -6,7 +6,7 @@ use Rattle.sim_rows.proofs.Common.{GplOperation, GplState, grown_by, GSTEP, high
 use Rattle.sim_rows.proofs.Common.{on_stack, One, operation_in, Place, PUSH, reads_destination, row_result, row_width}
 use Rattle.sim_rows.proofs.Common.{SeesFinished, size_of, Source, STO, Storing, sum_of, unchanged, value_at, View}
 use Rattle.sim_rows.proofs.Common.{Width, width_in, with_cell, Word}
-use Rattle.sim_stack.proofs.Room.{EndsBy, tests}
+use Rattle.sim_stack.proofs.Room.{EndsByRoom, tests}
 use Rattle.sim_stack.proofs.Common.{◌>>◌, Ends, ends_in, finish_row, first, offset_of, pointer_at, pushed, row_finishes}
 use Rattle.sim_stack.proofs.Common.{row_is, row_view}
 
@@ -52,7 +52,7 @@ module _ (s : GplState) (place : Place) (source loaded byte : ℕ) (value : high
       (omega arith)
 
   pub turns : slice_index s.cells 0x72 < 256 → u.r.r1 ≡ s.pc →
-      EndsBy (pushed at) 131 s
+      EndsByRoom (pushed at) 131 s
       (on_stack 1 (top_in s) >>= λ top. Ok (with_cell top byte (with_cell 0x72 top (unchanged (gone_on s)))))
   unfolding pushed
   turns small address =
@@ -64,7 +64,7 @@ module _ (s : GplState) (place : Place) (source loaded byte : ℕ) (value : high
 
 pub pushes : (s : GplState) (place : Place) (source : Source) (v : View) → IsView v → operation_in s ≡ Some (One PUSH) →
     AtRow s place source v → row_width s ≡ Byte →
-    EndsBy (pushed v) 131 s (row_result (One PUSH) s place source)
+    EndsByRoom (pushed v) 131 s (row_result (One PUSH) s place source)
 pushes s place source v i is row narrow =
     let byte = value_at s (row_width s) place in
     let bytes : width_in (destination_bytes s) ≡ Byte =
@@ -78,5 +78,5 @@ pushes s place source v i is row narrow =
     ∙ ap (λ (w : Width). row_view s place source.number (loaded_of s place) w v) narrow in
     let small : slice_index s.cells 0x72 < 256 =
     subst (λ (l : List ℕ). slice_index l 0x72 < 256) row.holds.sees.cells (i.cells 0x72) in
-    subst (λ (w : View). EndsBy (pushed w) 131 s (row_result (One PUSH) s place source)) (sym e)
+    subst (λ (w : View). EndsByRoom (pushed w) 131 s (row_result (One PUSH) s place source)) (sym e)
     (turns s place source.number (loaded_of s place) byte value v small row.holds.address)

@@ -8,7 +8,7 @@ use Rattle.sim_rows.proofs.Common.{on_stack, operation_at, operation_in, pick, P
 use Rattle.sim_rows.proofs.Common.{SeesFinished, set_is, TAKE, unchanged, View, with_cell, with_condition, with_pc}
 use Rattle.sim_rows.proofs.Common.{Word, word_in}
 use Rattle.sim_stack.proofs.Dispatch.{dispatch_is, dispatch_view}
-use Rattle.sim_stack.proofs.Room.{EndsBy, tests, two_less}
+use Rattle.sim_stack.proofs.Room.{EndsByRoom, tests, two_less}
 use Rattle.sim_stack.proofs.Common.{◌>>◌, Ends, go_back, is_stack, plain, return_offset, returned}
 
 -- ---- the code bytes
@@ -78,7 +78,7 @@ module _ (s : GplState) (u : View) where
       (λ c. subst by (sym c) (rw c (λ z. goes_in (omega arith)
       (record { cells = refl; vdp = refl; registers = refl; held = refl; grom = grom }))))
 
-  turns : IsView at → EndsBy (returned at) 54 s (on_stack 2 (top_in s) >>= λ n. Ok (gone_back s (code_byte s == 0) n))
+  turns : IsView at → EndsByRoom (returned at) 54 s (on_stack 2 (top_in s) >>= λ n. Ok (gone_back s (code_byte s == 0) n))
   unfolding returned
   turns i =
       let top = top_in s in
@@ -96,7 +96,7 @@ module _ (s : GplState) (u : View) where
 
 module _ (s : GplState) (v : View) where
   abbrev by : Result Changes Reason → Type 0
-  by = EndsBy (returned v) 54 s
+  by = EndsByRoom (returned v) 54 s
 
   abbrev result : ℕ → Result Changes Reason
   result code = on_stack 2 (top_in s) >>= λ n. Ok (gone_back s (code == 0) n)
@@ -112,5 +112,5 @@ module _ (s : GplState) (v : View) where
       operation_in s ≡ Some (Plain op) → by (plain op (unchanged (before s)))
   returns op family i d is =
       returns_by op family
-      (dispatch_is s v (λ w. EndsBy (returned w) 54 s (result (code_byte s))) i d (turns s v))
+      (dispatch_is s v (λ w. EndsByRoom (returned w) 54 s (result (code_byte s))) i d (turns s v))
       (code_is s (Some (Plain op)) (code_fits s (behind_code s) v i d.sees) is)

@@ -22,19 +22,19 @@ abbrev stacked_by : ℕ → Bool → Result ℕ Reason
 stacked_by top b = if b then Ok top else Err Stack
 
 -- A row ends as its result says; no room on a stack is the only reason to stop.
-abbrev pub EndsBy : Exit → ℕ → GplState → Result Changes Reason → Type 0
-EndsBy e most s (Ok c) = Ends e most GSTEP (SeesFinished c)
-EndsBy e most s (Err reason) = (reason ≡ Stack) × Ends e most GSTOP (StoppedBy s reason)
+abbrev pub EndsByRoom : Exit → ℕ → GplState → Result Changes Reason → Type 0
+EndsByRoom e most s (Ok c) = Ends e most GSTEP (SeesFinished c)
+EndsByRoom e most s (Err reason) = (reason ≡ Stack) × Ends e most GSTOP (StoppedBy s reason)
 
 -- A row that begins with the test stops where the stack has no room for its bytes, and else makes its changes.
 pub tests : (s : GplState) (last bytes offset top count : ℕ) (v : View) (on : Exit) (f : View → Exit) (most : ℕ)
     (made : ℕ → Changes) → last + bytes ≡ 0xC2 → offset ≡ top → count ≤ most → ShowsEnd s v →
     (on.to == GSTOP) ≡ false → (top ≤ last → Ends (on >> f) most GSTEP (SeesFinished (made top))) →
-    EndsBy (if_room last offset count v on >>? f) most s (on_stack bytes top >>= λ n. Ok (made n))
+    EndsByRoom (if_room last offset count v on >>? f) most s (on_stack bytes top >>= λ n. Ok (made n))
 unfolding if_room
 tests s last bytes offset top count v on f most made all is within ended goes next =
     let by : Result ℕ Reason → Type 0 =
-    λ r. EndsBy (if_room last offset count v on >>? f) most s (r >>= λ n. Ok (made n)) in
+    λ r. EndsByRoom (if_room last offset count v on >>? f) most s (r >>= λ n. Ok (made n)) in
     pick (nat_lt last offset)
     (λ c. let above : last < offset = ltb-true last offset c in
     let none : nat_le (top + bytes) 0xC2 ≡ false = lt-leb (top + bytes) 0xC2 (omega arith) in
@@ -51,5 +51,5 @@ tests s last bytes offset top count v on f most made all is within ended goes ne
     subst by (sym (ap (stacked_by top) some)) (rw (c, goes) (next (omega arith))))
 
 pub never_exits : (e : Exit) (most : ℕ) (s : GplState) {r : Result Changes Reason} {reason : Reason} →
-    EndsBy e most s r → r ≡ Err reason → reason ≡ reasons.Exit → ⊥
-never_exits e most s h is other = let alone = (subst (EndsBy e most s) is h).0 in absurd (cc)
+    EndsByRoom e most s r → r ≡ Err reason → reason ≡ reasons.Exit → ⊥
+never_exits e most s h is other = let alone = (subst (EndsByRoom e most s) is h).0 in absurd (cc)

@@ -63,11 +63,12 @@ find_next v =
       grom = read_once (read_once v.grom);
     })
 
--- CALLS: the pointer is stored, then the address, which may lie over the character's cell; and GROM goes on at the
--- target.
+-- Whether a word that is stored at an offset has the character's cell.
 abbrev pub shows_at : ℕ → Bool
 shows_at offset = not (nat_lt 0x7D offset) && not (nat_lt offset 0x7C)
 
+-- CALLS: the pointer is stored, then the address, which may lie over the character's cell; and GROM goes on at the
+-- target.
 abbrev pub store_next : View → Exit
 store_next v =
     let count = if nat_lt 0x7D v.r.r7 then 9 else if nat_lt v.r.r7 0x7C then 11 else 12 in

@@ -1,7 +1,7 @@
 use Rattle.std.proofs.Common.{refl}
 use Rattle.sim_rows.proofs.sim_view.Routines.{exit_then}
+use Rattle.sim_rows.specs.sim_operands.Routines.{check_index}
 use Rattle.sim_rows.specs.sim_operands.Pieces as subroutine
-use Rattle.sim_move.specs.Rows.{check_index}
 use Rattle.sim_move.specs.Pieces as piece
 use Rattle.sim_move.proofs.source.index_source.Goals as goal
 

@@ -1,6 +1,9 @@
-use Rattle.sim_move.proofs.Common.{◌∙◌, check_index, ends_there, follow_pointer, goes_on, INDEX, refl, sym, view}
-use Rattle.sim_rows.specs.sim_operands.Pieces as subroutine
-use Rattle.sim_move.proofs.operand.follow_pointer.Goals as goal
+use Rattle.std.proofs.Common.{◌∙◌, refl, sym}
+use Rattle.sim_view.proofs.Common.{INDEX, view}
+use Rattle.sim_operands.proofs.Ends.{ends_there, goes_on}
+use Rattle.sim_operands.specs.Routines.{check_index, follow_pointer}
+use Rattle.sim_operands.specs.Pieces as piece
+use Rattle.sim_operands.proofs.address.follow_pointer.Goals as goal
 
 pub returns-then-read_pointer : goal.returns-then-read_pointer
 unfolding follow_pointer
@@ -11,5 +14,5 @@ returns-then-read_pointer g c =
 pub returns-else-read_pointer : goal.returns-else-read_pointer
 unfolding follow_pointer
 returns-else-read_pointer g c =
-    ends_there INDEX (subroutine.pointer (view c.args.machine.now)) check_index c.read_pointer.ensures.exits
+    ends_there INDEX (piece.pointer (view c.args.machine.now)) check_index c.read_pointer.ensures.exits
     (sym c.read_pointer.ensures.went ∙ c.if-read_pointer.false)
