@@ -1,5 +1,5 @@
 -- A memory that holds the interpreter, and the registers that the interpreter works with.
-use Rattle.std.specs.Prelude.{◌≡◌, ◌<◌, ℕ, ◌*◌, List, [], ◌∷◌, length, slice_index}
+use Rattle.std.specs.Prelude.{◌≡◌, ◌<◌, ℕ, ◌*◌, List, length, slice_index}
 use Rattle.tms_defs.specs.Bytes.{word_in}
 use Rattle.tms_defs.specs.Accesses.{Gives}
 use Rattle.tms_defs.specs.Operand.{register_in}
@@ -15,16 +15,6 @@ HoldsInterpreter bytes =
 -- A register of the interpreter's workspace holds a word.
 abbrev pub HoldsRegister : Memory → ℕ → ℕ → Type 0
 HoldsRegister memory number word = word_read memory (register_in WORKSPACE number) ≡ Gives word
-
--- Profile: the registers that hold one word at the beginning of each step, with that word. There is none, since the
--- words of the interpreter name the ports by their addresses.
-abbrev pub constants : List (ℕ × ℕ)
-constants = []
-
-abbrev pub HoldsConstants : Memory → List (ℕ × ℕ) → Type 0
-HoldsConstants memory [] = Unit {0}
-HoldsConstants memory (constant ∷ others) =
-    HoldsRegister memory constant.0 constant.1 × HoldsConstants memory others
 
 -- Profile: at the dispatch of a step, where the first table has led, these two registers hold the code byte and its
 -- address.

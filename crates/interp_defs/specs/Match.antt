@@ -11,7 +11,7 @@ use Rattle.gpl_step_defs.specs.declared.reason.Reason.{Reason}
 use Rattle.gpl_step_defs.specs.declared.reason.Reason.TheVariants.{Exit}
 use Rattle.gpl_step_defs.specs.Reasons.{number_of}
 use Rattle.gpl_step_defs.specs.State.{GplState}
-use Rattle.interp_defs.specs.Interpreter.{HoldsInterpreter, HoldsRegister, HoldsConstants, constants, address_register}
+use Rattle.interp_defs.specs.Interpreter.{HoldsInterpreter, HoldsRegister, address_register}
 
 -- The state of GPL that a memory shows. The counter of the GROMs stands one past the byte to come.
 abbrev pub shown_by : Memory → GplState
@@ -41,7 +41,6 @@ pub record IsMatching (x : MachineState) : Type 0 where
   pub words : HoldsInterpreter x.cpu.memory.low_expansion
   pub idle : PortsAreIdle x.cpu.memory
   pub fetched : IsFetched x.cpu.memory.grom
-  pub constants : HoldsConstants x.cpu.memory constants
 
 -- It matches the state that it shows.
 pub record Matches (s : GplState) (x : MachineState) : Type 0 where
@@ -60,6 +59,7 @@ pub record IsHalted (s : GplState) (reason : Reason) (x : MachineState) : Type 0
   pub cells : (shown_by x.cpu.memory).cells ≡ s.cells
   pub vdp : x.cpu.memory.vdp.memory ≡ s.vdp
   pub registers : x.cpu.memory.vdp.registers ≡ s.registers
+  pub image : x.cpu.memory.grom.image ≡ s.image
   pub wp : x.cpu.wp ≡ WORKSPACE
   pub address : HoldsRegister x.cpu.memory address_register s.pc
   pub stands : StandsBy reason x

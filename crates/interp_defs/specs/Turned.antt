@@ -11,26 +11,26 @@ use Rattle.interp_defs.specs.Interpreter.{most_to_dispatch}
 use Rattle.interp_defs.specs.Match.{Matches, IsHalted}
 use Rattle.interp_defs.specs.Turns.{IsTurn}
 
--- What is counted of a turn from a machine on: how many instructions of its step led to that machine, and what a
--- counter shows there and at the end of the turn.
+-- What is counted of a turn from a machine on: how many instructions of its step have led to that machine at most, and
+-- what a counter shows there and at the end of the turn.
 pub record TurnCount : Type 0 where
-  pub led : ℕ
+  pub led_at_most : ℕ
   pub before : ℕ
   pub after : ℕ
 
 -- a turn from the beginning of its step, and one from its dispatch, to which at most `most_to_dispatch` instructions
 -- lead
 abbrev pub whole_turn : ℕ → ℕ → TurnCount
-whole_turn before after = record { led = 0; before = before; after = after }
+whole_turn before after = record { led_at_most = 0; before = before; after = after }
 
 abbrev pub from_dispatch : ℕ → ℕ → TurnCount
-from_dispatch before after = record { led = most_to_dispatch; before = before; after = after }
+from_dispatch before after = record { led_at_most = most_to_dispatch; before = before; after = after }
 
 -- A turn leads from x to y, and a counter shows its instructions. With the instructions that led to x they are at most
 -- `most`.
 pub record Reaches (most : ℕ) (x y : MachineState) (counts : TurnCount) : Type 0 where
   pub count : ℕ
-  pub within : counts.led + count ≤ most
+  pub within : counts.led_at_most + count ≤ most
   pub counted : counts.after ≡ counts.before + count
   pub turn : IsTurn count x y
 

@@ -15,7 +15,13 @@ exits {s = s} {x = x} {y = y} {t = t} {u = u} d e stands run =
     let is = step_plain s EXIT e in
     let h = d.sees in
     let ended : Goes (pieces.leave (view x)) 1 GEXIT (ShowsEnd s) = goes_in (omega arith)
-    (record { cells = h.cells; vdp = h.vdp; registers = h.registers; address = d.address }) in
+    (record {
+      cells = h.cells;
+      vdp = h.vdp;
+      registers = h.registers;
+      image = ap (λ (g : GromState). g.image) h.grom;
+      address = d.address;
+    }) in
     let c = comes run ended in
     let b = bound_stop s Exit is in
     turned_by x y t u most_to_dispatch (Stopped Exit) s (Err Exit) is

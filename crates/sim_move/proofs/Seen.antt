@@ -67,7 +67,7 @@ ready_at s at u = ap (grom_at s.image) (sym (previous-next at))
 pub halted : (s : GplState) (next : ℕ) (reason : Reason) (u : View) →
     StoppedBy s reason (record (seen s next u) { r = record (seen s next u).r { r0 = number_of reason } })
 halted s next reason u = record {
-  ended = record { cells = refl; vdp = refl; registers = refl; address = refl };
+  ended = record { cells = refl; vdp = refl; registers = refl; image = refl; address = refl };
   reason_is = refl;
 }
 

@@ -66,7 +66,7 @@ module _ (s : GplState) (count next : ℕ) (u : View) where
         (λ more. let l = ltb-true 8 (number + count) more in
         rw (sum, more, lt-leb (number + count) 8 l) (record {
           by = goes_in (omega arith) (record {
-            ended = record { cells = refl; vdp = refl; registers = refl; address = refl };
+            ended = record { cells = refl; vdp = refl; registers = refl; image = refl; address = refl };
             reason_is = refl;
           });
         }))

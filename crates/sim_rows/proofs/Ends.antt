@@ -52,7 +52,6 @@ matches s y stands h = record {
     words = stands.words;
     idle = idle_of y.cpu.memory s s.pc h;
     fetched = fetched_of y.cpu.memory s s.pc h;
-    constants = tt;
   };
   shows = shown_is y.cpu.memory ∙ state_is (view y) s h;
 }
@@ -65,11 +64,16 @@ vdp_of : (m : Memory) → m.vdp ≡ (view_of m).vdp
 unfolding view_of
 vdp_of m = refl
 
+grom_of : (m : Memory) → m.grom ≡ (view_of m).grom
+unfolding view_of
+grom_of m = refl
+
 pub leaves : (s : GplState) (y : MachineState) → Stands y GEXIT → ShowsEnd s (view y) → IsHalted s Exit y
 leaves s y stands h = record {
   cells = cells_of y.cpu.memory ∙ h.cells;
   vdp = ap (λ (d : VdpState). d.memory) (vdp_of y.cpu.memory) ∙ h.vdp;
   registers = ap (λ (d : VdpState). d.registers) (vdp_of y.cpu.memory) ∙ h.registers;
+  image = ap (λ (g : GromState). g.image) (grom_of y.cpu.memory) ∙ h.image;
   wp = stands.wp;
   address = holds_register y.cpu.memory 1 stands.machine.memory (lit< tt) ∙ ap Gives h.address;
   stands = stands.pc;
@@ -86,6 +90,7 @@ stops s reason y other stands h = record {
   cells = cells_of y.cpu.memory ∙ h.ended.cells;
   vdp = ap (λ (d : VdpState). d.memory) (vdp_of y.cpu.memory) ∙ h.ended.vdp;
   registers = ap (λ (d : VdpState). d.registers) (vdp_of y.cpu.memory) ∙ h.ended.registers;
+  image = ap (λ (g : GromState). g.image) (grom_of y.cpu.memory) ∙ h.ended.image;
   wp = stands.wp;
   address = holds_register y.cpu.memory 1 stands.machine.memory (lit< tt) ∙ ap Gives h.ended.address;
   stands = stands_by reason y other (stands.pc, holds_register y.cpu.memory 0 stands.machine.memory (lit< tt) ∙ ap Gives h.reason_is);

@@ -98,7 +98,13 @@ holds_loaded s bytes at number v w h a = subst (Holds s bytes at) (sym a.is) (re
 -- A stop by the cells keeps the state.
 pub barred_stops : (s : GplState) (bytes at : ℕ) (reason : Reason) (v w : View) → Holds s bytes at v → OperandStop v reason w → StoppedBy s reason w
 barred_stops s bytes at reason v w h a = subst (StoppedBy s reason) (sym a.is) (record {
-  ended = record { cells = h.sees.cells; vdp = h.sees.vdp; registers = h.sees.registers; address = h.address };
+  ended = record {
+    cells = h.sees.cells;
+    vdp = h.sees.vdp;
+    registers = h.sees.registers;
+    image = ap (λ (g : GromState). g.image) h.sees.grom;
+    address = h.address;
+  };
   reason_is = refl;
 })
 

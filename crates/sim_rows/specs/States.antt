@@ -48,6 +48,7 @@ pub record ShowsEnd (s : GplState) (w : View) : Type 0 where
   pub cells : w.cells ≡ s.cells
   pub vdp : w.vdp.memory ≡ s.vdp
   pub registers : w.vdp.registers ≡ s.registers
+  pub image : w.grom.image ≡ s.image
   pub address : w.r.r1 ≡ s.pc
 
 pub record StoppedBy (s : GplState) (reason : Reason) (w : View) : Type 0 where

@@ -99,7 +99,7 @@ module _ (s : GplState) (u : View) where
       let offset : call_offset at ≡ top_in s = omega arith in
       tests s 0xC0 2 (call_offset at) (top_in s) 10 (told (call_offset at)) (exit 7 CALLN (told (call_offset at))) call_on
       54 (gone_to s) refl offset (omega arith)
-      (record { cells = refl; vdp = refl; registers = refl; address = refl })
+      (record { cells = refl; vdp = refl; registers = refl; image = refl; address = refl })
       refl
       (λ near. subst (λ (n : ℕ). Ends (exit 7 CALLN (told n) >> call_on) 54 GSTEP (SeesFinished (gone_to s (top_in s))))
       (sym offset) (first (exit 7 CALLN (told (top_in s))) call_on (goes_on i (omega arith))))

@@ -187,7 +187,7 @@ module _ (s : GplState) (place : Place) (source loaded_value : ℕ) (width : Wid
       let offset : return_offset at ≡ top_in s = omega arith in
       tests s 0xC0 2 (return_offset at) (top_in s) 7 told (exit 7 WHERE placed) fetch_on 131
       (λ top. with_byte_from (word_at s top) top place (unchanged (gone_on s))) refl offset (omega arith)
-      (record { cells = refl; vdp = refl; registers = refl; address = address }) refl
+      (record { cells = refl; vdp = refl; registers = refl; image = refl; address = address }) refl
       (λ near. goes_on i offset near visible)
 
 pub fetches : (s : GplState) (place : Place) (source : Source) (v : View) → IsView v →

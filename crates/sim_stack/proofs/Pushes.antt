@@ -59,7 +59,7 @@ module _ (s : GplState) (place : Place) (source loaded byte : ℕ) (value : high
       let offset : offset_of pointer ≡ top_in s = omega arith in
       tests s 0xC1 1 (offset_of pointer) (top_in s) 10 told (exit 10 STO pointed) finish_row 131
       (λ top. with_cell top byte (with_cell 0x72 top (unchanged (gone_on s)))) refl offset (omega arith)
-      (record { cells = refl; vdp = refl; registers = refl; address = address }) refl
+      (record { cells = refl; vdp = refl; registers = refl; image = refl; address = address }) refl
       (λ near. goes_on small offset near)
 
 pub pushes : (s : GplState) (place : Place) (source : Source) (v : View) → IsView v → operation_in s ≡ Some (One PUSH) →

@@ -89,7 +89,7 @@ module _ (s : GplState) (u : View) where
       let less = i.cells (top + 1) in
       tests s 0xC0 2 (return_offset at) top 7 (record at { r = record at.r { r2 = return_offset at } })
       (on (code_byte s == 0) (return_offset at) pointer) go_back 54 (gone_back s (code_byte s == 0)) refl offset (omega arith)
-      (record { cells = refl; vdp = refl; registers = refl; address = refl })
+      (record { cells = refl; vdp = refl; registers = refl; image = refl; address = refl })
       (pick (code_byte s == 0) (λ c. rw c refl) (λ c. rw c refl))
       (λ near. subst (λ (n : ℕ). ends (code_byte s == 0) n (low (difference_of Word n 2))) (sym offset)
       (subst (ends (code_byte s == 0) top) (sym (two_less top byte)) (goes_on (omega arith))))

@@ -42,7 +42,13 @@ tests s last bytes offset top count v on f most made all is within ended goes ne
     (rw c (
       refl,
       λ z. goes_in within (record {
-        ended = record { cells = ended.cells; vdp = ended.vdp; registers = ended.registers; address = ended.address };
+        ended = record {
+          cells = ended.cells;
+          vdp = ended.vdp;
+          registers = ended.registers;
+          image = ended.image;
+          address = ended.address;
+        };
         reason_is = refl;
       }),
     )))

@@ -1,6 +1,6 @@
 -- The code bytes that stop.
 use Rattle.std.proofs.Common.{ℕ, ◌≡◌, ap, arith, Err, refl}
-use Rattle.sim_rows.proofs.Common.{bound, bound_stop, comes, Dispatched, Exits, Goes, goes_in, GplState, GSTOP, is_turn_end, MachineState, most_to_dispatch, Opcode}
+use Rattle.sim_rows.proofs.Common.{bound, bound_stop, comes, Dispatched, Exits, Goes, goes_in, GplState, GromState, GSTOP, is_turn_end, MachineState, most_to_dispatch, Opcode}
 use Rattle.sim_rows.proofs.Common.{from_dispatch, reaches, Stands, step, Stopped, StoppedBy, stops, Turned, turned_by, UNKN, view}
 use Rattle.sim_steps.specs.Pieces as pieces
 
@@ -10,7 +10,16 @@ module _ (s : GplState) (x y : MachineState) (t u : ℕ) (d : Dispatched s (view
   refuses is stands run =
       let h = d.sees in
       let ended : Goes (pieces.stop_code (view x)) 2 GSTOP (StoppedBy s Opcode) =
-      goes_in (omega arith) (record { ended = record { cells = h.cells; vdp = h.vdp; registers = h.registers; address = d.address }; reason_is = refl }) in
+      goes_in (omega arith) (record {
+        ended = record {
+          cells = h.cells;
+          vdp = h.vdp;
+          registers = h.registers;
+          image = ap (λ (g : GromState). g.image) h.grom;
+          address = d.address;
+        };
+        reason_is = refl;
+      }) in
       let c = comes run ended in
       let b = bound_stop s Opcode is in
       turned_by x y t u most_to_dispatch (Stopped Opcode) s (Err Opcode) is
