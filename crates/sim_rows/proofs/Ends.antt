@@ -105,7 +105,7 @@ operand_list (suc count) x y r a b = omega arith
 
 -- what is come to from a dispatch
 pub reaches : {x y : MachineState} {before after most to : ℕ} {Q : View → Type 0} (led bound : ℕ) → ReachesWithin most x y before after to Q →
-    is_turn_end x.cpu.pc ≡ false → is_turn_end to ≡ true → led + most ≤ bound → Reaches bound x y (record { led = led; before = before; after = after })
+    is_turn_end x.cpu.pc ≡ false → is_turn_end to ≡ true → led + most ≤ bound → Reaches bound x y (record { led_at_most = led; before = before; after = after })
 reaches {x = x} {y = y} led bound c start end fits =
     let w = c.within in
     let there = ap is_turn_end c.stands.pc ∙ end in
@@ -145,5 +145,5 @@ turned_from z after s turn c e t = from_by z after s (step s) turn c e t
 
 -- a turn by what the step is
 pub turned_by : (x y : MachineState) (before after led : ℕ) (turn : Turn) (s : GplState) (r : Result GplState Reason) → step s ≡ r →
-    TurnedBy r s x y (record { led = led; before = before; after = after }) turn → Turned s x y (record { led = led; before = before; after = after }) turn
-turned_by x y before after led turn s r e t = subst (λ (q : Result GplState Reason). TurnedBy q s x y (record { led = led; before = before; after = after }) turn) (sym e) t
+    TurnedBy r s x y (record { led_at_most = led; before = before; after = after }) turn → Turned s x y (record { led_at_most = led; before = before; after = after }) turn
+turned_by x y before after led turn s r e t = subst (λ (q : Result GplState Reason). TurnedBy q s x y (record { led_at_most = led; before = before; after = after }) turn) (sym e) t
