@@ -1,4 +1,4 @@
-use Rattle.std.proofs.Common.{List, ℕ, [], ◌++◌, map, append-nil, sym, subst}
+use Rattle.std.proofs.Common.{◌≡◌, List, ℕ, [], ◌++◌, map, append-nil, sym, subst}
 use Rattle.native_interp.specs.declared.source.operations.TheConstants.{OPERATION_LINES}
 use Rattle.native_interp.specs.declared.source.flow.TheConstants.{FLOW_LINES}
 use Rattle.native_interp.specs.declared.source.copy.TheConstants.{COPY_LINES}
@@ -6,38 +6,50 @@ use Rattle.asm_core.specs.declared.lines.AsmLines.{AsmLines}
 use Rattle.gpl_run.specs.Feeding.{HasLeft}
 use Rattle.gpl_run.proofs.assembling.take_source.Goals as goal
 
--- the parts of the source behind the first, the second and the third
-abbrev behind_third : List (List ℕ)
-behind_third = map (λ line. line.now) COPY_LINES
+-- the parts of the source after the first, the second and the third
+abbrev after_third : List (List ℕ)
+after_third = map (λ line. line.now) COPY_LINES
 
-abbrev behind_second : List (List ℕ)
-behind_second = map (λ line. line.now) FLOW_LINES ++ behind_third
+abbrev after_second : List (List ℕ)
+after_second = map (λ line. line.now) FLOW_LINES ++ after_third
 
-abbrev behind_first : List (List ℕ)
-behind_first = map (λ line. line.now) OPERATION_LINES ++ behind_second
+abbrev after_first : List (List ℕ)
+after_first = map (λ line. line.now) OPERATION_LINES ++ after_second
 
-ended : (builder : AsmLines) → HasLeft behind_third builder → HasLeft (behind_third ++ []) builder
-ended builder has = subst (λ left. HasLeft left builder) (sym (append-nil behind_third)) has
+-- the lines that a call gives are the part that is next
+is_next : {part found : List (List ℕ)} (rest : List (List ℕ)) {builder : AsmLines} → found ≡ part
+    → HasLeft (part ++ rest) builder → HasLeft (found ++ rest) builder
+is_next rest {builder} is has = subst (λ part. HasLeft (part ++ rest) builder) (sym is) has
+
+last_is_next : {found : List (List ℕ)} {builder : AsmLines} → found ≡ after_third → HasLeft after_third builder
+    → HasLeft (found ++ []) builder
+last_is_next {found} {builder} is has =
+    subst (λ left. HasLeft left builder) (sym (append-nil found)) (subst (λ part. HasLeft part builder) (sym is) has)
 
 pub take_lines-requires : goal.take_lines-requires
-take_lines-requires c = (behind_first, c.requires)
+take_lines-requires c = (after_first, is_next after_first c.routine_lines.ensures c.requires)
 
 pub take_lines-requires-2 : goal.take_lines-requires-2
-take_lines-requires-2 c = (behind_second, c.in_ok-take_lines.ensures {u = tt} behind_first c.requires)
+take_lines-requires-2 c =
+    let first = c.in_ok-take_lines.ensures {u = tt} after_first (is_next after_first c.routine_lines.ensures c.requires) in
+    (after_second, is_next after_second c.operation_lines.ensures first)
 
 pub take_lines-requires-3 : goal.take_lines-requires-3
 take_lines-requires-3 c =
-    let first = c.in_ok-take_lines.ensures {u = tt} behind_first c.requires in
-    (behind_third, c.in_ok-take_lines-2.ensures {u = tt} behind_second first)
+    let first = c.in_ok-take_lines.ensures {u = tt} after_first (is_next after_first c.routine_lines.ensures c.requires) in
+    let second = c.in_ok-take_lines-2.ensures {u = tt} after_second (is_next after_second c.operation_lines.ensures first) in
+    (after_third, is_next after_third c.flow_lines.ensures second)
 
 pub take_lines-requires-4 : goal.take_lines-requires-4
 take_lines-requires-4 c =
-    let first = c.in_ok-take_lines.ensures {u = tt} behind_first c.requires in
-    let second = c.in_ok-take_lines-2.ensures {u = tt} behind_second first in
-    ([], ended _ (c.in_ok-take_lines-3.ensures {u = tt} behind_third second))
+    let first = c.in_ok-take_lines.ensures {u = tt} after_first (is_next after_first c.routine_lines.ensures c.requires) in
+    let second = c.in_ok-take_lines-2.ensures {u = tt} after_second (is_next after_second c.operation_lines.ensures first) in
+    let third = c.in_ok-take_lines-3.ensures {u = tt} after_third (is_next after_third c.flow_lines.ensures second) in
+    ([], last_is_next c.copy_lines.ensures third)
 
 pub returns : goal.returns
 returns c =
-    let first = c.in_ok-take_lines.ensures {u = tt} behind_first c.requires in
-    let second = c.in_ok-take_lines-2.ensures {u = tt} behind_second first in
-    c.take_lines-4.ensures [] (ended _ (c.in_ok-take_lines-3.ensures {u = tt} behind_third second))
+    let first = c.in_ok-take_lines.ensures {u = tt} after_first (is_next after_first c.routine_lines.ensures c.requires) in
+    let second = c.in_ok-take_lines-2.ensures {u = tt} after_second (is_next after_second c.operation_lines.ensures first) in
+    let third = c.in_ok-take_lines-3.ensures {u = tt} after_third (is_next after_third c.flow_lines.ensures second) in
+    c.take_lines-4.ensures [] (last_is_next c.copy_lines.ensures third)
