@@ -7,8 +7,6 @@ mod failing_ends;
 #[cfg(test)]
 mod failing_rows;
 #[cfg(test)]
-mod rows;
-#[cfg(test)]
 mod run;
 #[cfg(test)]
 mod statuses;

@@ -72,7 +72,7 @@ const READINGS: &[(&[u8], u64, usize, Got)] = &[
 ];
 
 /// The name with these bytes, which are one.
-pub(crate) fn name_of(bytes: &[u8]) -> Result<FileName, AllocError> {
+fn name_of(bytes: &[u8]) -> Result<FileName, AllocError> {
     match FileName::read(bytes) {
         Some(name) => Ok(name),
         None => Err(AllocError),

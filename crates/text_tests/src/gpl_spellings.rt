@@ -1,12 +1,23 @@
 //! Other spellings of GPL's instructions, the code bytes that are no instruction's, and the instructions that have no
-//! bytes.
+//! bytes. The shortest spellings are in `tests/rows`.
 
-use crate::gpl_bytes::{CELL, HERE, is_read_as, put_all, stands_short};
+use gpl_forms::Space::Cpu;
 use gpl_forms::{
-    GplInstr, GplRead, GplSource, GromImage, MoveLength, MoveSource, MoveTarget, OneName, TwoName,
-    is_valid, read_instr,
+    GplInstr, GplOperand, GplRead, GplSource, GromImage, MoveLength, MoveSource, MoveTarget,
+    OneName, TwoName, is_shortest, is_valid, read_instr,
 };
 use std::test::Fail;
+
+/// Where the bytes stand.
+const HERE: u16 = 0x6000;
+
+/// `@>8305`
+const CELL: GplOperand = GplOperand {
+    space: Cpu,
+    indirect: false,
+    address: 0x05,
+    index: None,
+};
 
 /// `ABS @>8305`
 const ABS_CELL: GplInstr = GplInstr::One {
@@ -71,6 +82,28 @@ const INVALID: &[GplInstr] = &[
         source: MoveSource::GromIndexed(0, 0),
     },
 ];
+
+/// Writes bytes from an address on, which goes on in its GROM.
+fn put_all(image: &mut GromImage, at: u16, bytes: &[u8]) {
+    let mut place = at;
+    for byte in bytes {
+        image.put(place, *byte);
+        place = place / 0x2000 * 0x2000 + (place % 0x2000 + 1) % 0x2000;
+    }
+}
+
+/// Whether an instruction is read at an address, with the address after it.
+fn is_read_as(image: &GromImage, at: u16, instr: GplInstr, next: u16) -> bool {
+    read_instr(image.bytes(), at) == GplRead::Instr { instr, next }
+}
+
+/// Whether the instruction at an address, where there is one, stands there in its shortest spelling.
+fn stands_short(image: &GromImage, at: u16) -> bool {
+    match read_instr(image.bytes(), at) {
+        GplRead::Instr { .. } => is_shortest(image.bytes(), at),
+        GplRead::Refused(_) => false,
+    }
+}
 
 /// Whether a code byte is no instruction's.
 fn is_refused(code: u8) -> bool {

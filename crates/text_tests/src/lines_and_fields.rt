@@ -2,10 +2,7 @@
 
 ghost use Rattle.std.specs.Prelude.{◌<◌, ◌^◌, length};
 
-use asm_text::{
-    DefineError, ExprError, Name, Symbols, TextError, Value, fields, is_word, lines, tokens, value,
-};
-use std::alloc::Global;
+use asm_text::{Name, TextError, fields, is_word, lines};
 use std::test::Fail;
 
 /// Texts with the bounds of their lines.
@@ -129,48 +126,5 @@ fn keeps_names_and_says_causes(rt: HostRuntime) -> Result<(), Fail> {
     assert!(rt; compares_words() && reads_names());
     let cause = format!(in rt.alloc(); "{}, {}", TextError::LineTooLong, TextError::BadLabel)?;
     assert!(rt; cause.as_str() == "line too long, bad label");
-    Ok(())
-}
-
-/// LOOP at the relocatable place >0104.
-fn names(alloc: Global) -> Result<Symbols, DefineError> {
-    let mut symbols = Symbols::new(alloc);
-    if let Some(name) = Name::read(b"LOOP") {
-        symbols.define(name, Value::Relocatable(0x0104))?;
-    }
-    Ok(symbols)
-}
-
-/// The value of a text at the relocatable place >0110.
-fn value_of(alloc: Global, symbols: &Symbols, text: &[u8]) -> Result<Value, ExprError> {
-    let found = tokens(alloc, text)?;
-    value(found.as_slice(), text, symbols, Value::Relocatable(0x0110))
-}
-
-/// Expressions with their absolute values.
-const EXPRESSIONS: &[(&[u8], u16)] = &[
-    (b"1+2*3", 9),
-    (b"-7/2", 0xFFFD),
-    (b"$-loop", 12),
-    (b"R15*>1001", 0xF00F),
-    (b"'A'''", 0x4127),
-];
-
-/// Whether a name is refused that stands for something already.
-fn refuses_a_second_value(symbols: &mut Symbols, name: &[u8]) -> bool {
-    match Name::read(name) {
-        Some(name) => symbols.define(name, Value::Absolute(1)) == Err(DefineError::Duplicate),
-        None => false,
-    }
-}
-
-#[test]
-fn values_expressions_by_their_names(rt: HostRuntime) -> Result<(), Fail> {
-    let mut symbols = names(rt.alloc())?;
-    for &(text, number) in EXPRESSIONS {
-        assert!(rt; value_of(rt.alloc(), &symbols, text) == Ok(Value::Absolute(number)));
-    }
-    assert!(rt; refuses_a_second_value(&mut symbols, b"LOOP"));
-    assert!(rt; refuses_a_second_value(&mut symbols, b"R15"));
     Ok(())
 }
