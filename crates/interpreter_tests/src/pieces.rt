@@ -6,7 +6,7 @@ ghost use Rattle.interp_defs.specs.Match.{PortsAreIdle};
 use crate::machines::{Program, booting};
 use native_interp::{GBOOT, GEXIT, GOB, GOEXIT, GOTO, GSTEP, GSTOP, SEEK, UNKN};
 use sim_flow::{leave, read_target};
-use sim_jumps::go_on;
+use sim_jumps::go_to;
 use sim_operands::run_seek;
 use sim_rows::dispatch;
 use sim_steps::{boot, stop_code};
@@ -79,7 +79,7 @@ fn run_piece<L: Ledger>(machine: &mut Machine, steps: &mut Steps<L>) {
         UNKN => stop_code(machine, steps),
         SEEK if is_idle(machine) => run_seek(machine, steps),
         GOB => read_target(machine, steps),
-        GOTO => go_on(machine, steps),
+        GOTO => go_to(machine, steps),
         GOEXIT => leave(machine, steps),
         _ => {}
     }

@@ -1,12 +1,12 @@
--- What a comparison tells, and how it ends.
+-- What a comparison decides, and how it ends.
 use Rattle.std.proofs.Common.{ℕ, ◌+◌, ◌<◌, ◌==◌, ◌∙◌, ◌≡◌, ◌≤◌, ap, arith, bit_and, Bool, false, int_le, int_lt, List, nat_le, nat_lt, not, Ok, Option, refl, slice_index}
 use Rattle.std.proofs.Common.{slice_set, Some, subst, sym, true}
 use Rattle.sim_rows.proofs.Common.{Byte, bytes_by, CEQ, CGE, CGT, CH, CHE, CLOG, ReachesWithin, comes, comes_then, CTRUE, CZ, Exits, Goes, goes_in, gone_on}
 use Rattle.sim_rows.proofs.Common.{GplOperation, GplState, GSTEP, in_register, is_turn_end, IsView, loaded_of, MachineState, modulus, next_of, One, ones_cleared}
 use Rattle.sim_rows.proofs.Common.{ones_set, operation_in, Place, reads_destination, row_result, row_width, RunsRow, ShowsState, SeesFinished, SeesResult, signed}
 use Rattle.sim_rows.proofs.Common.{Source, ST, Stands, Two, unchanged, value_at, View, view, Width, width_in, with_condition, Word}
-use Rattle.sim_compare.specs.Pieces.{end_of, told}
-use Rattle.sim_compare.specs.Family.{comparison, ending, is_comparison, IsTold}
+use Rattle.sim_compare.specs.Pieces.{end_of, decided}
+use Rattle.sim_compare.specs.Family.{comparison, ending, is_comparison, IsDecided}
 use Rattle.sim_compare.proofs.Numbers.{at_most, at_most_signed, below_in_register, equal_in_register, number_fits, ones_in_register, order_in_register}
 use Rattle.sim_compare.proofs.Numbers.{zero_in_register}
 
@@ -23,10 +23,10 @@ compared operation width x y = false
 
 -- ---- the two ends
 
-pub told_goes : (held failed most : ℕ) (b : Bool) {Q : View → Type 0} (w : View) → held ≤ most → failed ≤ most → Q w →
-    Goes (told held failed b w) most (end_of b) Q
-told_goes held failed most true w h k q = record { within = h; to_is = refl; holds = q }
-told_goes held failed most false w h k q = record { within = k; to_is = refl; holds = q }
+pub decided_goes : (held failed most : ℕ) (b : Bool) {Q : View → Type 0} (w : View) → held ≤ most → failed ≤ most → Q w →
+    Goes (decided held failed b w) most (end_of b) Q
+decided_goes held failed most true w h k q = record { within = h; to_is = refl; holds = q }
+decided_goes held failed most false w h k q = record { within = k; to_is = refl; holds = q }
 
 at_end : (b : Bool) → (end_of b == CTRUE) ≡ b
 at_end true = refl
@@ -39,8 +39,8 @@ goes_on false = refl
 which_end : (x : MachineState) (b : Bool) → Stands x (end_of b) → (x.cpu.pc == CTRUE) ≡ b
 which_end x b stands = ap (λ (p : ℕ). p == CTRUE) stands.pc ∙ at_end b
 
-pub is_told : (x : MachineState) (b : Bool) → Stands x (end_of b) → IsTold x
-is_told x b stands = subst (λ (c : Bool). Stands x (end_of c)) (sym (which_end x b stands)) stands
+pub is_decided : (x : MachineState) (b : Bool) → Stands x (end_of b) → IsDecided x
+is_decided x b stands = subst (λ (c : Bool). Stands x (end_of c)) (sym (which_end x b stands)) stands
 
 abbrev status_set : (ℕ → ℕ) → List ℕ → List ℕ
 status_set f cells = slice_set cells 0x7C (f (slice_index cells 0x7C))
@@ -52,10 +52,10 @@ ends_with s next true w h = goes_in (omega arith)
 ends_with s next false w h = goes_in (omega arith)
     (record { cells = ap (status_set (λ n. ones_cleared Byte n 0x20)) h.cells; vdp = h.vdp; registers = h.registers; held = h.held; grom = h.grom })
 
--- From what is told to the end of the step.
-pub tells : (most : ℕ) (s : GplState) (next : ℕ) (b : Bool) {x a y : MachineState} {t u v : ℕ} → ReachesWithin most x a t u (end_of b) (ShowsState s next) →
+-- From what is decided to the end of the step.
+pub decides : (most : ℕ) (s : GplState) (next : ℕ) (b : Bool) {x a y : MachineState} {t u v : ℕ} → ReachesWithin most x a t u (end_of b) (ShowsState s next) →
     Exits a y u v (ending (a.cpu.pc == CTRUE) (view a)) → ReachesWithin (most + 3) x y t v GSTEP (SeesFinished (with_condition b (unchanged (record s { pc = next }))))
-tells most s next b {x = x} {a = a} {y = y} {t = t} {u = u} {v = v} c e =
+decides most s next b {x = x} {a = a} {y = y} {t = t} {u = u} {v = v} c e =
     let Q : Bool → Type 0 = λ h. Exits a y u v (ending h (view a)) in
     comes_then most 3 c (subst Q (which_end a b c.stands) e) (ends_with s next b (view a) c.holds) (goes_on b)
 
@@ -72,13 +72,13 @@ flag (Two CLOG) v = bit_and v.r.r6 v.r.r9 == 0
 flag operation v = false
 
 pub compares : (op : GplOperation) → is_comparison (Some op) ≡ true → (v : View) → Goes (comparison op v) 3 (end_of (flag op v)) (λ u. u ≡ v)
-compares (One CZ) e v = told_goes 2 3 3 (v.r.r9 == 0) v (omega arith) (omega arith) refl
-compares (Two CH) e v = told_goes 2 3 3 (nat_lt v.r.r6 v.r.r9) v (omega arith) (omega arith) refl
-compares (Two CHE) e v = told_goes 2 3 3 (not (nat_lt v.r.r9 v.r.r6)) v (omega arith) (omega arith) refl
-compares (Two CGT) e v = told_goes 2 3 3 (int_lt (signed Word v.r.r6) (signed Word v.r.r9)) v (omega arith) (omega arith) refl
-compares (Two CGE) e v = told_goes 3 2 3 (not (int_lt (signed Word v.r.r9) (signed Word v.r.r6))) v (omega arith) (omega arith) refl
-compares (Two CEQ) e v = told_goes 2 3 3 (v.r.r9 == v.r.r6) v (omega arith) (omega arith) refl
-compares (Two CLOG) e v = told_goes 2 3 3 (bit_and v.r.r6 v.r.r9 == 0) v (omega arith) (omega arith) refl
+compares (One CZ) e v = decided_goes 2 3 3 (v.r.r9 == 0) v (omega arith) (omega arith) refl
+compares (Two CH) e v = decided_goes 2 3 3 (nat_lt v.r.r6 v.r.r9) v (omega arith) (omega arith) refl
+compares (Two CHE) e v = decided_goes 2 3 3 (not (nat_lt v.r.r9 v.r.r6)) v (omega arith) (omega arith) refl
+compares (Two CGT) e v = decided_goes 2 3 3 (int_lt (signed Word v.r.r6) (signed Word v.r.r9)) v (omega arith) (omega arith) refl
+compares (Two CGE) e v = decided_goes 3 2 3 (not (int_lt (signed Word v.r.r9) (signed Word v.r.r6))) v (omega arith) (omega arith) refl
+compares (Two CEQ) e v = decided_goes 2 3 3 (v.r.r9 == v.r.r6) v (omega arith) (omega arith) refl
+compares (Two CLOG) e v = decided_goes 2 3 3 (bit_and v.r.r6 v.r.r9 == 0) v (omega arith) (omega arith) refl
 compares _ e v = absurd (cc)
 
 -- the words of two registers are compared as the numbers in them
@@ -153,8 +153,8 @@ runs op e {x = x} {a = a} {y = y} {t = t} {u = u} {v = v} bounds first second s 
     record { within = g.within; to_is = g.to_is; holds = subst (ShowsState s (next_of s)) (sym g.holds) row.holds.sees } in
     let c : ReachesWithin 3 x a t u (end_of (compared op width value source.number)) (ShowsState s (next_of s)) =
     subst (λ (h : Bool). ReachesWithin 3 x a t u (end_of h) (ShowsState s (next_of s))) b (comes first same) in
-    let done = tells 3 s (next_of s) (compared op width value source.number) c second in
+    let done = decides 3 s (next_of s) (compared op width value source.number) c second in
     subst (λ r. ReachesWithin 6 x y t v GSTEP (SeesResult r)) (sym (result_is op e s place source)) done
 
-pub comparison_told : (op : GplOperation) → is_comparison (Some op) ≡ true → {x a : MachineState} {t u : ℕ} → Exits x a t u (comparison op (view x)) → IsTold a
-comparison_told op e {x = x} {a = a} first = is_told a (flag op (view x)) (comes first (compares op e (view x))).stands
+pub comparison_decided : (op : GplOperation) → is_comparison (Some op) ≡ true → {x a : MachineState} {t u : ℕ} → Exits x a t u (comparison op (view x)) → IsDecided a
+comparison_decided op e {x = x} {a = a} first = is_decided a (flag op (view x)) (comes first (compares op e (view x))).stands

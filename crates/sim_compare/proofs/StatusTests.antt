@@ -8,9 +8,9 @@ use Rattle.sim_rows.proofs.Common.{View, view, with_tested}
 use Rattle.sim_rows.specs.Prelude.{CARRY_BIT, GREATER_BIT, HIGHER_BIT, OVERFLOW_BIT}
 use Rattle.sim_rows.proofs.Steps.{reading_is}
 use Rattle.sim_compare.specs.Pieces.{end_of}
-use Rattle.sim_compare.specs.Family.{ending, is_test, IsTold, test}
+use Rattle.sim_compare.specs.Family.{ending, is_test, IsDecided, test}
 use Rattle.sim_compare.proofs.Numbers.{bit_out_1, bit_out_2, bit_out_4, bit_out_5}
-use Rattle.sim_compare.proofs.Comparisons.{is_told, tells, told_goes}
+use Rattle.sim_compare.proofs.Comparisons.{is_decided, decides, decided_goes}
 use Rattle.sim_compare.specs.Pieces as pieces
 
 -- The bit of the status that a test reads.
@@ -76,7 +76,7 @@ shows : (places bit : ℕ) (s : GplState) (next : ℕ) (v : View) → ShowsState
 shows places bit s next v h is =
     let b = is ∙ ap (λ (cells : List ℕ). is_set (slice_index cells 0x7C) bit) h.cells in
     let g : Goes (pieces.test_bit places v) 4 (end_of (last_out SLA (word_in v) places)) (ShowsState s next) =
-    told_goes 3 4 4 (last_out SLA (word_in v) places) (record v { r = record v.r { r4 = shifted SLA (word_in v) places } }) (omega arith) (omega arith)
+    decided_goes 3 4 4 (last_out SLA (word_in v) places) (record v { r = record v.r { r4 = shifted SLA (word_in v) places } }) (omega arith) (omega arith)
     (sees_still s next (shifted SLA (word_in v) places) v h) in
     subst (λ (c : Bool). Goes (pieces.test_bit places v) 4 (end_of c) (ShowsState s next)) b g
 
@@ -108,13 +108,13 @@ module _ {x a : MachineState} {t u : ℕ} (name : PlainOp) (is : operation_in_vi
   at_flag : ReachesWithin 4 x a t u (end_of flag) (ShowsState s (behind_code s))
   at_flag = comes first (tests o e s (behind_code s) (view x) at.dispatched.sees (is_view x at.stands.machine))
 
-  pub test_told : IsTold a
-  test_told = is_told a flag at_flag.stands
+  pub test_decided : IsDecided a
+  test_decided = is_decided a flag at_flag.stands
 
   pub test_turns : {y : MachineState} {v : ℕ} → Exits a y u v (ending (a.cpu.pc == CTRUE) (view a)) → Turned s x y (from_dispatch t v) Stepped
   test_turns {y = y} {v = v} second =
       let next = finished (changed s o) in
-      let c = tells 4 s (behind_code s) flag at_flag second in
+      let c = decides 4 s (behind_code s) flag at_flag second in
       let b = bound_is s o e is in
       turned_by x y t v most_to_dispatch Stepped s (Ok next) (step_is s o e is) (
         refl,

@@ -48,8 +48,8 @@ test (Some (Plain OVF)) v = piece.test_overflow v
 test operation v = exit 0 0 v
 
 -- The machine is at one of the two ends of a comparison.
-abbrev pub IsTold : MachineState → Type 0
-IsTold x = Stands x (piece.end_of (x.cpu.pc == CTRUE))
+abbrev pub IsDecided : MachineState → Type 0
+IsDecided x = Stands x (piece.end_of (x.cpu.pc == CTRUE))
 
 -- the piece at such an end
 abbrev pub ending : Bool → View → Exit

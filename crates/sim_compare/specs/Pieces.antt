@@ -10,42 +10,42 @@ abbrev pub end_of : Bool → ℕ
 end_of true = CTRUE
 end_of false = CFALSE
 
-abbrev pub told : ℕ → ℕ → Bool → View → Exit
-told held failed holds v = exit (if holds then held else failed) (end_of holds) v
+abbrev pub decided : ℕ → ℕ → Bool → View → Exit
+decided held failed holds v = exit (if holds then held else failed) (end_of holds) v
 
 -- CH: the destination is above the source.
 abbrev pub compare_higher : View → Exit
-compare_higher v = told 2 3 (nat_lt v.r.r6 v.r.r9) v
+compare_higher v = decided 2 3 (nat_lt v.r.r6 v.r.r9) v
 
 -- CHE: it is not below it.
 abbrev pub compare_higher_or_equal : View → Exit
-compare_higher_or_equal v = told 2 3 (not (nat_lt v.r.r9 v.r.r6)) v
+compare_higher_or_equal v = decided 2 3 (not (nat_lt v.r.r9 v.r.r6)) v
 
 -- CGT: it is above it as a signed number.
 abbrev pub compare_greater : View → Exit
-compare_greater v = told 2 3 (int_lt (signed Word v.r.r6) (signed Word v.r.r9)) v
+compare_greater v = decided 2 3 (int_lt (signed Word v.r.r6) (signed Word v.r.r9)) v
 
 -- CGE: it is not below it as a signed number.
 abbrev pub compare_greater_or_equal : View → Exit
-compare_greater_or_equal v = told 3 2 (not (int_lt (signed Word v.r.r9) (signed Word v.r.r6))) v
+compare_greater_or_equal v = decided 3 2 (not (int_lt (signed Word v.r.r9) (signed Word v.r.r6))) v
 
 -- CEQ: they are equal.
 abbrev pub compare_equal : View → Exit
-compare_equal v = told 2 3 (v.r.r9 == v.r.r6) v
+compare_equal v = decided 2 3 (v.r.r9 == v.r.r6) v
 
 -- CLOG: no one of the source is a one in the destination.
 abbrev pub compare_ones : View → Exit
-compare_ones v = told 2 3 (bit_and v.r.r6 v.r.r9 == 0) v
+compare_ones v = decided 2 3 (bit_and v.r.r6 v.r.r9 == 0) v
 
 -- CZ: the operand is 0.
 abbrev pub compare_with_zero : View → Exit
-compare_with_zero v = told 2 3 (v.r.r9 == 0) v
+compare_with_zero v = decided 2 3 (v.r.r9 == 0) v
 
 -- H, GT, CARRY, OVF: a bit of the status is shifted out to the left.
 abbrev pub test_bit : ℕ → View → Exit
 test_bit places v =
     let word = join (slice_index v.cells STATUS) (low v.r.r4) in
-    told 3 4 (last_out SLA word places) (record v { r = record v.r { r4 = shifted SLA word places } })
+    decided 3 4 (last_out SLA word places) (record v { r = record v.r { r4 = shifted SLA word places } })
 
 abbrev pub test_higher : View → Exit
 test_higher v = test_bit 1 v

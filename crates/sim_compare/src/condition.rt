@@ -2,7 +2,7 @@
 
 ghost use Rattle.std.specs.Prelude.{◌==◌};
 ghost use Rattle.sim_rows.specs.Prelude.{Exits, view};
-ghost use Rattle.sim_compare.specs.Family.{ending, IsTold};
+ghost use Rattle.sim_compare.specs.Family.{ending, IsDecided};
 ghost use Rattle.sim_rows.specs.native_interp.declared.addresses.TheConstants as address;
 
 use crate::pieces::{clear_condition, set_condition};
@@ -12,7 +12,7 @@ use std::sync::ledger::Ledger;
 
 /// Sets the condition or clears it, as the comparison gives.
 pub fn end_comparison<L: Ledger>(machine: &mut Machine, steps: &mut Steps<L>)
-    requires { IsTold machine.old }
+    requires { IsDecided machine.old }
     ensures { Exits machine.old machine.new steps.old steps.new
         (ending (machine.old.cpu.pc == address.CTRUE) (view machine.old)) }
 {

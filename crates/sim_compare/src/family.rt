@@ -62,7 +62,7 @@ fn test_status<L: Ledger>(machine: &mut Machine, steps: &mut Steps<L>, name: Pla
 /// Runs a test from its dispatch to the end of the step.
 fn run_test<L: Ledger>(machine: &mut Machine, steps: &mut Steps<L>, name: PlainOp) -> Turn
     requires at { AtDispatch is_test machine.old }
-    requires told { operation_in_view (view machine.old) ≡ Some (Plain name) }
+    requires operation { operation_in_view (view machine.old) ≡ Some (Plain name) }
     ensures { Turned (state_at_dispatch (view machine.old))
         machine.old machine.new (from_dispatch steps.old steps.new) result }
 {

@@ -8,17 +8,17 @@ use Rattle.sim_rows.proofs.Common.{GromState, idle_grom, idle_told, idle_video, 
 use Rattle.sim_rows.proofs.Common.{next_from, next_in_grom, next_to, pick, Place, place_in, place_is, previous-next, Space}
 use Rattle.sim_rows.proofs.Common.{space_small, state_of, sum_of, To, ToMemory, ToRegisters, Vdp, View, view, with_byte_to, Word}
 use Rattle.sim_copy.specs.Copying.{Copying, InGrom, StandsFrom, StandsTo}
-use Rattle.sim_copy.proofs.Routines.{behind_idle, Counted, grom_behind, source_in, target_in}
+use Rattle.sim_copy.proofs.Routines.{idle_after, Counted, grom_after, source_in, target_in}
 use Rattle.sim_copy.proofs.Places.{copying_by_routines}
 use Rattle.sim_copy.specs.Bytes.{AllCopied, AtByte, AtCopy, AtEnd, ByRoutines, charged, Copied, CopiesAt, CopiesByte, CopyingAt, CopyingByRoutines, FromPlace}
 use Rattle.sim_copy.specs.Bytes.{OutOfGrom}
 use Rattle.sim_rows.specs.native_interp.declared.addresses.TheConstants.{COPYE}
 
--- ---- the machine behind a byte
+-- ---- the machine after a byte
 
-behind_fetched : (from : From) (g : GromState) → IsFetched g → IsFetched (grom_behind from g)
-behind_fetched (FromMemory place) g f = f
-behind_fetched (FromGrom address) g f = ap (slice_index g.image) (sym (previous-next (next_in_grom address)))
+fetched_after : (from : From) (g : GromState) → IsFetched g → IsFetched (grom_after from g)
+fetched_after (FromMemory place) g f = f
+fetched_after (FromGrom address) g f = ap (slice_index g.image) (sym (previous-next (next_in_grom address)))
 
 one_less : (n : ℕ) → 0 < n → n < 65536 → difference_of Word n 1 ≡ n - 1
 one_less n some fits = omega arith
@@ -70,7 +70,7 @@ byte_is (FromGrom address) s o a d i = ap (λ (l : List ℕ). slice_index l addr
 -- ---- where the copy stands then
 
 next_source : (c after : Changes) (from : From) (v w : View) → StandsFrom c from v → after.state.image ≡ c.state.image → after.state.pc ≡ c.state.pc →
-    w.r.r2 ≡ sum_of Word v.r.r2 1 → w.r.r5 ≡ v.r.r5 → w.r.r14 ≡ v.r.r14 → w.grom ≡ grom_behind from v.grom → StandsFrom after (next_from from) w
+    w.r.r2 ≡ sum_of Word v.r.r2 1 → w.r.r5 ≡ v.r.r5 → w.r.r14 ≡ v.r.r14 → w.grom ≡ grom_after from v.grom → StandsFrom after (next_from from) w
 next_source c after (FromMemory place) v w f i p r2 r5 r14 g = record {
   loads_from = record { address = r2 ∙ ap (λ n. sum_of Word n 1) f.loads_from.address; space = r5 ∙ f.loads_from.space };
   grom = g ∙ f.grom ∙ ap (λ (l : List ℕ). grom_at l c.state.pc) (sym i) ∙ ap (λ n. grom_at after.state.image n) (sym p);
@@ -125,7 +125,7 @@ module _ {x y : MachineState} {t u : ℕ} (h : AtCopy x) (here : x.cpu.pc ≡ CO
         (ap (λ (u : View). u.r.r2) goes.holds.is);
     beyond = let same = ap (λ (u : View). u.r.r8) goes.holds.is in let b = some.beyond in omega arith;
     registers = bounded 8 v.r.r7 w.r.r7 (omega arith) some.registers (ap (λ (u : View). u.r.r7) goes.holds.is);
-    fetched = subst IsFetched (sym (ap (λ (u : View). u.grom) goes.holds.is)) (behind_fetched (source_in v) v.grom some.fetched);
+    fetched = subst IsFetched (sym (ap (λ (u : View). u.grom) goes.holds.is)) (fetched_after (source_in v) v.grom some.fetched);
   }
 
   -- a byte more of the copy
@@ -155,7 +155,7 @@ module _ {x y : MachineState} {t u : ℕ} (h : AtCopy x) (here : x.cpu.pc ≡ CO
         stands_from = next_source c (with_byte_to (ToRegisters number) byte c) from v w k.stands_from refl refl
             (ap (λ (u : View). u.r.r2) goes.holds.is) (ap (λ (u : View). u.r.r5) goes.holds.is)
             (ap (λ (u : View). u.r.r14) goes.holds.is)
-            (ap (λ (u : View). u.grom) goes.holds.is ∙ ap (λ (f : From). grom_behind f v.grom) source);
+            (ap (λ (u : View). u.grom) goes.holds.is ∙ ap (λ (f : From). grom_after f v.grom) source);
         stands_to = record {
           number_is = ap (λ (u : View). u.r.r7) goes.holds.is ∙ ap (λ n. sum_of Word n 1) is ∙ next_number number small;
           space = ap (λ (u : View). u.r.r8) goes.holds.is ∙ k.stands_to.space;
@@ -185,7 +185,7 @@ module _ {x y : MachineState} {t u : ℕ} (h : AtCopy x) (here : x.cpu.pc ≡ CO
       stands = goes.stands;
       place = place;
       idle = idle_told y.cpu.memory (ap (λ (u : View). u.vdp.held) goes.holds.is ∙ idle_video x.cpu.memory h.idle)
-          (ap (λ (u : View). u.grom.half_written) goes.holds.is ∙ behind_idle (source_in v) v.grom (idle_grom x.cpu.memory h.idle));
+          (ap (λ (u : View). u.grom.half_written) goes.holds.is ∙ idle_after (source_in v) v.grom (idle_grom x.cpu.memory h.idle));
     };
     left = left_is;
     most = most_of_byte;

@@ -234,9 +234,9 @@ module _ {x : MachineState} (h : AtCopy x) (way : CopyPath) (here : x.cpu.pc ≡
             (subst (λ (f : From). GoesBack after f (base_on way base c source target)) (next_from_on way source)
             (back_on way base c source target back)))
 
-    goes_told : (c : Changes) (from : From) (to : To) (bytes : ℕ) → OnWay way c from to (suc bytes) v →
+    goes_on_way : (c : Changes) (from : From) (to : To) (bytes : ℕ) → OnWay way c from to (suc bytes) v →
         CopyingAt y.cpu.pc (with_byte_to to (byte_from from c.state) c) (next_from from) (next_to to) bytes (view y)
-    goes_told c from to bytes w =
+    goes_on_way c from to bytes w =
         let P : From → To → Type 0 = λ f o. GoesBack c f w.base
         → v ≡ seen_on way w.base c (suc bytes) (marked_by (copied (suc bytes) f o c).shows 0) w.source w.target
         → CopyingAt y.cpu.pc (with_byte_to o (byte_from f c.state) c) (next_from f) (next_to o) bytes (view y) in
@@ -260,5 +260,5 @@ module _ {x : MachineState} (h : AtCopy x) (way : CopyPath) (here : x.cpu.pc ≡
         holds = tt;
       });
       within = let a = few_charged x.cpu.pc in omega arith;
-      copies = λ c from to bytes k. goes_told c from to bytes (on_way k way here);
+      copies = λ c from to bytes k. goes_on_way c from to bytes (on_way k way here);
     }

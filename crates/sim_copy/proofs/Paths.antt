@@ -33,14 +33,14 @@ marked_part : (v : View) → InCells v → pieces.is_marked v ≡ true → Part 
 marked_part v i c = record { by = λ f. rw (i.some, i.no_video, i.no_registers, c, not_limit (until v) v.r.r12 c) refl }
 
 -- from MOVEP on, by the space of the source
-abbrev behind_mark : ℕ → View → Exit
-behind_mark count v =
+abbrev after_mark : ℕ → View → Exit
+after_mark count v =
     let w : View = record v { r = record v.r { r7 = sum_of Word v.r.r7 first_cell } } in
     if v.r.r5 == 1 then exit (count + 3) SETR w
     else if nat_lt 1 v.r.r5 then exit (count + 4) COPYGC w
     else exit (count + 5) COPYCC (pieces.from_cells w)
 
-unmarked_rest : (v : View) → Rest begin_ends 9 7 v MOVEP (behind_mark 9 v)
+unmarked_rest : (v : View) → Rest begin_ends 9 7 v MOVEP (after_mark 9 v)
 unmarked_rest v = record {
   by = λ f.
       pick (v.r.r5 == 1)
@@ -50,7 +50,7 @@ unmarked_rest v = record {
       (λ d. rw (c, d) refl));
 }
 
-marked_rest : (v : View) → Rest begin_ends 10 6 v MOVEP (behind_mark 10 v)
+marked_rest : (v : View) → Rest begin_ends 10 6 v MOVEP (after_mark 10 v)
 marked_rest v = record {
   by = λ f.
       pick (v.r.r5 == 1)
@@ -62,7 +62,7 @@ marked_rest v = record {
 
 -- the exit of a begin in the cells, by the mark
 begins_in_cells : (v : View) (marks : Bool) → InCells v → pieces.is_marked v ≡ marks →
-    pieces.begin_copy v ≡ behind_mark (if marks then 10 else 9) (marked v)
+    pieces.begin_copy v ≡ after_mark (if marks then 10 else 9) (marked v)
 begins_in_cells v true i c = rw (i.some, i.no_video, i.no_registers, c, pieces.begin_copy) refl
 begins_in_cells v false i c = rw (i.some, i.no_video, i.no_registers, c, pieces.begin_copy) refl
 
@@ -89,8 +89,8 @@ target_ends = COPYVV ∷ COPYCV ∷ COPYGV ∷ []
 abbrev for_writing : View → View
 for_writing v = record v { r = record v.r { r4 = sum_of Word (pieces.video_at v.r.r7) 0x4000 } }
 
-target_told : (v : View) → (v.r.r5 == 1) ≡ false → Part target_ends 6 v SETW (for_writing v) SETWA
-target_told v c = record { by = λ f. rw c refl }
+target_written : (v : View) → (v.r.r5 == 1) ≡ false → Part target_ends 6 v SETW (for_writing v) SETWA
+target_written v c = record { by = λ f. rw c refl }
 
 target_cells : (v : View) → (v.r.r5 == 0) ≡ true →
     Rest target_ends 6 10 v SETWA (exit 11 COPYCV (pieces.from_cells (record v { vdp = with_video_address v.r.r4 v.vdp })))
@@ -104,8 +104,8 @@ set_target v =
     pick (v.r.r5 == 1)
     (λ c. record { by = λ f q. rw c refl })
     (λ c. leads target_ends (pick (v.r.r5 == 0)
-    (λ d. rest_is (rw (c, d, pieces.set_target) refl) (part_then target_ends 6 0 10 (target_told v c) (target_cells (for_writing v) d)))
-    (λ d. rest_is (rw (c, d, pieces.set_target) refl) (part_then target_ends 6 0 10 (target_told v c) (target_grom (for_writing v) d)))))
+    (λ d. rest_is (rw (c, d, pieces.set_target) refl) (part_then target_ends 6 0 10 (target_written v c) (target_cells (for_writing v) d)))
+    (λ d. rest_is (rw (c, d, pieces.set_target) refl) (part_then target_ends 6 0 10 (target_written v c) (target_grom (for_writing v) d)))))
 
 -- ---- a byte on its way
 
@@ -162,8 +162,8 @@ byte_gone : (v : View) → Part video_ends 6 v COPYVV (at_target v) COPYVA
 byte_gone v = record { by = λ f. refl }
 
 -- from COPYVA on, to the next byte or to COPYE
-abbrev behind_byte : View → Exit
-behind_byte v =
+abbrev after_byte : View → Exit
+after_byte v =
     exit (13 + one_if (is_last v)) (if is_last v then COPYE else COPYVV) (record v {
       r = record v.r {
         r2 = pieces.reading_word (sum_of Word v.r.r2 1);
@@ -172,7 +172,7 @@ behind_byte v =
       };
     })
 
-byte_counted : (v : View) → Rest video_ends 6 10 v COPYVA (behind_byte v)
+byte_counted : (v : View) → Rest video_ends 6 10 v COPYVA (after_byte v)
 byte_counted v = record { by = λ f. pick (is_last v) (λ c. rw c refl) (λ c. rw c refl) }
 
 pub copy_in_video : (v : View) → Leads video_ends v COPYVV (pieces.copy_on VideoToVideo v)

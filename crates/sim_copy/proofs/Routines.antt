@@ -23,10 +23,10 @@ source_in v = if nat_lt v.r.r5 2 then FromMemory (place_in v.r.r5 v.r.r2) else F
 abbrev pub target_in : View → To
 target_in v = if nat_lt v.r.r8 2 then ToMemory (place_in v.r.r8 v.r.r7) else ToRegisters v.r.r7
 
--- GROM behind a byte of a source: only one that lies in GROM moves it.
-abbrev pub grom_behind : From → GromState → GromState
-grom_behind (FromMemory place) grom = grom
-grom_behind (FromGrom address) grom = grom_at grom.image (next_in_grom address)
+-- GROM after a byte of a source: only one that lies in GROM moves it.
+abbrev pub grom_after : From → GromState → GromState
+grom_after (FromMemory place) grom = grom
+grom_after (FromGrom address) grom = grom_at grom.image (next_in_grom address)
 
 -- the registers of the video processor with a byte of the source in the one that register 7 tells
 abbrev pub registers_with : View → List ℕ
@@ -52,7 +52,7 @@ pub record Counted (v w : View) : Type 0 where
       r12 = difference_of Word v.r.r12 1;
     };
     vdp = record v.vdp { registers = registers_with v; address = address; fetched = byte };
-    grom = grom_behind (source_in v) v.grom;
+    grom = grom_after (source_in v) v.grom;
   }
 
 -- how a machine's GROM and that of its view tell that a byte is fetched
@@ -60,9 +60,9 @@ pub fetched_seen : (m : Memory) → IsFetched m.grom → IsFetched (view_of m).g
 unfolding view_of
 fetched_seen m f = f
 
-fetched_told : (m : Memory) (g : GromState) → (view_of m).grom ≡ g → IsFetched g → IsFetched m.grom
+fetched_by_view : (m : Memory) (g : GromState) → (view_of m).grom ≡ g → IsFetched g → IsFetched m.grom
 unfolding view_of
-fetched_told m g e f = subst IsFetched (sym e) f
+fetched_by_view m g e f = subst IsFetched (sym e) f
 
 -- ---- LOAD
 
@@ -78,7 +78,7 @@ pub record Read (v : View) (number : ℕ) (grom : GromState) (w : View) : Type 0
   }
 
 abbrev pub ReadFrom : View → From → View → Type 0
-ReadFrom v from w = Read v (byte_from from (state_of v)) (grom_behind from v.grom) w
+ReadFrom v from w = Read v (byte_from from (state_of v)) (grom_after from v.grom) w
 
 value_read : (v w : View) (place : Place) → v.r.r3 ≡ 1 → Loaded v (value_at (state_of v) (width_in v.r.r3) place) w → ReadFrom v (FromMemory place) w
 value_read v w place one l =
@@ -107,9 +107,9 @@ loads a b t u one fetched near far =
     subst to (sym c) (comes_as 15 (ReadFrom v (FromGrom (next_at v))) (far above fetched) (omega arith) (λ w l. stream_read v w one l)))
 
 -- GROM stays idle
-pub behind_idle : (from : From) (g : GromState) → g.half_written ≡ false → (grom_behind from g).half_written ≡ false
-behind_idle (FromMemory place) g e = e
-behind_idle (FromGrom address) g e = refl
+pub idle_after : (from : From) (g : GromState) → g.half_written ≡ false → (grom_after from g).half_written ≡ false
+idle_after (FromMemory place) g e = e
+idle_after (FromGrom address) g e = refl
 
 -- ---- STORE
 
@@ -134,7 +134,7 @@ module _ {x a : MachineState} {t t1 : ℕ} (h : AtCopy x) (left : ByRoutines (vi
   idle_asked = idle_again x.cpu.memory a.cpu.memory (ap (λ (u : View). u.vdp) e.shows) (ap (λ (u : View). u.grom) e.shows) h.idle
 
   fetched_asked : IsFetched a.cpu.memory.grom
-  fetched_asked = fetched_told a.cpu.memory v.grom (ap (λ (u : View). u.grom) e.shows) left.fetched
+  fetched_asked = fetched_by_view a.cpu.memory v.grom (ap (λ (u : View). u.grom) e.shows) left.fetched
 
   pub visible_asked : IsVisible (view a).r.r5 (view a).r.r2 (view a).r.r3
   visible_asked =
@@ -161,7 +161,7 @@ module _ {x a : MachineState} {t t1 : ℕ} (h : AtCopy x) (left : ByRoutines (vi
         record u {
           r = record u.r { r4 = loaded.holds.r4; r6 = join (byte_from (source_in u) (state_of u)) 0 };
           vdp = record u.vdp { address = loaded.holds.address; fetched = loaded.holds.byte };
-          grom = grom_behind (source_in u) u.grom;
+          grom = grom_after (source_in u) u.grom;
         }
 
     abbrev at_b : View
@@ -177,7 +177,7 @@ module _ {x a : MachineState} {t t1 : ℕ} (h : AtCopy x) (left : ByRoutines (vi
       pub idle_storing : PortsAreIdle d.cpu.memory
       idle_storing =
           idle_told d.cpu.memory (ap (λ (u : View). u.vdp.held) seen_d ∙ idle_video x.cpu.memory h.idle)
-          (ap (λ (u : View). u.grom.half_written) seen_d ∙ behind_idle (source_in v) v.grom (idle_grom x.cpu.memory h.idle))
+          (ap (λ (u : View). u.grom.half_written) seen_d ∙ idle_after (source_in v) v.grom (idle_grom x.cpu.memory h.idle))
 
       pub visible_storing : IsVisible (view d).r.r8 (view d).r.r7 (view d).r.r3
       visible_storing =
@@ -204,7 +204,7 @@ module _ {x a : MachineState} {t t1 : ℕ} (h : AtCopy x) (left : ByRoutines (vi
         pub stands_stored : Stands k COPYN
         stands_stored = stored.stands
 
-        -- the view behind COPYN, where a byte was stored
+        -- the view after COPYN, where a byte was stored
         abbrev counted_with : View → ℕ → View
         counted_with u byte =
             (pieces.count_byte (record u {
@@ -246,5 +246,5 @@ module _ {x a : MachineState} {t t1 : ℕ} (h : AtCopy x) (left : ByRoutines (vi
               let holds = subst (Counted v) e5.shows counted in
               comes_then 27 4 c4 e5 (record { within = omega arith; to_is = sym e5.stands.pc; holds = holds }) refl
 
-          pub place_told : y.cpu.pc ≡ (if (view y).r.r12 == 0 then COPYE else COPY)
-          place_told = e5.stands.pc ∙ ap (λ (n : ℕ). if n == 0 then COPYE else COPY) (sym (ap (λ (u : View). u.r.r12) e5.shows))
+          pub place_is : y.cpu.pc ≡ (if (view y).r.r12 == 0 then COPYE else COPY)
+          place_is = e5.stands.pc ∙ ap (λ (n : ℕ). if n == 0 then COPYE else COPY) (sym (ap (λ (u : View). u.r.r12) e5.shows))

@@ -7,7 +7,7 @@ use Rattle.sim_rows.specs.Prelude.{PortsAreIdle, SeesFinished, Space, Stands, To
 use Rattle.sim_rows.specs.Prelude.{sum_of, VISIBLE_CELLS, with_byte_to, with_pc, Word}
 use Rattle.sim_copy.specs.Copying.{Copying}
 use Rattle.sim_copy.specs.Pieces.{CellsToCells, CellsToVideo, first_cell, GromToCells, GromToVideo, head_of}
-use Rattle.sim_copy.specs.Pieces.{start_copy, VideoToCells, VideoToVideo, CopyPath}
+use Rattle.sim_copy.specs.Pieces.{VideoToCells, VideoToVideo, CopyPath}
 use Rattle.sim_rows.specs.sim_view.Bounds.{most_of_byte, most_to_end_copy}
 use Rattle.sim_rows.specs.native_interp.declared.addresses.TheConstants.{COPYE}
 
@@ -134,11 +134,6 @@ pub data CopyingAt (place : ℕ) (c : Changes) (from : From) (to : To) (bytes : 
 -- How many instructions of the beginning the first byte of a way is charged with.
 abbrev pub charged : ℕ → ℕ
 charged place = if place == COPY then 0 else if place == COPYE then 0 else 11
-
--- The copy begins.
-abbrev pub StartsCopy : MachineState → MachineState → ℕ → ℕ → Type 0
-StartsCopy x y before after =
-    let begun = start_copy (view x) in ReachesWithin begun.count x y before after begun.to (λ v. v ≡ begun.left)
 
 -- A byte is copied, and the machine is where the next one is.
 pub record CopiesByte (x y : MachineState) (before after : ℕ) : Type 0 where

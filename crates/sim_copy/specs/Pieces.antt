@@ -5,6 +5,7 @@ use Rattle.sim_rows.specs.Prelude.{CHARACTER, conjunction_of, COPY, COPYN, COPYS
 use Rattle.sim_rows.specs.Prelude.{LOAD, low, past, RESUME, shifted, SHOW, SLA, SRL, STORE, sum_of, vdp_data_written}
 use Rattle.sim_rows.specs.Prelude.{VdpState, View, with_video_address, Word}
 use Rattle.sim_rows.specs.sim_operands.Pieces.{one_if, past_video}
+use Rattle.sim_rows.specs.sim_operands.Routines.{go_on, on_at}
 use Rattle.sim_rows.specs.native_interp.declared.addresses.TheConstants.{COPYCC, COPYCV, COPYE, COPYGC, COPYGV}
 use Rattle.sim_rows.specs.native_interp.declared.addresses.TheConstants.{COPYVC, COPYVV, SETR, SETW}
 
@@ -83,15 +84,10 @@ set_target v =
     else exit 10 COPYGV (target_set v)
 
 -- The beginning as a whole: MOVEB, with SETR or SETW after it.
-abbrev pub and_then : Exit → Exit → Exit
-and_then first second = exit (first.count + second.count) second.to second.left
-
 abbrev pub start_copy : View → Exit
 start_copy v =
     let begun = begin_copy v in
-    if begun.to == SETR then and_then begun (set_source begun.left)
-    else if begun.to == SETW then and_then begun (set_target begun.left)
-    else begun
+    on_at SETR begun set_source (go_on SETW begun set_target)
 
 -- The ways on which a byte goes without LOAD and STORE.
 pub data CopyPath : Type 0 where

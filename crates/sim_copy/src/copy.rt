@@ -1,9 +1,10 @@
 //! The copy, from its beginning to the end of the step.
 
 ghost use Rattle.std.specs.Prelude.{◌+◌, ◌<◌, ◌≡◌, ◌≤◌};
-ghost use Rattle.sim_rows.specs.Prelude.{IsFetched, PortsAreIdle, Stands, view, VISIBLE_CELLS};
-ghost use Rattle.sim_copy.specs.Bytes.{AtCopy, ByRoutines, CopiesByte, CopiesRest, EndsCopy, StartsCopy};
+ghost use Rattle.sim_rows.specs.Prelude.{Exits, IsFetched, PortsAreIdle, Stands, view, VISIBLE_CELLS};
+ghost use Rattle.sim_copy.specs.Bytes.{AtCopy, ByRoutines, CopiesByte, CopiesRest, EndsCopy};
 ghost use Rattle.sim_copy.specs.Copying.{CopiesBytes};
+ghost use Rattle.sim_copy.specs.Pieces as piece;
 ghost use Rattle.sim_rows.specs.native_interp.declared.addresses.TheConstants as address;
 
 use crate::pieces::{
@@ -20,7 +21,7 @@ use std::sync::ledger::Ledger;
 /// Begins the copy: where video memory is read or written, its port is set or made ready.
 fn start_copy<L: Ledger>(machine: &mut Machine, steps: &mut Steps<L>)
     requires { Stands machine.old address.MOVEB }
-    ensures { StartsCopy machine.old machine.new steps.old steps.new }
+    ensures { Exits machine.old machine.new steps.old steps.new (piece.start_copy (view machine.old)) }
 {
     begin_copy(machine, steps);
     let place = machine.pc();

@@ -7,19 +7,19 @@ use Rattle.sim_rows.proofs.Common.{from_dispatch, ones_cleared, operation_in, pa
 use Rattle.sim_rows.proofs.Common.{unchanged, View, view, with_condition}
 use Rattle.sim_jumps.specs.Jumps.{TakesBranch}
 use Rattle.sim_compare.specs.Pieces as compare
-use Rattle.sim_flow.proofs.Numbers.{on_is, target_is, told_by}
+use Rattle.sim_flow.proofs.Numbers.{on_is, target_is, tested_by}
 use Rattle.sim_flow.specs.Pieces as pieces
 
--- the address behind the instruction, and the target
-abbrev behind : GplState → ℕ
-behind s = next_in_grom (behind_code s)
+-- the address after the instruction, and the target
+abbrev next_after : GplState → ℕ
+next_after s = next_in_grom (behind_code s)
 
 abbrev target : GplState → ℕ
 target s = in_grom_of s.pc (join (code_byte s % 32) (slice_index s.image (behind_code s)))
 
 -- Behind the target.
 record Targeted (s : GplState) (w : View) : Type 0 where
-  sees : ShowsState s (behind s) w
+  sees : ShowsState s (next_after s) w
   to : w.r.r6 ≡ target s
 
 abbrev made_of : View → ℕ → ℕ → ℕ → ℕ
@@ -47,9 +47,9 @@ abbrev end_of : Bool → ℕ
 end_of true = BTARG
 end_of false = CFALSE
 
-abbrev told : GplState → Bool → View → Type 0
-told s true = Dispatched s
-told s false = ShowsState s (behind s)
+abbrev left_by : GplState → Bool → View → Type 0
+left_by s true = Dispatched s
+left_by s false = ShowsState s (next_after s)
 
 taken_at : (taken : Bool) (pc : ℕ) → pc ≡ end_of taken → pc ≡ BTARG → taken ≡ true
 taken_at true pc e f = refl
@@ -62,23 +62,23 @@ passed_at false pc e f = refl
 abbrev word_in : View → ℕ
 word_in v = exclusive_or_of (join (high v.r.r4) (slice_index v.cells 0x7C)) v.r.r0
 
-tells : (s : GplState) (v : View) (taken : Bool) → Dispatched s v → last_out SRL (word_in v) 6 ≡ not taken →
-    Goes (pieces.test_branch v) 5 (end_of taken) (told s taken)
-tells s v true d e =
+tests : (s : GplState) (v : View) (taken : Bool) → Dispatched s v → last_out SRL (word_in v) 6 ≡ not taken →
+    Goes (pieces.test_branch v) 5 (end_of taken) (left_by s taken)
+tests s v true d e =
     let h = d.sees in
     rw e (goes_in (omega arith) (record {
       sees = record { cells = h.cells; vdp = h.vdp; registers = h.registers; held = h.held; grom = h.grom };
       code = d.code;
       address = d.address;
     }))
-tells s v false d e =
+tests s v false d e =
     let h = d.sees in
     rw e (goes_in (omega arith) (record { cells = h.cells; vdp = h.vdp; registers = h.registers; held = h.held; grom = ap past h.grom }))
 
 -- ---- what a branch changes
 
 abbrev passed : GplState → GplState
-passed s = record s { pc = behind s }
+passed s = record s { pc = next_after s }
 
 abbrev changed_by : GplState → Bool → Changes
 changed_by s taken = with_condition false (if taken then unchanged (record s { pc = target s }) else unchanged (passed s))
@@ -87,7 +87,7 @@ changed_by s taken = with_condition false (if taken then unchanged (record s { p
 abbrev status_cleared : List ℕ → List ℕ
 status_cleared cells = slice_set cells 0x7C (ones_cleared Byte (slice_index cells 0x7C) 0x20)
 
-passes : (s : GplState) (w : View) → ShowsState s (behind s) w → Goes (compare.clear_condition w) 3 GSTEP (SeesFinished (changed_by s false))
+passes : (s : GplState) (w : View) → ShowsState s (next_after s) w → Goes (compare.clear_condition w) 3 GSTEP (SeesFinished (changed_by s false))
 passes s w h = goes_in (omega arith) (record { cells = ap status_cleared h.cells; vdp = h.vdp; registers = h.registers; held = h.held; grom = h.grom })
 
 module _ {s : GplState} {x a : MachineState} {t t1 : ℕ} (on : Bool) (is : operation_in s ≡ Some (Branch on))
@@ -98,11 +98,11 @@ module _ {s : GplState} {x a : MachineState} {t t1 : ℕ} (on : Bool) (is : oper
   code_fits : code_byte s < 256
   code_fits = subst (λ (l : List ℕ). slice_index l s.pc < 256) (ap (λ (g : GromState). g.image) d.sees.grom) ((is_view x stands.machine).grom.image.fits s.pc)
 
-  tested : ReachesWithin 5 x a t t1 (end_of taken) (told s taken)
+  tested : ReachesWithin 5 x a t t1 (end_of taken) (left_by s taken)
   tested =
       let bit = ap (λ (n : ℕ). last_out SRL n 6) d.code ∙ on_is (code_byte s) code_fits on is in
       let holds = ap (λ (cells : List ℕ). is_set (slice_index cells 0x7C) 0x20) d.sees.cells in
-      comes e1 (tells s (view x) taken d (told_by (high (view x).r.r4) (slice_index (view x).cells 0x7C) (view x).r.r0 on (condition s) bit holds))
+      comes e1 (tests s (view x) taken d (tested_by (high (view x).r.r4) (slice_index (view x).cells 0x7C) (view x).r.r0 on (condition s) bit holds))
 
   turns : {y : MachineState} {t2 most : ℕ} (c : Bool) → taken ≡ c → ReachesWithin most x y t t2 GSTEP (SeesFinished (changed_by s c)) → most ≤ 18 →
       Turned s x y (from_dispatch t t2) Stepped
@@ -113,15 +113,15 @@ module _ {s : GplState} {x a : MachineState} {t t1 : ℕ} (on : Bool) (is : oper
       turned_by x y t t2 most_to_dispatch Stepped s (Ok (finished (changed_by s c))) step_is
       (refl, reaches most_to_dispatch (bound s) run (ap is_turn_end stands.pc) refl (omega arith), matches (finished (changed_by s c)) y run.stands run.holds)
 
-  -- what holds where it was told
-  told_at : (c : Bool) → taken ≡ c → ReachesWithin 5 x a t t1 (end_of c) (told s c)
-  told_at c e = subst (λ (c : Bool). ReachesWithin 5 x a t t1 (end_of c) (told s c)) e tested
+  -- what holds where it ended
+  left_at : (c : Bool) → taken ≡ c → ReachesWithin 5 x a t t1 (end_of c) (left_by s c)
+  left_at c e = subst (λ (c : Bool). ReachesWithin 5 x a t t1 (end_of c) (left_by s c)) e tested
 
   pub at_target : a.cpu.pc ≡ BTARG → ReachesWithin 5 x a t t1 BTARG (Dispatched s)
-  at_target here = told_at true (taken_at taken a.cpu.pc tested.stands.pc here)
+  at_target here = left_at true (taken_at taken a.cpu.pc tested.stands.pc here)
 
-  pub passed_by : (a.cpu.pc ≡ BTARG → ⊥) → ReachesWithin 5 x a t t1 CFALSE (ShowsState s (behind s))
-  passed_by elsewhere = told_at false (passed_at taken a.cpu.pc tested.stands.pc elsewhere)
+  pub passed_by : (a.cpu.pc ≡ BTARG → ⊥) → ReachesWithin 5 x a t t1 CFALSE (ShowsState s (next_after s))
+  passed_by elsewhere = left_at false (passed_at taken a.cpu.pc tested.stands.pc elsewhere)
 
   pub takes : {b y : MachineState} {t2 t3 : ℕ} → a.cpu.pc ≡ BTARG → Exits a b t1 t2 (pieces.read_branch_target (view a)) → TakesBranch b y t2 t3 →
       Turned s x y (from_dispatch t t3) Stepped
@@ -129,10 +129,10 @@ module _ {s : GplState} {x a : MachineState} {t t1 : ℕ} (on : Bool) (is : oper
       let c1 = at_target here in
       let c2 = comes_then 5 8 c1 e2 (targets s (view a) c1.holds (is_view a c1.stands.machine)) refl in
       let h = c2.holds.sees in
-      let seen : ShowsState (record s { pc = target s }) (behind s) (view b) =
+      let seen : ShowsState (record s { pc = target s }) (next_after s) (view b) =
       record { cells = h.cells; vdp = h.vdp; registers = h.registers; held = h.held; grom = h.grom } in
       let is_true = taken_at taken a.cpu.pc tested.stands.pc here in
-      turns true is_true (comes_on 13 5 c2 (goes (record s { pc = target s }) (behind s) seen c2.holds.to) refl) (omega arith)
+      turns true is_true (comes_on 13 5 c2 (goes (record s { pc = target s }) (next_after s) seen c2.holds.to) refl) (omega arith)
 
   pub passes_on : {y : MachineState} {t2 : ℕ} → (a.cpu.pc ≡ BTARG → ⊥) → Exits a y t1 t2 (compare.clear_condition (view a))
       → Turned s x y (from_dispatch t t2) Stepped

@@ -41,7 +41,7 @@ module _ (s : GplState) (place : Place) (source : Source) (v : View) (e : operat
   fits : next_of s < 65536
   fits = place_fits (next_of s) (subst (λ (n : ℕ). n < 65536) (ap (λ (g : GromState). g.counter) row.holds.sees.grom) i.grom.counter)
 
-  -- the view behind each piece
+  -- the view after each piece
   abbrev asked : View
   asked = (pieces.ask_table v).left
 

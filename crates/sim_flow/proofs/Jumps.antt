@@ -32,25 +32,25 @@ module _ (s : GplState) (v : View) (d : Dispatched s v) where
   abbrev target : ℕ
   target = (word_at s.image (behind_code s)).0
 
-  abbrev behind : ℕ
-  behind = (word_at s.image (behind_code s)).1
+  abbrev after : ℕ
+  after = (word_at s.image (behind_code s)).1
 
   abbrev next : GplState
   next = record s { pc = target }
 
   -- the words that follow are read
   abbrev read : View
-  read = record v { r = record v.r { r6 = target }; grom = grom_at s.image behind }
+  read = record v { r = record v.r { r6 = target }; grom = grom_at s.image after }
 
   read_is : pieces.read_target v ≡ exit 2 GOTO read
   read_is = let at : GromState → Ending = λ g. pieces.read_target (record v { grom = g }) in ap at d.sees.grom
 
-  seen : ShowsState next behind read
+  seen : ShowsState next after read
   seen = let h = d.sees in record { cells = h.cells; vdp = h.vdp; registers = h.registers; held = h.held; grom = refl }
 
   -- what holds at GOTO
   record AtTarget (w : View) : Type 0 where
-    sees : ShowsState next behind w
+    sees : ShowsState next after w
     to : w.r.r6 ≡ target
 
   pub jumps : {x a y : MachineState} {t t1 t2 : ℕ} → view x ≡ v → operation_in s ≡ Some (Jump B) → Stands x GOB →
@@ -58,7 +58,7 @@ module _ (s : GplState) (v : View) (d : Dispatched s v) where
   jumps {x = x} {y = y} {t = t} {t2 = t2} is e stands e1 goes =
       let at : Goes (exit 2 GOTO read) 2 GOTO AtTarget = record { within = omega arith; to_is = refl; holds = record { sees = seen; to = refl } } in
       let c1 = comes e1 (from pieces.read_target is (known read_is at)) in
-      let c2 = comes_on 2 2 c1 (goes next behind c1.holds.sees c1.holds.to) refl in
+      let c2 = comes_on 2 2 c1 (goes next after c1.holds.sees c1.holds.to) refl in
       let step_is = step_jump s B e in
       let m = bound_made s next (Some (Jump B)) e step_is in
       turned_by x y t t2 most_to_dispatch Stepped s (Ok next) step_is

@@ -53,19 +53,19 @@ odd_sum (suc zero) (suc zero) h k = refl
 odd_sum (suc (suc n)) other h k = absurd (omega arith)
 odd_sum bit (suc (suc n)) h k = absurd (omega arith)
 
-bits_told : (above status code : ℕ) → exclusive_or_of (join above status) code / 32 % 2 ≡ (status / 32 % 2 + code / 32 % 2) % 2
-bits_told above status code =
+bits_differ : (above status code : ℕ) → exclusive_or_of (join above status) code / 32 % 2 ≡ (status / 32 % 2 + code / 32 % 2) % 2
+bits_differ above status code =
     let e : exclusive_or_of (join above status) code / 32 % 2 ≡ (join above status / 32 % 2 + code / 32 % 2) % 2 = bit_at_xor (join above status) code 5 in
     omega arith
 
 bit_is : (word : ℕ) → eqb (word / 32 % 2) 1 ≡ last_out SRL word 6
 bit_is word = ap (λ n. eqb n 1) (omega arith)
 
-pub told_by : (above status code : ℕ) (on holds : Bool) → last_out SRL code 6 ≡ on → is_set status 0x20 ≡ holds →
+pub tested_by : (above status code : ℕ) (on holds : Bool) → last_out SRL code 6 ≡ on → is_set status 0x20 ≡ holds →
     last_out SRL (exclusive_or_of (join above status) code) 6 ≡ not (is_taken on holds)
-told_by above status code on holds e f =
+tested_by above status code on holds e f =
     sym (bit_is (exclusive_or_of (join above status) code))
-    ∙ ap (λ n. eqb n 1) (bits_told above status code)
+    ∙ ap (λ n. eqb n 1) (bits_differ above status code)
     ∙ odd_sum (status / 32 % 2) (code / 32 % 2) (omega arith) (omega arith)
     ∙ ap (λ other. not (is_taken other (is_set status 0x20))) (bit_is code ∙ e)
     ∙ ap (λ bit. not (is_taken on bit)) f

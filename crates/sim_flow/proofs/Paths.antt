@@ -12,14 +12,14 @@ pub read_target : (v : View) → IsView v → Leads (GOTO ∷ []) v GOB (pieces.
 read_target v i = record { by = λ f q. rw (byte_is (past v.grom).fetched (i.grom.image.fits v.grom.counter), high-join v.grom.fetched v.r.r6) refl }
 
 -- the status below what register 4 has above it, less the code byte
-abbrev word_told : View → ℕ
-word_told v = exclusive_or_of (join (high v.r.r4) (slice_index v.cells 0x7C)) v.r.r0
+abbrev word_tested : View → ℕ
+word_tested v = exclusive_or_of (join (high v.r.r4) (slice_index v.cells 0x7C)) v.r.r0
 
 pub test_branch : (v : View) → IsView v → Leads (BTARG ∷ CFALSE ∷ []) v BRANCH (pieces.test_branch v)
 test_branch v i = record {
   by = λ f q.
       let byte = byte_is (slice_index v.cells 0x7C) (i.cells 0x7C) in
-      pick (last_out SRL (word_told v) 6) (λ c. rw (byte, c) refl) (λ c. rw (byte, c) refl);
+      pick (last_out SRL (word_tested v) 6) (λ c. rw (byte, c) refl) (λ c. rw (byte, c) refl);
 }
 
 pub read_branch_target : (v : View) → IsView v → Leads (TAKE ∷ []) v BTARG (pieces.read_branch_target v)

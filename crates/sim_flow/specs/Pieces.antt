@@ -20,10 +20,10 @@ read_target v =
 abbrev pub test_branch : View → Exit
 test_branch v =
     let word = exclusive_or_of (join (high v.r.r4) (slice_index v.cells STATUS)) v.r.r0 in
-    let told = shifted SRL word 6 in
+    let tested = shifted SRL word 6 in
     if last_out SRL word 6
-    then exit 5 CFALSE (record v { r = record v.r { r4 = join v.grom.fetched (low told) }; grom = past v.grom })
-    else exit 4 BTARG (record v { r = record v.r { r4 = told } })
+    then exit 5 CFALSE (record v { r = record v.r { r4 = join v.grom.fetched (low tested) }; grom = past v.grom })
+    else exit 4 BTARG (record v { r = record v.r { r4 = tested } })
 
 -- BTARG: the low five bits of the code byte and the byte that follows, in the GROM of the code byte, are the target.
 abbrev pub read_branch_target : View → Exit

@@ -19,7 +19,7 @@ set_from g image next word at e to fits =
 
 -- ---- GOTO
 
-pub goes : {x y : MachineState} {t u : ℕ} → Stands x GOTO → Exits x y t u (pieces.go_on (view x)) → GoesOn x y t u
+pub goes : {x y : MachineState} {t u : ℕ} → Stands x GOTO → Exits x y t u (pieces.go_to (view x)) → GoesOn x y t u
 goes {x = x} stands e s next h to =
     let v : View = view x in
     comes e (record {

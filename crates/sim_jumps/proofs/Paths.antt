@@ -4,8 +4,8 @@ pub use Rattle.sim_rows.proofs.Common.{piece}
 use Rattle.sim_rows.proofs.Common.{GOTO, Leads, RESUME, SHOW, TAKE, View}
 use Rattle.sim_jumps.specs.Pieces as pieces
 
-pub go_on : (v : View) → Leads [] v GOTO (pieces.go_on v)
-go_on v = record { by = λ f q. refl }
+pub go_to : (v : View) → Leads [] v GOTO (pieces.go_to v)
+go_to v = record { by = λ f q. refl }
 
 pub take_branch : (v : View) → Leads (GOTO ∷ []) v TAKE (pieces.take_branch v)
 take_branch v = record { by = λ f q. refl }

@@ -6,8 +6,8 @@ use Rattle.sim_rows.specs.Prelude.{SHOW}
 use Rattle.sim_rows.specs.Prelude.{STATUS, View}
 
 -- GOTO: GROM goes on at the address in register 6.
-abbrev pub go_on : View → Exit
-go_on v = exit 2 GSTEP (record v { grom = with_grom_address v.r.r6 v.grom })
+abbrev pub go_to : View → Exit
+go_to v = exit 2 GSTEP (record v { grom = with_grom_address v.r.r6 v.grom })
 
 -- TAKE: the condition's bit of the status is cleared.
 abbrev pub take_branch : View → Exit

@@ -5,7 +5,7 @@ ghost use Rattle.sim_jumps.specs.Jumps.{GoesOn, ResumesRow, TakesBranch};
 ghost use Rattle.sim_rows.specs.native_interp.declared.addresses.TheConstants as address;
 ghost use Rattle.sim_jumps.specs.Routines as routine;
 
-use crate::pieces::{go_on, resume, take_branch};
+use crate::pieces::{go_to, resume, take_branch};
 use sim_rows::end_row_routine;
 use sim_rows::processor::{Machine, Steps};
 use std::sync::ledger::Ledger;
@@ -15,7 +15,7 @@ pub fn jump<L: Ledger>(machine: &mut Machine, steps: &mut Steps<L>)
     requires { Stands machine.old address.GOTO }
     ensures { GoesOn machine.old machine.new steps.old steps.new }
 {
-    go_on(machine, steps);
+    go_to(machine, steps);
 }
 
 /// Clears the condition, and ends a step that goes on at the address in register 6.

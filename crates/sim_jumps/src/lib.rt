@@ -7,4 +7,4 @@ mod ending;
 mod pieces;
 
 pub use ending::{jump, resume_row, resume_row_routine, take_jump};
-pub use pieces::{go_on, resume, take_branch};
+pub use pieces::{go_to, resume, take_branch};

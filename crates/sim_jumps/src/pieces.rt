@@ -10,9 +10,9 @@ use sim_rows::run_piece;
 use std::sync::ledger::Ledger;
 
 /// The piece that ends a step: GROM goes on at the address in register 6.
-pub fn go_on<L: Ledger>(machine: &mut Machine, steps: &mut Steps<L>)
+pub fn go_to<L: Ledger>(machine: &mut Machine, steps: &mut Steps<L>)
     requires { Stands machine.old address.GOTO }
-    ensures { Exits machine.old machine.new steps.old steps.new (piece.go_on (view machine.old)) }
+    ensures { Exits machine.old machine.new steps.old steps.new (piece.go_to (view machine.old)) }
 {
     run_piece(machine, steps, &[]);
 }

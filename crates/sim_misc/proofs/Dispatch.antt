@@ -37,8 +37,8 @@ some_bytes : (w : Width) → 0 < size_of w
 some_bytes Byte = omega arith
 some_bytes Word = omega arith
 
-module _ {x y : MachineState} {t u : ℕ} {op : GplOperation} {told : Option GplOperation} (at : AtDispatch is_exchange x) (is : told ≡ Some op)
-    (l : HasStarted (state_at_dispatch (view x)) x y t u told) where
+module _ {x y : MachineState} {t u : ℕ} {op : GplOperation} {found : Option GplOperation} (at : AtDispatch is_exchange x) (is : found ≡ Some op)
+    (l : HasStarted (state_at_dispatch (view x)) x y t u found) where
   abbrev s : GplState
   s = state_at_dispatch (view x)
 

@@ -67,7 +67,7 @@ abbrev with_byte : View → View
 with_byte w = record w { r = record w.r { r12 = difference_of Word w.r.r12 1 }; vdp = vdp_data_written w.vdp (high w.r.r9) }
 
 module _ (s : GplState) (made : ℕ) (w : View) (h : Filled s made w) (some : made < 768) (size : length s.vdp ≡ 16384) where
-  -- the byte is stored behind the others
+  -- the byte is stored after the others
   memory_is : slice_set w.vdp.memory w.vdp.address (high w.r.r9) ≡ filled_to (suc made) (byte_of s) s.vdp
   memory_is =
       ap (λ (l : List ℕ). slice_set l w.vdp.address (high w.r.r9)) h.memory

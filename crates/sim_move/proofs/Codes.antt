@@ -28,23 +28,23 @@ same_is true b e = sym e
 same_is false true e = absurd (cc)
 same_is false false e = refl
 
-abbrev tells : ℕ → MoveKind → Bool
-tells code kind =
+abbrev agrees : ℕ → MoveKind → Bool
+agrees code kind =
     same (nat_lt code 0x38) (to_memory kind) && (same (nat_lt code 0x34) (is_low kind) && same (code / 2 % 2 == 1) (has_index kind))
 
-abbrev tells_by : ℕ → Option GplOperation → Bool
-tells_by code (Some (Move kind)) = tells code kind
-tells_by code _ = true
+abbrev agrees_by : ℕ → Option GplOperation → Bool
+agrees_by code (Some (Move kind)) = agrees code kind
+agrees_by code _ = true
 
-pub record Told (code : ℕ) (kind : MoveKind) : Type 0 where
+pub record Encodes (code : ℕ) (kind : MoveKind) : Type 0 where
   pub memory : nat_lt code 0x38 ≡ to_memory kind
   pub low : nat_lt code 0x34 ≡ is_low kind
   pub index : (code / 2 % 2 == 1) ≡ has_index kind
 
-pub told : (code : ℕ) (kind : MoveKind) → code < 256 → operation_at code ≡ Some (Move kind) → Told code kind
-told code kind h e =
-    let all : tells_by code (operation_at code) ≡ true = agree_below_at (λ n. tells_by n (operation_at n)) (λ _. true) 256 code refl h in
-    let is : tells code kind ≡ true = sym (ap (tells_by code) e) ∙ all in
+pub encodes : (code : ℕ) (kind : MoveKind) → code < 256 → operation_at code ≡ Some (Move kind) → Encodes code kind
+encodes code kind h e =
+    let all : agrees_by code (operation_at code) ≡ true = agree_below_at (λ n. agrees_by n (operation_at n)) (λ _. true) 256 code refl h in
+    let is : agrees code kind ≡ true = sym (ap (agrees_by code) e) ∙ all in
     let p = and_parts _ _ is in
     let q = and_parts _ _ p.1 in
     record { memory = same_is _ _ p.0; low = same_is _ _ q.0; index = same_is _ _ q.1 }

@@ -8,12 +8,13 @@ use Rattle.sim_rows.specs.sim_view.Prelude.{HoldsBytes}
 use Rattle.sim_rows.proofs.sim_operands.Ends.{EndsBy, not_at}
 use Rattle.sim_copy.specs.Copying.{StandsTo}
 use Rattle.sim_move.specs.Family.{is_move}
-use Rattle.sim_move.specs.Moves.{AtCopy, copy_in, FindsCopy, length_read, source_read, target_in, target_read}
+use Rattle.sim_move.specs.Moves.{BeforeCopy, copy_in, FindsCopy, length_read, source_read, target_in, target_read}
 use Rattle.sim_move.specs.Rows.{find_length, find_places, index_source, turn_to_source}
-use Rattle.sim_move.proofs.Codes.{from_grom, has_index, Told, told}
+use Rattle.sim_move.proofs.Codes.{from_grom, has_index, Encodes, encodes}
 use Rattle.sim_move.proofs.Arrivals.{Comes, comes_as_said, comes_stopped, comes_there, then_comes}
+use Rattle.sim_jumps.proofs.NextAddress.{next_fits}
 use Rattle.sim_move.proofs.Lengths.{length_ends}
-use Rattle.sim_move.proofs.Seen.{dispatched_is, LengthTold, number_to, seen, SourceTold, space_to, stood, TargetTold}
+use Rattle.sim_move.proofs.Seen.{dispatched_is, LengthFound, number_to, seen, SourceFound, space_to, stood, TargetFound}
 use Rattle.sim_move.proofs.Sources.{source_ends, source_returns, turned, turns}
 use Rattle.sim_move.proofs.Targets.{places_in_memory, places_to_grom}
 
@@ -36,9 +37,6 @@ by_kind P m g GromToRegisters = g GromToRegisters refl
 stands_to : (to : To) (w : View) → w.r.r7 ≡ number_to to → w.r.r8 ≡ space_to to → StandsTo to w
 stands_to (ToMemory place) w a b = record { address = a; space = b }
 stands_to (ToRegisters number) w a b = record { number_is = a; space = b }
-
-next_fits : (at : ℕ) → next_in_grom at < 65536 → at < 65536
-next_fits at h = omega arith
 
 pub stands_move : {x : MachineState} → AtDispatch is_move x → Stands x GOMOVE
 stands_move {x = x} at = subst (λ (p : ℕ). Stands x p) (entry_is (operation_in_view (view x)) at.family) at.stands
@@ -95,11 +93,11 @@ module _ {x a : MachineState} {t t1 : ℕ} (stands : Stands x GOMOVE) (dispatche
   fits : code_byte s < 256
   fits = bytes.fits s.pc
 
-  length : Comes 61 s x a t t1 MOVEL (LengthTold s (length_read s).1) (length_of s (length_read s).0)
+  length : Comes 61 s x a t t1 MOVEL (LengthFound s (length_read s).1) (length_of s (length_read s).0)
   length =
       let v = view x in
       let By : View → Type 0 = λ w. (find_length w).left.r.r2 < 65536 →
-      EndsBy (find_length w) 61 MOVEL (LengthTold s (length_read s).1) (StoppedBy s) (length_of s (length_read s).0) in
+      EndsBy (find_length w) 61 MOVEL (LengthFound s (length_read s).1) (StoppedBy s) (length_of s (length_read s).0) in
       let r2 : (find_length v).left.r.r2 < 65536 = subst (λ (w : View). w.r.r2 < 65536) one.shows ((is_view a one.stands.machine).r 2) in
       comes_as_said s (length_of s (length_read s).0) one (subst By (sym (dispatched_is s v dispatched)) (length_ends s v bytes) r2)
 
@@ -108,7 +106,7 @@ module _ {x a : MachineState} {t t1 : ℕ} (stands : Stands x GOMOVE) (dispatche
   rest kind count = target_in s count (target_read kind s).0 >>= λ found. (origin_of s found.0 (source_read kind s).0 >>= λ from. Ok (found, from))
 
   abbrev Finds : MoveKind → MachineState → ℕ → Type 0
-  Finds kind y u = operation_in s ≡ Some (Move kind) → Comes 160 s x y t u MOVEB (AtCopy kind s) (copy_in kind s)
+  Finds kind y u = operation_in s ≡ Some (Move kind) → Comes 160 s x y t u MOVEB (BeforeCopy kind s) (copy_in kind s)
 
   abbrev finds_copy : (y : MachineState) (u : ℕ) → ((kind : MoveKind) → Finds kind y u) → FindsCopy s x y t u
   finds_copy y u h = record { by = λ kind known. let c = h kind known in c.by }
@@ -117,35 +115,35 @@ module _ {x a : MachineState} {t t1 : ℕ} (stands : Stands x GOMOVE) (dispatche
   no_length away = finds_copy a t1 (λ kind known. comes_stopped (length_of s (length_read s).0) (rest kind) (omega arith) away length)
 
   module _ (here : a.cpu.pc ≡ MOVEL) {b : MachineState} {t2 : ℕ} (two : Exits a b t1 t2 (find_places (view a))) where
-    behind_length : (kind : MoveKind) (y : MachineState) (u : ℕ) →
-        ((count : ℕ) → LengthTold s (length_read s).1 count (view a) → Comes 99 s a y t1 u MOVEB (AtCopy kind s) (rest kind count)) →
-        Comes 160 s x y t u MOVEB (AtCopy kind s) (copy_in kind s)
-    behind_length kind y u next = then_comes (length_of s (length_read s).0) (rest kind) refl here length next
+    after_length : (kind : MoveKind) (y : MachineState) (u : ℕ) →
+        ((count : ℕ) → LengthFound s (length_read s).1 count (view a) → Comes 99 s a y t1 u MOVEB (BeforeCopy kind s) (rest kind count)) →
+        Comes 160 s x y t u MOVEB (BeforeCopy kind s) (copy_in kind s)
+    after_length kind y u next = then_comes (length_of s (length_read s).0) (rest kind) refl here length next
 
-    memory : (count : ℕ) → Told (code_byte s) MemoryToMemory → LengthTold s (length_read s).1 count (view a) →
-        Comes 99 s a b t1 t2 MOVEB (AtCopy MemoryToMemory s) (rest MemoryToMemory count)
+    memory : (count : ℕ) → Encodes (code_byte s) MemoryToMemory → LengthFound s (length_read s).1 count (view a) →
+        Comes 99 s a b t1 t2 MOVEB (BeforeCopy MemoryToMemory s) (rest MemoryToMemory count)
     memory count k h =
-        let By : View → Type 0 = λ w. EndsBy (find_places w) 99 MOVEB (AtCopy MemoryToMemory s) (StoppedBy s) (rest MemoryToMemory count) in
+        let By : View → Type 0 = λ w. EndsBy (find_places w) 99 MOVEB (BeforeCopy MemoryToMemory s) (StoppedBy s) (rest MemoryToMemory count) in
         comes_as_said s (rest MemoryToMemory count) two (subst By (sym h) (places_in_memory s count (view a) bytes k))
 
     in_memory : Finds MemoryToMemory b t2
-    in_memory known = behind_length MemoryToMemory b t2 (λ count. memory count (told (code_byte s) MemoryToMemory fits known))
+    in_memory known = after_length MemoryToMemory b t2 (λ count. memory count (encodes (code_byte s) MemoryToMemory fits known))
 
     target : (kind : MoveKind) (count : ℕ) → from_grom kind ≡ true → operation_in s ≡ Some (Move kind) →
-        LengthTold s (length_read s).1 count (view a) →
-        Comes 50 s a b t1 t2 MOVES (TargetTold s (target_read kind s).1) (target_in s count (target_read kind s).0)
+        LengthFound s (length_read s).1 count (view a) →
+        Comes 50 s a b t1 t2 MOVES (TargetFound s (target_read kind s).1) (target_in s count (target_read kind s).0)
     target kind count g known h =
-        let By : View → Type 0 = λ w. EndsBy (find_places w) 50 MOVES (TargetTold s (target_read kind s).1) (StoppedBy s)
+        let By : View → Type 0 = λ w. EndsBy (find_places w) 50 MOVES (TargetFound s (target_read kind s).1) (StoppedBy s)
         (target_in s count (target_read kind s).0) in
         comes_as_said s (target_in s count (target_read kind s).0) two
-        (subst By (sym h) (places_to_grom s count (view a) bytes kind (told (code_byte s) kind fits known) g))
+        (subst By (sym h) (places_to_grom s count (view a) bytes kind (encodes (code_byte s) kind fits known) g))
 
     abbrev with_source : MoveKind → ℕ × To → Result ((ℕ × To) × From) Reason
     with_source kind found = origin_of s found.0 (source_read kind s).0 >>= λ from. Ok (found, from)
 
     pub no_target : (b.cpu.pc ≡ MOVES → ⊥) → FindsCopy s x b t t2
     no_target away = finds_copy b t2 (by_kind (λ kind. Finds kind b t2) in_memory (λ kind g known.
-        behind_length kind b t2 (λ count h.
+        after_length kind b t2 (λ count h.
         comes_stopped (target_in s count (target_read kind s).0) (with_source kind) (omega arith) away (target kind count g known h))))
 
     module _ (there : b.cpu.pc ≡ MOVES) {c : MachineState} {t3 : ℕ} (three : Exits b c t2 t3 (index_source (view b))) where
@@ -153,13 +151,13 @@ module _ {x a : MachineState} {t t1 : ℕ} (stands : Stands x GOMOVE) (dispatche
       not_memory : (y : MachineState) (u : ℕ) → Finds MemoryToMemory y u
       not_memory y u known = absurd (comes_there MOVES (copy_in MemoryToMemory s) refl refl (in_memory known) there)
 
-      source : (kind : MoveKind) (found : ℕ × To) → operation_in s ≡ Some (Move kind) → TargetTold s (target_read kind s).1 found (view b) →
+      source : (kind : MoveKind) (found : ℕ × To) → operation_in s ≡ Some (Move kind) → TargetFound s (target_read kind s).1 found (view b) →
           (let index = index_of s kind found (has_index kind) in
-          Comes 32 s b c t2 t3 MOVEX (SourceTold s index.1 found) (indexed s index.0 (address s kind found).0))
+          Comes 32 s b c t2 t3 MOVEX (SourceFound s index.1 found) (indexed s index.0 (address s kind found).0))
       source kind found known h =
           let By : Bool → View → Type 0 = λ i w. (let index = index_of s kind found i in
-          EndsBy (index_source w) 32 MOVEX (SourceTold s index.1 found) (StoppedBy s) (indexed s index.0 (address s kind found).0)) in
-          let bit = (told (code_byte s) kind fits known).index in
+          EndsBy (index_source w) 32 MOVEX (SourceFound s index.1 found) (StoppedBy s) (indexed s index.0 (address s kind found).0)) in
+          let bit = (encodes (code_byte s) kind fits known).index in
           let index = index_of s kind found (has_index kind) in
           comes_as_said s (indexed s index.0 (address s kind found).0) three
           (subst (By (has_index kind)) (sym h) (subst (λ (i : Bool). By i (seen s (target_read kind s).1 (stood found (view b)))) bit
@@ -167,15 +165,15 @@ module _ {x a : MachineState} {t t1 : ℕ} (stands : Stands x GOMOVE) (dispatche
 
       -- what is found from the target on
       from_target : (kind : MoveKind) (y : MachineState) (u : ℕ) → from_grom kind ≡ true → operation_in s ≡ Some (Move kind) →
-          ((found : ℕ × To) → TargetTold s (target_read kind s).1 found (view b) →
+          ((found : ℕ × To) → TargetFound s (target_read kind s).1 found (view b) →
           (let index = index_of s kind found (has_index kind) in
-          Comes 49 s b y t2 u MOVEB (AtCopy kind s) (indexed s index.0 (address s kind found).0 >>= from_address s kind found))) →
-          Comes 160 s x y t u MOVEB (AtCopy kind s) (copy_in kind s)
+          Comes 49 s b y t2 u MOVEB (BeforeCopy kind s) (indexed s index.0 (address s kind found).0 >>= from_address s kind found))) →
+          Comes 160 s x y t u MOVEB (BeforeCopy kind s) (copy_in kind s)
       from_target kind y u g known next =
-          behind_length kind y u (λ count h.
+          after_length kind y u (λ count h.
           then_comes (target_in s count (target_read kind s).0) (with_source kind) refl there (target kind count g known h)
           (λ found h.
-          let By : Result ((ℕ × To) × From) Reason → Type 0 = Comes 49 s b y t2 u MOVEB (AtCopy kind s) in
+          let By : Result ((ℕ × To) × From) Reason → Type 0 = Comes 49 s b y t2 u MOVEB (BeforeCopy kind s) in
           subst By (sym (origin_is s found kind g)) (next found h)))
 
       pub no_source : c.cpu.pc ≡ GSTOP → FindsCopy s x c t t3
@@ -192,8 +190,8 @@ module _ {x a : MachineState} {t t1 : ℕ} (stands : Stands x GOMOVE) (dispatche
         module _ {y : MachineState} {t4 : ℕ} (four : Exits c y t3 t4 (turn_to_source (view c))) where
           turn : (kind : MoveKind) (found : ℕ × To) (address : ℕ) → from_grom kind ≡ true →
               (let index = index_of s kind found (has_index kind) in
-              SourceTold s index.1 found address (view c) →
-              Comes 17 s c y t3 t4 MOVEB (AtCopy kind s) (from_address s kind found address))
+              SourceFound s index.1 found address (view c) →
+              Comes 17 s c y t3 t4 MOVEB (BeforeCopy kind s) (from_address s kind found address))
           turn kind found address g h =
               let at = (index_of s kind found (has_index kind)).1 in
               let q = seen s at (stood found (record (view c) { r = record (view c).r { r2 = address } })) in
@@ -210,7 +208,7 @@ module _ {x a : MachineState} {t t1 : ℕ} (stands : Stands x GOMOVE) (dispatche
                   counted = run.counted;
                   runs = run.runs;
                   stands = run.stands;
-                  holds = subst (AtCopy kind s (found, FromGrom address)) (sym run.holds) (record {
+                  holds = subst (BeforeCopy kind s (found, FromGrom address)) (sym run.holds) (record {
                     cells = refl;
                     vdp = refl;
                     registers = refl;

@@ -1,14 +1,14 @@
 -- MOVE from its dispatch to the end of the step.
-use Rattle.std.proofs.Common.{ℕ, ◌*◌, ◌+◌, ◌≡◌, ap, arith, Err, false, Ok, refl, Some, subst, sym, true}
+use Rattle.std.proofs.Common.{ℕ, ◌*◌, ◌+◌, ◌≡◌, ap, arith, Err, false, None, Ok, refl, Some, subst, sym, true}
 use Rattle.sim_rows.proofs.Common.{bound, bound_stop, Changes, comes_on, fetched_of, finished, From, FromGrom, FromMemory, GOMOVE, GplState, grom_at, GSTOP}
 use Rattle.sim_rows.proofs.Common.{idle_of, is_turn_end, MachineState, matches, most_to_dispatch, Move, MOVEB, MoveKind, number_of, operation_in, reaches, ReachesWithin, Reason, StoppedBy}
 use Rattle.sim_rows.proofs.Common.{from_dispatch, ShowsState, Stands, Stepped, Stopped, stops, To, Turned, turned_by, View, view, WORKSPACE}
 use Rattle.sim_copy.specs.Copying.{CopiesBytes, StandsFrom}
 use Rattle.sim_move.specs.Family.{is_move}
-use Rattle.sim_move.specs.Moves.{AtCopy, begun, copy_in, FindsCopy, MayCopy, source_read, target_read}
+use Rattle.sim_move.specs.Moves.{BeforeCopy, begun, copy_in, FindsCopy, MayCopy, source_read, target_read}
 use Rattle.sim_move.proofs.Arrivals.{came, Comes, stopped}
 use Rattle.sim_move.proofs.Copies.{kind_of}
-use Rattle.sim_move.proofs.Lies.{FromLies, registers_there, source_lies, source_visible, target_lies, target_visible, ToLies}
+use Rattle.sim_move.proofs.Ranges.{SourceInRange, registers_there, source_in_range, source_visible, target_in_range, target_visible, TargetInRange}
 use Rattle.sim_move.proofs.MoveSteps.{bound_is, made, no_exit, parts, step_copies, step_stops}
 
 -- where GROM stands before the first byte
@@ -20,7 +20,7 @@ grom_of : (c : Changes) (from : From) (w : View) → StandsFrom c from w → w.g
 grom_of c (FromMemory place) w h = h.grom
 grom_of c (FromGrom address) w h = h.grom
 
-sees_of : (kind : MoveKind) (s : GplState) (f : (ℕ × To) × From) (w : View) → AtCopy kind s f w → ShowsState s (place_in_grom (begun kind s) f.1) w
+sees_of : (kind : MoveKind) (s : GplState) (f : (ℕ × To) × From) (w : View) → BeforeCopy kind s f w → ShowsState s (place_in_grom (begun kind s) f.1) w
 sees_of kind s f w h = record { cells = h.cells; vdp = h.vdp; registers = h.registers; held = h.held; grom = grom_of (begun kind s) f.1 w h.stands_from }
 
 module _ (s : GplState) {x a : MachineState} {t t1 : ℕ} (stands : Stands x GOMOVE) (family : is_move (operation_in s) ≡ true) (finds : FindsCopy s x a t t1)
@@ -35,7 +35,7 @@ module _ (s : GplState) {x a : MachineState} {t t1 : ℕ} (stands : Stands x GOM
     start : is_turn_end x.cpu.pc ≡ false
     start = ap is_turn_end stands.pc
 
-    arrives : Comes 160 s x a t t1 MOVEB (AtCopy kind s) (copy_in kind s)
+    arrives : Comes 160 s x a t t1 MOVEB (BeforeCopy kind s) (copy_in kind s)
     arrives = record { by = finds.by kind known }
 
     -- a check fails
@@ -46,11 +46,17 @@ module _ (s : GplState) {x a : MachineState} {t t1 : ℕ} (stands : Stands x GOM
       pub workspace : a.cpu.wp ≡ WORKSPACE
       workspace = m.2.stands.wp
 
-      pub stops_by : (told : Reason) → ((reason : Reason) → (view a).r.r0 ≡ number_of reason → told ≡ reason) → Turned s x a (from_dispatch t t1) (Stopped told)
-      stops_by told is =
+      -- some reason has the number in register 0
+      pub has_reason : ((reason : Reason) → number_of reason ≡ (view a).r.r0 → None ≡ Some reason) → ⊥
+      has_reason none = let e = none m.0 (sym m.2.holds.reason_is) in absurd (cc)
+
+      pub stops_by : (given : Reason) → ((reason : Reason) → number_of reason ≡ (view a).r.r0 → Some given ≡ Some reason) →
+          Turned s x a (from_dispatch t t1) (Stopped given)
+      stops_by given is =
           let e = step_stops s kind known m.0 m.1 in
           let b = bound_stop s m.0 e in
-          let same : told ≡ m.0 = is m.0 m.2.holds.reason_is in
+          let is_some = is m.0 (sym m.2.holds.reason_is) in
+          let same : given ≡ m.0 = cc in
           let P : Reason → Type 0 = λ r. Turned s x a (from_dispatch t t1) (Stopped r) in
           subst P (sym same)
           (turned_by x a t t1 most_to_dispatch (Stopped m.0) s (Err m.0) e
@@ -58,14 +64,14 @@ module _ (s : GplState) {x a : MachineState} {t t1 : ℕ} (stands : Stands x GOM
 
     -- all is found
     module _ (away : a.cpu.pc ≡ GSTOP → ⊥) where
-      g : (found : (ℕ × To) × From) × (copy_in kind s ≡ Ok found) × ReachesWithin 160 x a t t1 MOVEB (AtCopy kind s found)
+      g : (found : (ℕ × To) × From) × (copy_in kind s ≡ Ok found) × ReachesWithin 160 x a t t1 MOVEB (BeforeCopy kind s found)
       g = came (copy_in kind s) arrives away
 
-      to_lies : ToLies g.0.0.0 g.0.0.1
-      to_lies = target_lies s g.0.0.0 (target_read kind s).0 g.0.0.1 (parts s kind g.0 g.1).target
+      target_range : TargetInRange g.0.0.0 g.0.0.1
+      target_range = target_in_range s g.0.0.0 (target_read kind s).0 g.0.0.1 (parts s kind g.0 g.1).target
 
-      from_lies : FromLies g.0.0.0 g.0.1
-      from_lies = source_lies s g.0.0.0 (source_read kind s).0 g.0.1 (parts s kind g.0 g.1).source
+      source_range : SourceInRange g.0.0.0 g.0.1
+      source_range = source_in_range s g.0.0.0 (source_read kind s).0 g.0.1 (parts s kind g.0 g.1).source
 
       pub may_copy : MayCopy a
       may_copy =
@@ -76,9 +82,9 @@ module _ (s : GplState) {x a : MachineState} {t t1 : ℕ} (stands : Stands x GOM
             stands = g.2.stands;
             idle = idle_of a.cpu.memory s at sees;
             fetched = fetched_of a.cpu.memory s at sees;
-            source = source_visible g.0.0.0 (begun kind s) g.0.1 (view a) h.stands_from h.left from_lies;
-            target = target_visible g.0.0.0 g.0.0.1 (view a) h.stands_to h.left to_lies;
-            registers = registers_there g.0.0.0 g.0.0.1 (view a) h.stands_to h.left to_lies;
+            source = source_visible g.0.0.0 (begun kind s) g.0.1 (view a) h.stands_from h.left source_range;
+            target = target_visible g.0.0.0 g.0.0.1 (view a) h.stands_to h.left target_range;
+            registers = registers_there g.0.0.0 g.0.0.1 (view a) h.stands_to h.left target_range;
           }
 
       pub turned : {y : MachineState} {t2 : ℕ} → CopiesBytes a y t1 t2 → Turned s x y (from_dispatch t t2) Stepped

@@ -12,7 +12,7 @@ use Rattle.sim_rows.proofs.sim_operands.Routines.{load_goes, stream_goes}
 use Rattle.sim_move.specs.Moves.{length_read}
 use Rattle.sim_move.specs.Rows.{find_length, IsReady, load_count, load_placed}
 use Rattle.sim_move.proofs.Numbers.{odd_bit}
-use Rattle.sim_move.proofs.Seen.{LengthTold, operand_found, seen, shown}
+use Rattle.sim_move.proofs.Seen.{LengthFound, operand_found, seen, dispatch_view}
 use Rattle.sim_move.specs.Pieces as pieces
 
 -- ---- what is asked for
@@ -35,7 +35,7 @@ asks_on v = pick (last_out SRL v.r.r0 1) (λ a. rw a refl) (λ a. rw a refl)
 
 streams : (s : GplState) (at : ℕ) (u : View) →
     (let read = word_at s.image at in
-    Goes (load_count (seen s at (record u { r = record u.r { r3 = 2; r5 = 2 } }))) 11 MOVEL (LengthTold s read.1 read.0))
+    Goes (load_count (seen s at (record u { r = record u.r { r3 = 2; r5 = 2 } }))) 11 MOVEL (LengthFound s read.1 read.0))
 streams s at u =
     let v = seen s at (record u { r = record u.r { r3 = 2; r5 = 2 } }) in
     let w = (pieces.load_length v).left in
@@ -46,7 +46,7 @@ streams s at u =
     goes_after (pieces.load_length v) load 1 (omega arith) (record {
       within = g.within;
       to_is = g.to_is;
-      holds = subst (LengthTold s (read at).1 (read at).0) (sym is) refl;
+      holds = subst (LengthFound s (read at).1 (read at).0) (sym is) refl;
     })
 
 -- from the place that was found
@@ -57,11 +57,11 @@ module _ (s : GplState) (place : Place) (next r4 r6 : ℕ) (u : View) where
   })
 
   loads : place.address < 65536 → (number_of_space place.space ≡ 0 → place.address + 2 ≤ 0xC2) →
-      Goes (load_count at_place) 16 MOVEL (LengthTold s next (value_at s Word place))
-  loads fits lies =
+      Goes (load_count at_place) 16 MOVEL (LengthFound s next (value_at s Word place))
+  loads fits visible =
       let w = (pieces.load_length at_place).left in
       let number : ℕ → View → View = λ n q. record q { r = record q.r { r6 = n } } in
-      let g = load_goes w refl (space_small place.space (number_of_space place.space) refl) fits lies in
+      let g = load_goes w refl (space_small place.space (number_of_space place.space) refl) fits visible in
       let a = g.holds in
       let value : value_at (state_of w) Word (place_in (number_of_space place.space) place.address) ≡ value_at s Word place =
       ap (value_at (state_of w) Word) (place_is place) ∙ value_same (state_of w) s Word place refl refl in
@@ -73,7 +73,7 @@ module _ (s : GplState) (place : Place) (next r4 r6 : ℕ) (u : View) where
       goes_after (pieces.load_length at_place) load 1 (omega arith) (record {
         within = g.within;
         to_is = g.to_is;
-        holds = subst (LengthTold s next (value_at s Word place)) (sym is) refl;
+        holds = subst (LengthFound s next (value_at s Word place)) (sym is) refl;
       })
 
 -- ---- the length is found
@@ -85,21 +85,21 @@ word_found v ready bytes two on =
     let q = place_of (state_of v) v.r.r3 (operand_at v.grom.image (next_at v)).0 in
     let g = gave q (operand_goes v (next_at v) ready bytes (omega arith)) on in
     let p = g.2.holds in
-    let lies = lies_at v.r.r3 q g.0 (place_lies (state_of v) v.r.r3 (operand_at v.grom.image (next_at v)).0) g.1 in
+    let visible = lies_at v.r.r3 q g.0 (place_lies (state_of v) v.r.r3 (operand_at v.grom.image (next_at v)).0) g.1 in
     visible_of g.0 v.r.r3 _ _ _ (ap (λ (w : View). w.r.r5) p.is) (ap (λ (w : View). w.r.r2) p.is)
-    (ap (λ (w : View). w.r.r3) p.is) (omega arith) lies
+    (ap (λ (w : View). w.r.r3) p.is) (omega arith) visible
 
 -- LOAD keeps register 2.
 kept_address : (e : Exit) → (go_on MOVEN e load_count).left.r.r2 ≡ e.left.r.r2
 kept_address e = pick (e.to == MOVEN) (λ c. rw c refl) (λ c. rw c refl)
 
 -- What a machine's register 2 holds is below 65,536: who has the machine pays this premise.
-pub length_ends : (s : GplState) (u : View) → HoldsBytes 65536 s.image → (find_length (shown s u)).left.r.r2 < 65536 →
-    EndsBy (find_length (shown s u)) 61 MOVEL (LengthTold s (length_read s).1) (StoppedBy s) (length_of s (length_read s).0)
+pub length_ends : (s : GplState) (u : View) → HoldsBytes 65536 s.image → (find_length (dispatch_view s u)).left.r.r2 < 65536 →
+    EndsBy (find_length (dispatch_view s u)) 61 MOVEL (LengthFound s (length_read s).1) (StoppedBy s) (length_of s (length_read s).0)
 unfolding find_length load_placed
 length_ends s u bytes =
     let read = operand_at s.image (behind_code s) in
-    let v = shown s u in
+    let v = dispatch_view s u in
     let q = placed v in
     let found = place_of s 2 read.0 in
     let value : Place → Result ℕ Reason = λ place. Ok (value_at s Word place) in
@@ -117,6 +117,6 @@ length_ends s u bytes =
     let near : place.address < 65536 = let r2 = kept_address (find_operand q) in let is = ap (λ (w : View). w.r.r2) p.is in
     omega arith in
     record {
-      by = subst (λ (w : View). Goes (load_count w) 16 MOVEL (LengthTold s read.1 (value_at s Word place))) (sym p.is)
+      by = subst (λ (w : View). Goes (load_count w) 16 MOVEL (LengthFound s read.1 (value_at s Word place))) (sym p.is)
           (loads s place read.1 p.r4 p.r6 (placed v) near (lies_at 2 found place (place_lies s 2 read.0) known));
     }))) (omega arith)))

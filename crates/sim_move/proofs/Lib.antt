@@ -8,6 +8,6 @@ pub mod Targets
 pub mod Sources
 pub mod Common
 pub mod Copies
-pub mod Lies
+pub mod Ranges
 pub mod MoveSteps
 pub mod Dispatch

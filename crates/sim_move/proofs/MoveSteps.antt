@@ -10,7 +10,7 @@ use Rattle.sim_rows.specs.gpl_defs.declared.instruction.MoveTarget.TheVariants a
 use Rattle.sim_rows.specs.gpl_defs.declared.instruction.MoveSource.TheVariants as source
 use Rattle.sim_rows.proofs.Steps.{bind_same}
 use Rattle.sim_move.specs.Moves.{begun, copy_in, length_read, source_read, target_in, target_read}
-use Rattle.sim_move.proofs.Lies.{Gives, gives_at, then_gives}
+use Rattle.sim_move.proofs.Ranges.{Gives, gives_at, then_gives}
 use Rattle.sim_move.proofs.Numbers.{within_is}
 
 -- ---- another pc makes no difference
@@ -132,27 +132,27 @@ then_never : {X Y : Type 0} (r : Result X Reason) (f : X → Result Y Reason) �
 then_never (Ok x) f n h = h x
 then_never (Err reason) f n h = n
 
-lies_never : (bytes : ℕ) (r : Result Place Reason) → Lies bytes r → Never r
-lies_never bytes (Ok place) h = tt
-lies_never bytes (Err reason) h = λ e. absurd (cc)
+place_never : (bytes : ℕ) (r : Result Place Reason) → Lies bytes r → Never r
+place_never bytes (Ok place) h = tt
+place_never bytes (Err reason) h = λ e. absurd (cc)
 
 indexed_never : (s : GplState) (index address : ℕ) → Never (indexed s (Some index) address)
 indexed_never s index address = pick (is_visible 2 index) (λ e. rw e tt) (λ e. rw e (λ f. absurd (cc)))
 
 length_never : (s : GplState) (l : MoveLength) → Never (length_of s l)
-length_never s (counted.At operand) = then_never (place_of s 2 operand) _ (lies_never 2 _ (place_lies s 2 operand)) (λ p. tt)
+length_never s (counted.At operand) = then_never (place_of s 2 operand) _ (place_never 2 _ (place_lies s 2 operand)) (λ p. tt)
 length_never s (counted.Immediate count) = tt
 
 limit_never : (count : ℕ) → Never (within_limit count)
 limit_never count = pick (nat_lt 16384 count) (λ e. rw e (λ f. absurd (cc))) (λ e. rw e tt)
 
 target_never : (s : GplState) (bytes : ℕ) (t : MoveTarget) → Never (target_of s bytes t)
-target_never s bytes (target.At operand) = then_never (place_of s bytes operand) _ (lies_never bytes _ (place_lies s bytes operand)) (λ p. tt)
+target_never s bytes (target.At operand) = then_never (place_of s bytes operand) _ (place_never bytes _ (place_lies s bytes operand)) (λ p. tt)
 target_never s bytes (target.Register number) =
     pick (nat_le (number + bytes) 8) (λ e. rw e tt) (λ e. rw e (λ f. absurd (cc)))
 
 source_never : (s : GplState) (bytes : ℕ) (t : MoveSource) → Never (origin_of s bytes t)
-source_never s bytes (source.At operand) = then_never (place_of s bytes operand) _ (lies_never bytes _ (place_lies s bytes operand)) (λ p. tt)
+source_never s bytes (source.At operand) = then_never (place_of s bytes operand) _ (place_never bytes _ (place_lies s bytes operand)) (λ p. tt)
 source_never s bytes (source.Grom address) = tt
 source_never s bytes (source.GromIndexed address index) = then_never (indexed s (Some index) address) _ (indexed_never s index address) (λ a. tt)
 

@@ -39,16 +39,16 @@ with_number v = record v { r = record v.r { r7 = v.grom.fetched }; grom = past v
 number_read : (v : View) → IsView v → Part (MOVES ∷ []) 3 v MOVER (with_number v) MOVERC
 number_read v i = record { by = λ f. rw (byte_down v.grom.fetched i.grom.fetched) refl }
 
-registers_counted : (v : View) → Rest (MOVES ∷ []) 3 13 (with_number v) MOVERC (pieces.count_registers v)
-registers_counted v = record {
+registers_checked : (v : View) → Rest (MOVES ∷ []) 3 13 (with_number v) MOVERC (pieces.check_registers v)
+registers_checked v = record {
   by = λ f.
       pick (nat_lt 8 (sum_of Word v.grom.fetched v.r.r6))
       (λ c. rw (c, not_limit 8 (sum_of Word v.grom.fetched v.r.r6) c) refl)
       (λ c. rw c refl);
 }
 
-pub count_registers : (v : View) → IsView v → Leads (MOVES ∷ []) v MOVER (pieces.count_registers v)
-count_registers v i = leads (MOVES ∷ []) (part_then (MOVES ∷ []) 3 0 13 (number_read v i) (registers_counted v))
+pub check_registers : (v : View) → IsView v → Leads (MOVES ∷ []) v MOVER (pieces.check_registers v)
+check_registers v i = leads (MOVES ∷ []) (part_then (MOVES ∷ []) 3 0 13 (number_read v i) (registers_checked v))
 
 pub ask_source : (v : View) → Leads (STREAM ∷ []) v MOVES (pieces.ask_source v)
 ask_source v = record { by = λ f q. refl }

@@ -20,8 +20,8 @@ seen s next u = record u {
 }
 
 -- At MOVEL the length is in register 6.
-abbrev pub LengthTold : GplState → ℕ → ℕ → View → Type 0
-LengthTold s next count w = w ≡ seen s next (record w { r = record w.r { r6 = count } })
+abbrev pub LengthFound : GplState → ℕ → ℕ → View → Type 0
+LengthFound s next count w = w ≡ seen s next (record w { r = record w.r { r6 = count } })
 
 -- How a target stands in registers 7 and 8: an address and its space, or the number of a register, and 2.
 abbrev pub number_to : To → ℕ
@@ -36,23 +36,23 @@ abbrev pub stood : ℕ × To → View → View
 stood found u = record u { r = record u.r { r7 = number_to found.1; r8 = space_to found.1; r12 = found.0 } }
 
 -- At MOVES the target is there, and the length is in register 12.
-abbrev pub TargetTold : GplState → ℕ → ℕ × To → View → Type 0
-TargetTold s next found w = w ≡ seen s next (stood found w)
+abbrev pub TargetFound : GplState → ℕ → ℕ × To → View → Type 0
+TargetFound s next found w = w ≡ seen s next (stood found w)
 
 -- At MOVEX so is the address of a source in GROM, with its index, in register 2.
-abbrev pub SourceTold : GplState → ℕ → ℕ × To → ℕ → View → Type 0
-SourceTold s next found address w = w ≡ seen s next (stood found (record w { r = record w.r { r2 = address } }))
+abbrev pub SourceFound : GplState → ℕ → ℕ × To → ℕ → View → Type 0
+SourceFound s next found address w = w ≡ seen s next (stood found (record w { r = record w.r { r2 = address } }))
 
 -- at the dispatch, where nothing is said of register 13
-abbrev pub shown : GplState → View → View
-shown s u = record u {
+abbrev pub dispatch_view : GplState → View → View
+dispatch_view s u = record u {
   r = record u.r { r0 = code_byte s; r1 = s.pc };
   cells = s.cells;
   vdp = record u.vdp { memory = s.vdp; registers = s.registers; held = None };
   grom = grom_at s.image (behind_code s);
 }
 
-pub dispatched_is : (s : GplState) (v : View) → Dispatched s v → v ≡ shown s v
+pub dispatched_is : (s : GplState) (v : View) → Dispatched s v → v ≡ dispatch_view s v
 dispatched_is s v d = λ i. record v {
   r = record v.r { r0 = d.code i; r1 = d.address i };
   cells = d.sees.cells i;

@@ -1,18 +1,19 @@
 -- A source in GROM, on views alone.
-use Rattle.std.proofs.Common.{ℕ, ◌%◌, ◌+◌, ◌/◌, ◌<◌, ◌==◌, ◌∙◌, ◌≡◌, ap, arith, Bool, Err, false, List, nat_lt, Ok, Option, refl, Result, subst, sym}
-use Rattle.sim_rows.proofs.Common.{◌>>=◌, Addressed, Answers, ASPACE, back_is, Cell, code_byte, conjunction_of, Exit, exit, Goes, GplState, grom_at, GromState}
-use Rattle.sim_rows.proofs.Common.{GSTOP, INDEX, index_by, index_read, indexed, last_out, lost, MOVEB, MOVEK, MOVEX, next_in_grom, OperandStop, pick}
-use Rattle.sim_rows.proofs.Common.{Place, Placed, range_read, ranged, Reason, return_of, set_is, shifted, SLA, space_of, SRL}
-use Rattle.sim_rows.proofs.Common.{StoppedBy, To, Vdp, View, with_grom_address, word_at}
+use Rattle.std.proofs.Common.{ℕ, ◌%◌, ◌+◌, ◌/◌, ◌<◌, ◌==◌, ◌≡◌, ap, arith, Bool, Err, false, List, nat_lt, Ok, Option, refl, Result, subst, sym}
+use Rattle.sim_rows.proofs.Common.{◌>>=◌, Addressed, Answers, ASPACE, Cell, code_byte, conjunction_of, Exit, exit, Goes, GplState, grom_at, GromState}
+use Rattle.sim_rows.proofs.Common.{GSTOP, INDEX, index_by, index_read, indexed, last_out, MOVEB, MOVEK, MOVEX, next_in_grom, OperandStop, pick}
+use Rattle.sim_rows.proofs.Common.{Place, Placed, range_read, ranged, Reason, return_of, shifted, SLA, space_of, SRL}
+use Rattle.sim_rows.proofs.Common.{StoppedBy, To, Vdp, View, word_at}
 use Rattle.sim_rows.proofs.StepStart.{one_at_most}
-use Rattle.sim_rows.specs.Pieces.{address_before, at_first}
+use Rattle.sim_rows.specs.Pieces.{at_first}
 use Rattle.sim_rows.specs.sim_operands.Pieces.{one_if}
 use Rattle.sim_rows.specs.sim_view.Routines.{◌>>◌}
 use Rattle.sim_rows.specs.sim_operands.Routines.{check_index}
 use Rattle.sim_rows.proofs.sim_operands.Ends.{after, answered, ends_as, EndsBy, then_ends}
 use Rattle.sim_move.specs.Rows.{index_source, turn_to_source}
+use Rattle.sim_jumps.proofs.NextAddress.{sought}
 use Rattle.sim_move.proofs.Numbers.{form_by, form_fits, form_index, form_is, form_odd, form_space}
-use Rattle.sim_move.proofs.Seen.{halted, seen, SourceTold, stood}
+use Rattle.sim_move.proofs.Seen.{halted, seen, SourceFound, stood}
 use Rattle.sim_rows.specs.sim_operands.Pieces as operands
 use Rattle.sim_move.specs.Pieces as pieces
 
@@ -49,13 +50,13 @@ module _ (s : GplState) (next : ℕ) (found : ℕ × To) (u : View) (fits : code
 
   -- a place in video memory is there
   ranges : (address : ℕ) (w : View) → Placed (asked (form / 32)) index.1 (record { space = Vdp; address = address }) w →
-      SourceTold s index.1 found address w
-  ranges address w p = subst (SourceTold s index.1 found address) (sym p.is) refl
+      SourceFound s index.1 found address w
+  ranges address w p = subst (SourceFound s index.1 found address) (sym p.is) refl
 
   ranged_in_video : (address : ℕ) → ranged 2 (space_of (form / 32 % 2 == 1)) address ≡ Ok (record { space = Vdp; address = address })
   ranged_in_video address = ap (λ (b : Bool). ranged 2 (space_of b) address) (form_space (code_byte s))
 
-  checks : EndsBy (check_index (asked (form / 32))) 19 MOVEX (SourceTold s index.1 found) (StoppedBy s)
+  checks : EndsBy (check_index (asked (form / 32))) 19 MOVEX (SourceFound s index.1 found) (StoppedBy s)
       (indexed s index.0 read.0 >>= Ok)
   unfolding check_index
   checks =
@@ -81,15 +82,15 @@ module _ (s : GplState) (next : ℕ) (found : ℕ × To) (u : View) (fits : code
   -- by whether the code byte has an index
   abbrev Indexed : Bool → Type 0
   Indexed b = let found_index = index_by b s.image read.1 in
-      EndsBy (index_source at_source) 32 MOVEX (SourceTold s found_index.1 found) (StoppedBy s) (indexed s found_index.0 read.0)
+      EndsBy (index_source at_source) 32 MOVEX (SourceFound s found_index.1 found) (StoppedBy s) (indexed s found_index.0 read.0)
 
   pub source_ends : Indexed (code_byte s / 2 % 2 == 1)
   source_ends =
       let q = indexed s index.0 read.0 in
-      let by : ℕ → Type 0 = λ n. EndsBy (exit 13 INDEX (asked n) >> check_index) 32 MOVEX (SourceTold s index.1 found) (StoppedBy s) q in
+      let by : ℕ → Type 0 = λ n. EndsBy (exit 13 INDEX (asked n) >> check_index) 32 MOVEX (SourceFound s index.1 found) (StoppedBy s) q in
       subst Indexed (form_index (code_byte s)) (subst by (sym (form_is (code_byte s) fits))
       (after (exit 13 INDEX (asked (form / 32))) check_index 13 q (omega arith)
-      (subst (λ (r : Result ℕ Reason). EndsBy (check_index (asked (form / 32))) 19 MOVEX (SourceTold s index.1 found) (StoppedBy s) r)
+      (subst (λ (r : Result ℕ Reason). EndsBy (check_index (asked (form / 32))) 19 MOVEX (SourceFound s index.1 found) (StoppedBy s) r)
       (given_back q) checks)))
 
 -- ---- GROM at the source
@@ -107,8 +108,5 @@ turns v image at fits near =
     let one = one_at_most (at_first (next_in_grom at)) in
     let by : ℕ → GromState → Exit = λ n g. exit (1 + (7 + one_if (at_first (next_in_grom at))) + 3 + 3 + 2) MOVEB
     (record (turned v image at) { r = record (turned v image at).r { r14 = n }; grom = g }) in
-    let is : by (address_before (next_in_grom at)) (with_grom_address v.r.r2 (lost image at)) ≡ by at (grom_at image v.r.r2) =
-    ap (λ (n : ℕ). by n (with_grom_address v.r.r2 (lost image at))) (back_is at fits)
-    ∙ ap (by at) (set_is (lost image at) v.r.r2 refl near) in
-    subst (λ (e : Exit). Goes e 17 MOVEB (λ w. w ≡ turned v image at)) (sym is)
+    subst (λ (e : Exit). Goes e 17 MOVEB (λ w. w ≡ turned v image at)) (sym (sought image at (λ n. v.r.r2) by fits near))
     (record { within = omega arith; to_is = refl; holds = refl })

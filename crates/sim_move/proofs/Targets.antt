@@ -8,12 +8,12 @@ use Rattle.sim_rows.proofs.Common.{StoppedBy, sum_of, target_of, To, ToMemory, V
 use Rattle.sim_rows.specs.sim_view.Prelude.{HoldsBytes}
 use Rattle.sim_rows.specs.gpl_defs.declared.instruction.MoveSource.TheVariants as source
 use Rattle.sim_rows.specs.gpl_defs.declared.instruction.MoveTarget.TheVariants as target
-use Rattle.sim_move.specs.Moves.{AtCopy, length_read, source_read, target_in, target_read}
+use Rattle.sim_move.specs.Moves.{BeforeCopy, length_read, source_read, target_in, target_read}
 use Rattle.sim_rows.specs.sim_operands.Routines.{find_operand}
 use Rattle.sim_rows.proofs.sim_operands.Ends.{after, EndsBy, ends_into, ends_within, then_ends}
 use Rattle.sim_move.specs.Rows.{find_in_memory, find_places, find_source}
-use Rattle.sim_move.proofs.Codes.{from_grom, Told}
-use Rattle.sim_move.proofs.Seen.{halted, operand_found, seen, TargetTold}
+use Rattle.sim_move.proofs.Codes.{from_grom, Encodes}
+use Rattle.sim_move.proofs.Seen.{halted, operand_found, seen, TargetFound}
 use Rattle.sim_move.specs.Pieces as pieces
 
 -- the length in registers 3 and 12, the place of the target in registers 2 and 5, where it was found
@@ -56,7 +56,7 @@ module _ (s : GplState) (count next : ℕ) (u : View) where
 
     registers : u.r.r6 ≡ count →
         (let number = slice_index s.image next in
-        EndsBy (pieces.count_registers here) 9 MOVES (TargetTold s (next_in_grom next)) (StoppedBy s)
+        EndsBy (pieces.check_registers here) 9 MOVES (TargetFound s (next_in_grom next)) (StoppedBy s)
         (target_of s count (target.Register number) >>= λ to. Ok (count, to)))
     registers is =
         let number = slice_index s.image next in
@@ -75,7 +75,7 @@ module _ (s : GplState) (count next : ℕ) (u : View) where
 
     -- the source is in GROM
     pub to_grom : nat_lt (code_byte s) 0x34 ≡ true →
-        EndsBy (find_in_memory asked) 42 MOVES (TargetTold s operand.1) (StoppedBy s)
+        EndsBy (find_in_memory asked) 42 MOVES (TargetFound s operand.1) (StoppedBy s)
         (target_of s count (target.At operand.0) >>= λ to. Ok (count, to))
     unfolding find_in_memory find_source
     to_grom low =
@@ -85,14 +85,14 @@ module _ (s : GplState) (count next : ℕ) (u : View) where
         (then_ends MOVED (find_operand asked) find_source found to refl (operand_found s next asked bytes few)
         (λ place known p.
         record {
-          by = subst (λ (w : View). Goes (find_source w) 4 MOVES (TargetTold s operand.1 (count, ToMemory place))) (sym p.is)
+          by = subst (λ (w : View). Goes (find_source w) 4 MOVES (TargetFound s operand.1 (count, ToMemory place))) (sym p.is)
               (rw low (goes_in (omega arith) refl));
         }))
-        (λ to w told. told)
+        (λ to w found. found)
 
     from_memory : (place : Place) (r4 r6 : ℕ) → nat_lt (code_byte s) 0x34 ≡ false →
         (source_read MemoryToMemory s).1 ≡ read.1 →
-        EndsBy (find_source (at_target place r4 r6)) 43 MOVEB (AtCopy MemoryToMemory s) (StoppedBy s)
+        EndsBy (find_source (at_target place r4 r6)) 43 MOVEB (BeforeCopy MemoryToMemory s) (StoppedBy s)
         (with_source (count, ToMemory place))
     unfolding find_source
     from_memory place r4 r6 high next_is =
@@ -104,7 +104,7 @@ module _ (s : GplState) (count next : ℕ) (u : View) where
         rw high (after (exit 5 ADDR q) find_operand 5 result (omega arith)
         (ends_into (found >>= λ p. Ok (FromMemory p)) pair
         (ends_into found FromMemory (operand_found s operand.1 q bytes few)
-        (λ p w told. subst (AtCopy MemoryToMemory s (pair (FromMemory p))) (sym told.is) (record {
+        (λ p w at_source. subst (BeforeCopy MemoryToMemory s (pair (FromMemory p))) (sym at_source.is) (record {
           cells = refl;
           vdp = refl;
           registers = refl;
@@ -114,21 +114,21 @@ module _ (s : GplState) (count next : ℕ) (u : View) where
           stands_to = record { address = refl; space = refl };
           left = refl;
         })))
-        (λ from w told. told)))
+        (λ from w found. found)))
 
     pub to_memory_source : nat_lt (code_byte s) 0x34 ≡ false → (source_read MemoryToMemory s).1 ≡ read.1 →
-        EndsBy (find_in_memory asked) 81 MOVEB (AtCopy MemoryToMemory s) (StoppedBy s)
+        EndsBy (find_in_memory asked) 81 MOVEB (BeforeCopy MemoryToMemory s) (StoppedBy s)
         ((target_of s count (target.At operand.0) >>= λ to. Ok (count, to)) >>= with_source)
     unfolding find_in_memory
     to_memory_source high next_is =
         let found = place_of s count operand.0 in
         let by : Result ((ℕ × To) × From) Reason → Type 0 =
-        EndsBy (find_in_memory asked) 81 MOVEB (AtCopy MemoryToMemory s) (StoppedBy s) in
+        EndsBy (find_in_memory asked) 81 MOVEB (BeforeCopy MemoryToMemory s) (StoppedBy s) in
         subst by (sym (joined found))
         (then_ends MOVED (find_operand asked) find_source found (λ place. with_source (count, ToMemory place)) refl
         (operand_found s next asked bytes few)
         (λ place known p.
-        subst (λ (w : View). EndsBy (find_source w) 43 MOVEB (AtCopy MemoryToMemory s) (StoppedBy s) (with_source (count, ToMemory place)))
+        subst (λ (w : View). EndsBy (find_source w) 43 MOVEB (BeforeCopy MemoryToMemory s) (StoppedBy s) (with_source (count, ToMemory place)))
         (sym p.is) (from_memory place p.r4 p.r6 high next_is)))
 
 -- ---- from MOVEL on
@@ -137,50 +137,50 @@ module _ (s : GplState) (count : ℕ) (u : View) (bytes : HoldsBytes 65536 s.ima
   abbrev next : ℕ
   next = (length_read s).1
 
-  abbrev told : View
-  told = record u { r = record u.r { r6 = count } }
+  abbrev counted : View
+  counted = record u { r = record u.r { r6 = count } }
 
   abbrev Finds : {X : Type 0} → ℕ → ℕ → (X → View → Type 0) → Result X Reason → Type 0
-  Finds most to Shows r = EndsBy (find_places (seen s next told)) most to Shows (StoppedBy s) r
+  Finds most to Shows r = EndsBy (find_places (seen s next counted)) most to Shows (StoppedBy s) r
 
   -- the source is in GROM
   abbrev ToGrom : MoveKind → Type 0
-  ToGrom kind = Finds 50 MOVES (TargetTold s (target_read kind s).1) (target_in s count (target_read kind s).0)
+  ToGrom kind = Finds 50 MOVES (TargetFound s (target_read kind s).1) (target_in s count (target_read kind s).0)
 
   grom_after_place : nat_lt (code_byte s) 0x38 ≡ true → nat_lt (code_byte s) 0x34 ≡ true →
       (let operand = operand_at s.image next in
-      Finds 50 MOVES (TargetTold s operand.1) (target_in s count (target.At operand.0)))
+      Finds 50 MOVES (TargetFound s operand.1) (target_in s count (target.At operand.0)))
   unfolding find_places
   grom_after_place memory low =
       let q : Result (ℕ × To) Reason = target_of s count (target.At (operand_at s.image next).0) >>= λ to. Ok (count, to) in
       pick (nat_lt 0x4000 count)
-      (λ above. rw above (record { by = goes_in (omega arith) (halted s next Length told) }))
+      (λ above. rw above (record { by = goes_in (omega arith) (halted s next Length counted) }))
       (λ few. rw (few, memory)
-      (ends_within q (after (exit 7 ADDR (asked s count next told)) find_in_memory 7 q (omega arith)
-      (to_grom s count next told bytes (ltb-false 0x4000 count few) low)) (omega arith)))
+      (ends_within q (after (exit 7 ADDR (asked s count next counted)) find_in_memory 7 q (omega arith)
+      (to_grom s count next counted bytes (ltb-false 0x4000 count few) low)) (omega arith)))
 
-  pub places_to_grom : (kind : MoveKind) → Told (code_byte s) kind → from_grom kind ≡ true → ToGrom kind
+  pub places_to_grom : (kind : MoveKind) → Encodes (code_byte s) kind → from_grom kind ≡ true → ToGrom kind
   unfolding find_places
   places_to_grom GromToRegisters k other =
       let q : Result (ℕ × To) Reason = target_of s count (target.Register (slice_index s.image next)) >>= λ to. Ok (count, to) in
       pick (nat_lt 0x4000 count)
-      (λ above. rw above (record { by = goes_in (omega arith) (halted s next Length told) }))
+      (λ above. rw above (record { by = goes_in (omega arith) (halted s next Length counted) }))
       (λ few. rw (few, k.memory)
-      (ends_within q (after (exit 6 MOVER (here s count next told)) pieces.count_registers 6 q (omega arith)
-      (registers s count next told bytes (ltb-false 0x4000 count few) refl)) (omega arith)))
+      (ends_within q (after (exit 6 MOVER (here s count next counted)) pieces.check_registers 6 q (omega arith)
+      (registers s count next counted bytes (ltb-false 0x4000 count few) refl)) (omega arith)))
   places_to_grom MemoryToMemory k other = absurd (cc)
   places_to_grom GromToMemory k other = grom_after_place k.memory k.low
   places_to_grom GromIndexedToMemory k other = grom_after_place k.memory k.low
 
   -- the source is in memory
-  pub places_in_memory : Told (code_byte s) MemoryToMemory →
-      Finds 99 MOVEB (AtCopy MemoryToMemory s) (target_in s count (target_read MemoryToMemory s).0 >>= λ found.
+  pub places_in_memory : Encodes (code_byte s) MemoryToMemory →
+      Finds 99 MOVEB (BeforeCopy MemoryToMemory s) (target_in s count (target_read MemoryToMemory s).0 >>= λ found.
       (origin_of s found.0 (source_read MemoryToMemory s).0 >>= λ from. Ok (found, from)))
   unfolding find_places
   places_in_memory k =
-      let q : Result ((ℕ × To) × From) Reason = (target_of s count (target_read MemoryToMemory s).0 >>= λ to. Ok (count, to)) >>= with_source s count next told in
+      let q : Result ((ℕ × To) × From) Reason = (target_of s count (target_read MemoryToMemory s).0 >>= λ to. Ok (count, to)) >>= with_source s count next counted in
       pick (nat_lt 0x4000 count)
-      (λ above. rw above (record { by = goes_in (omega arith) (halted s next Length told) }))
+      (λ above. rw above (record { by = goes_in (omega arith) (halted s next Length counted) }))
       (λ few. rw (few, k.memory)
-      (ends_within q (after (exit 7 ADDR (asked s count next told)) find_in_memory 7 q (omega arith)
-      (to_memory_source s count next told bytes (ltb-false 0x4000 count few) k.low refl)) (omega arith)))
+      (ends_within q (after (exit 7 ADDR (asked s count next counted)) find_in_memory 7 q (omega arith)
+      (to_memory_source s count next counted bytes (ltb-false 0x4000 count few) k.low refl)) (omega arith)))

@@ -54,9 +54,9 @@ copy_in kind s = do
   Ok (found, from)
 
 -- At MOVEB the copy stands before its first byte.
-abbrev pub AtCopy : MoveKind → GplState → (ℕ × To) × From → View → Type 0
-AtCopy kind s found w = Copying (begun kind s) found.1 found.0.1 found.0.0 w
+abbrev pub BeforeCopy : MoveKind → GplState → (ℕ × To) × From → View → Type 0
+BeforeCopy kind s found w = Copying (begun kind s) found.1 found.0.1 found.0.0 w
 
 pub record FindsCopy (s : GplState) (x y : MachineState) (before after : ℕ) : Type 0 where
   pub by : (kind : MoveKind) → operation_in s ≡ Some (Move kind)
-      → Arrives most_to_copy s x y before after MOVEB (AtCopy kind s) (copy_in kind s)
+      → Arrives most_to_copy s x y before after MOVEB (BeforeCopy kind s) (copy_in kind s)

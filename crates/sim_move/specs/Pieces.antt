@@ -8,10 +8,10 @@ use Rattle.sim_rows.specs.Prelude.{STREAM, sum_of, View, WHERE, Word}
 -- GOMOVE: where the code byte is even, ADDR is asked for the operand that holds the length.
 abbrev pub ask_length : View → Exit
 ask_length v =
-    let told = record v { r = record v.r { r3 = 2; r4 = shifted SRL v.r.r0 1; r5 = 2; r13 = 0 } } in
+    let begun = record v { r = record v.r { r3 = 2; r4 = shifted SRL v.r.r0 1; r5 = 2; r13 = 0 } } in
     if last_out SRL v.r.r0 1
-    then exit 6 MOVEN told
-    else exit 7 ADDR (record told { r = record told.r { r11 = MOVEN } })
+    then exit 6 MOVEN begun
+    else exit 7 ADDR (record begun { r = record begun.r { r11 = MOVEN } })
 
 -- MOVEN: LOAD is asked for the length.
 abbrev pub load_length : View → Exit
@@ -21,29 +21,29 @@ load_length v = exit 1 LOAD (record v { r = record v.r { r11 = MOVEL } })
 -- registers, else ADDR is asked for it.
 abbrev pub keep_length : View → Exit
 keep_length v =
-    let told = record v { r = record v.r { r3 = v.r.r6; r12 = v.r.r6 } } in
+    let kept = record v { r = record v.r { r3 = v.r.r6; r12 = v.r.r6 } } in
     if nat_lt 0x4000 v.r.r6
     then exit 4 GSTOP (record v { r = record v.r { r0 = 4 } })
     else if nat_lt v.r.r0 0x38
-    then exit 7 ADDR (record told { r = record told.r { r11 = MOVED } })
-    else exit 6 MOVER told
+    then exit 7 ADDR (record kept { r = record kept.r { r11 = MOVED } })
+    else exit 6 MOVER kept
 
 -- MOVED: the place becomes the one to store to. Below code byte >34 the source is in GROM, else ADDR is asked for it.
 abbrev pub keep_target : View → Exit
 keep_target v =
-    let told = record v { r = record v.r { r7 = v.r.r2; r8 = v.r.r5 } } in
+    let kept = record v { r = record v.r { r7 = v.r.r2; r8 = v.r.r5 } } in
     if nat_lt v.r.r0 0x34
-    then exit 4 MOVES told
-    else exit 5 ADDR (record told { r = record told.r { r11 = MOVEB } })
+    then exit 4 MOVES kept
+    else exit 5 ADDR (record kept { r = record kept.r { r11 = MOVEB } })
 
 -- MOVER: the number of the first register is read; the registers are the target if the last of them is there.
-abbrev pub count_registers : View → Exit
-count_registers v =
+abbrev pub check_registers : View → Exit
+check_registers v =
     let end = sum_of Word v.grom.fetched v.r.r6 in
-    let told = record v { r = record v.r { r4 = end; r7 = v.grom.fetched }; grom = past v.grom } in
+    let read = record v { r = record v.r { r4 = end; r7 = v.grom.fetched }; grom = past v.grom } in
     if nat_lt 8 end
-    then exit 9 GSTOP (record told { r = record told.r { r0 = 5 } })
-    else exit 8 MOVES (record told { r = record told.r { r8 = 2 } })
+    then exit 9 GSTOP (record read { r = record read.r { r0 = 5 } })
+    else exit 8 MOVES (record read { r = record read.r { r8 = 2 } })
 
 -- MOVES: STREAM is asked for the address in GROM.
 abbrev pub ask_source : View → Exit

@@ -33,7 +33,7 @@ find_in_memory v = go_on MOVED (find_operand v) find_source
 unfoldable pub find_places : View → Exit
 find_places v =
     let kept = piece.keep_length v in
-    on_at MOVER kept piece.count_registers (go_on ADDR kept find_in_memory)
+    on_at MOVER kept piece.check_registers (go_on ADDR kept find_in_memory)
 
 -- a source in GROM: its address with the index, and the turn to it
 abbrev pub index_source : View → Exit

@@ -1,20 +1,21 @@
 //! MOVE from its dispatch to the end of the step.
 
 ghost use Rattle.std.specs.Prelude.{◌≡◌, true};
-ghost use Rattle.sim_rows.specs.Prelude.{AtDispatch, Dispatched, number_of, operation_in_view, Stands};
-ghost use Rattle.sim_rows.specs.Prelude.{from_dispatch, state_at_dispatch, Turned, view, WORKSPACE};
+ghost use Rattle.sim_rows.specs.Prelude.{AtDispatch, Dispatched, from_dispatch, operation_in_view, Stands};
+ghost use Rattle.sim_rows.specs.Prelude.{state_at_dispatch, Turned, view};
 ghost use Rattle.sim_move.specs.Family.{is_move};
 ghost use Rattle.sim_copy.specs.Copying.{CopiesBytes};
 ghost use Rattle.sim_move.specs.Moves.{FindsCopy, MayCopy};
 ghost use Rattle.sim_rows.specs.native_interp.declared.addresses.TheConstants as address;
 
 use crate::length::find_length;
+use crate::reason::reason_of;
 use crate::source::{index_source, turn_to_source};
 use crate::target::find_places;
 use sim_copy::copy_bytes;
-use sim_rows::labels::{GSTOP, MOVEL, MOVES, WORKSPACE};
+use sim_rows::labels::{GSTOP, MOVEL, MOVES};
 use sim_rows::processor::{Machine, Steps};
-use sim_rows::{Reason, Turn, register};
+use sim_rows::{Turn, register};
 use std::sync::ledger::Ledger;
 
 /// Finds the length, the target and the source of MOVE, or stops by the reason of the first that is not there.
@@ -47,21 +48,6 @@ fn copy_found<L: Ledger>(machine: &mut Machine, steps: &mut Steps<L>)
     copy_bytes(machine, steps);
 }
 
-/// The reason that register 0 has at a stop.
-fn reason_told(machine: &Machine) -> Reason
-    requires { machine.now.cpu.wp ≡ WORKSPACE }
-    ensures { (reason : Reason) → (view machine.now).r.r0 ≡ number_of reason → result ≡ reason }
-{
-    match register(machine, 0) {
-        0 => Reason::Exit,
-        1 => Reason::Opcode,
-        2 => Reason::Cell,
-        3 => Reason::Stack,
-        4 => Reason::Length,
-        _ => Reason::Register,
-    }
-}
-
 /// Runs MOVE from its dispatch to the end of the step. It stops by reason 2 where a cell of its operands
 /// or of the index is not visible, by reason 4 where it is longer than 16,384 bytes, and by reason 5
 /// where a register is not there.
@@ -72,7 +58,10 @@ pub fn run_move<L: Ledger>(machine: &mut Machine, steps: &mut Steps<L>) -> Turn
 {
     decode_move(machine, steps);
     if machine.pc() == GSTOP {
-        return Turn::Stopped(reason_told(machine));
+        let Some(reason) = reason_of(register(machine, 0)) else {
+            unreachable!();
+        };
+        return Turn::Stopped(reason);
     }
     copy_found(machine, steps);
     Turn::Stepped

@@ -4,11 +4,12 @@
 mod family;
 mod length;
 mod pieces;
+mod reason;
 mod source;
 mod target;
 
 pub use family::run_move;
 pub use pieces::{
-    ask_index, ask_length, ask_next, ask_source, count_registers, keep_length, keep_target,
+    ask_index, ask_length, ask_next, ask_source, check_registers, keep_length, keep_target,
     load_length, seek_source, turn_to_grom,
 };

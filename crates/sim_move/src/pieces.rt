@@ -43,9 +43,9 @@ pub fn keep_target<L: Ledger>(machine: &mut Machine, steps: &mut Steps<L>)
 }
 
 /// The piece of MOVE that takes registers as the target, or stops by reason 5.
-pub fn count_registers<L: Ledger>(machine: &mut Machine, steps: &mut Steps<L>)
+pub fn check_registers<L: Ledger>(machine: &mut Machine, steps: &mut Steps<L>)
     requires { Stands machine.old address.MOVER }
-    ensures { Exits machine.old machine.new steps.old steps.new (piece.count_registers (view machine.old)) }
+    ensures { Exits machine.old machine.new steps.old steps.new (piece.check_registers (view machine.old)) }
 {
     run_piece(machine, steps, &[MOVES]);
 }

@@ -4,7 +4,7 @@ ghost use Rattle.sim_rows.specs.Prelude.{Exits, Stands, view};
 ghost use Rattle.sim_rows.specs.native_interp.declared.addresses.TheConstants as address;
 ghost use Rattle.sim_move.specs.Rows as row;
 
-use crate::pieces::{count_registers, keep_length, keep_target};
+use crate::pieces::{check_registers, keep_length, keep_target};
 use sim_rows::labels::{ADDR, MOVED, MOVER};
 use sim_rows::processor::{Machine, Steps};
 use sim_rows::subroutines::address_routine;
@@ -41,7 +41,7 @@ pub(crate) fn find_places<L: Ledger>(machine: &mut Machine, steps: &mut Steps<L>
 {
     keep_length(machine, steps);
     if machine.pc() == MOVER {
-        count_registers(machine, steps);
+        check_registers(machine, steps);
     } else if machine.pc() == ADDR {
         find_in_memory(machine, steps);
     }

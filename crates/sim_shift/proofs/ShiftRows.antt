@@ -6,8 +6,8 @@ use Rattle.sim_rows.proofs.Common.{is_view, IsMachine, MachineState, operation_i
 use Rattle.sim_rows.proofs.Common.{SLA, Source, SRA, SRC, SRL, Stands, STO, StoresResult, Storing, Two, unchanged, value_at, View, view}
 use Rattle.sim_shift.specs.Pieces.{low_four}
 use Rattle.sim_shift.specs.Family.{name_of, shift_entry}
-use Rattle.sim_shift.proofs.Shifts.{counted_word, counts_few, entry_even, Keeps, kept_of, none, number_by, shifts, some, stores_none, stores_some, Told}
-use Rattle.sim_shift.proofs.Shifts.{told_at, told_is, two_is}
+use Rattle.sim_shift.proofs.Shifts.{counted_word, counts_few, entry_even, Keeps, kept_of, none, number_by, shifts, some, stores_none, stores_some, HasCount}
+use Rattle.sim_shift.proofs.Shifts.{count_at, count_taken, two_is}
 use Rattle.sim_shift.specs.Pieces as pieces
 
 not_false : (b : Bool) → not b ≡ false → b ≡ true
@@ -34,7 +34,7 @@ StoringRow op s place source w = Storing (unchanged (gone_on s)) (row_width s) p
 module _ (op : ShiftOp) {x y z : MachineState} {t u w : ℕ} (e1 : Exits x y t u (pieces.asking (shift_entry op) (view x)))
     (e2 : Exits y z u w (pieces.take_count (view y))) where
   pub keeps : Keeps (view x) (view z)
-  keeps = ap kept_of (e2.shows ∙ told_is (view y)) ∙ ap kept_of e1.shows
+  keeps = ap kept_of (e2.shows ∙ count_taken (view y)) ∙ ap kept_of e1.shows
 
   pub shifted : {p : MachineState} {j : ℕ} → Exits z p w j (pieces.shifts op (view z)) → Keeps (view x) (view p)
   shifted e3 = ap kept_of e3.shows ∙ (shifts op (view z)).keeps ∙ keeps
@@ -43,7 +43,7 @@ module _ (op : ShiftOp) {x y z : MachineState} {t u w : ℕ} (e1 : Exits x y t u
   returns_to = ap return_of e1.shows
 
   count_is : (view z).r.r0 ≡ low_four (counted_word (view y))
-  count_is = ap (λ (v : View). v.r.r0) (e2.shows ∙ told_is (view y))
+  count_is = ap (λ (v : View). v.r.r0) (e2.shows ∙ count_taken (view y))
 
   -- no count
   ends_at : not (eqb (pieces.take_count (view y)).to STO) ≡ false → (pieces.take_count (view y)).to ≡ STO
@@ -79,8 +79,8 @@ module _ (op : ShiftOp) {x y z : MachineState} {t u w : ℕ} (e1 : Exits x y t u
 
   module _ (s : GplState) (place : Place) (source : Source) (known : operation_in s ≡ Some (Two (name_of op))) (a : AtRow s place source (view x))
       (h : IsMachine x) where
-    tells : Told s place source (pieces.take_count (view y)).left
-    tells = told_at op s place source (view x) (view y) known a (is_view x h) e1.shows
+    has_count : HasCount s place source (pieces.take_count (view y)).left
+    has_count = count_at op s place source (view x) (view y) known a (is_view x h) e1.shows
 
     asks : ReachesWithin 1 x y t u COUNT (λ v. v ≡ (pieces.asking (shift_entry op) (view x)).left)
     asks = comes e1 (record { within = omega arith; to_is = refl; holds = refl })
@@ -97,9 +97,9 @@ module _ (op : ShiftOp) {x y z : MachineState} {t u w : ℕ} (e1 : Exits x y t u
     pub runs_none : (q : MachineState) (k : ℕ) → not (eqb (pieces.take_count (view y)).to STO) ≡ false → StoresResult z q w k →
         ReachesWithin 61 x q t k GSTEP (SeesResult (row_result (Two (name_of op)) s place source))
     runs_none q k e f =
-        let zero : count_of source.number ≡ 0 = sym tells.count ∙ ap (λ (v : View). v.r.r0) (told_is (view y)) ∙ no_count e in
+        let zero : count_of source.number ≡ 0 = sym has_count.count ∙ ap (λ (v : View). v.r.r0) (count_taken (view y)) ∙ no_count e in
         let c = comes_then 1 8 asks e2 (record
-        { within = counts_few (view y); to_is = ends_at e; holds = stores_none op s place source (pieces.take_count (view y)).left tells zero }) refl in
+        { within = counts_few (view y); to_is = ends_at e; holds = stores_none op s place source (pieces.take_count (view y)).left has_count zero }) refl in
         finished_row q k 9 z w (omega arith) c f
 
     pub runs_some : (p q : MachineState) (j k : ℕ) → not (eqb (pieces.take_count (view y)).to STO) ≡ true → Exits z p w j (pieces.shifts op (view z)) →
@@ -109,7 +109,7 @@ module _ (op : ShiftOp) {x y z : MachineState} {t u w : ℕ} (e1 : Exits x y t u
         let c : ReachesWithin 9 x z t w (shift_entry op) (λ v. v ≡ (pieces.take_count (view y)).left) =
         comes_then 1 8 asks e2 (record { within = counts_few (view y); to_is = goes_to e; holds = refl }) refl in
         let d = shifts op (view z) in
-        let at : Told s place source (view z) = subst (λ (v : View). Told s place source v) (sym e2.shows) tells in
+        let at : HasCount s place source (view z) = subst (λ (v : View). HasCount s place source v) (sym e2.shows) has_count in
         let b : ReachesWithin 16 x p t j STO (StoringRow op s place source) =
         comes_then 9 7 c e3 (record { within = d.few; to_is = d.to_is; holds = stores_some op s place source (view z) at }) (entry_goes_on op) in
         finished_row q k 16 p j (omega arith) b f

@@ -59,14 +59,14 @@ counting v =
     (λ c. record { most = 6; few = omega arith; is = rw (c, pieces.take_count, counted_word) refl })
 
 -- with a count in register 0
-abbrev pub told : View → ℕ → View
-told v count = record v { r = record v.r { r0 = count } }
+abbrev pub with_count : View → ℕ → View
+with_count v count = record v { r = record v.r { r0 = count } }
 
-told_by : (most word : ℕ) (v : View) → (counted most word v).left ≡ told v (low_four word)
-told_by most word v = pick (low_four word == 0) (λ c. rw (c, counted) refl) (λ c. rw (c, counted) refl)
+with_count_by : (most word : ℕ) (v : View) → (counted most word v).left ≡ with_count v (low_four word)
+with_count_by most word v = pick (low_four word == 0) (λ c. rw (c, counted) refl) (λ c. rw (c, counted) refl)
 
-pub told_is : (v : View) → (pieces.take_count v).left ≡ told v (low_four (counted_word v))
-told_is v = let c = counting v in ap (λ (e : Exit). e.left) c.is ∙ told_by c.most (counted_word v) v
+pub count_taken : (v : View) → (pieces.take_count v).left ≡ with_count v (low_four (counted_word v))
+count_taken v = let c = counting v in ap (λ (e : Exit). e.left) c.is ∙ with_count_by c.most (counted_word v) v
 
 counts_by : (most word : ℕ) (v : View) → (counted most word v).count ≤ most + 1
 counts_by most word v = pick (low_four word == 0) (λ c. rw (c, counted) (omega arith)) (λ c. rw (c, counted) (omega arith))
@@ -206,8 +206,8 @@ entry_even SRL = (refl, refl)
 entry_even SLA = (refl, refl)
 entry_even SRC = (refl, refl)
 
--- The count is told, and nothing else has happened.
-pub record Told (s : GplState) (place : Place) (source : Source) (w : View) : Type 0 where
+-- The count is there, and nothing else has happened.
+pub record HasCount (s : GplState) (place : Place) (source : Source) (w : View) : Type 0 where
   pub changed : ShowsChanges (unchanged (gone_on s)) w
   pub bytes_are : w.r.r3 ≡ size_of (row_width s)
   pub to_place : StoresTo place w
@@ -223,14 +223,14 @@ loaded_is op s place word known e =
     let width : width_in (destination_bytes s) ≡ row_width s = ap width_in bytes ∙ width_back (row_width s) in
     e ∙ ap (λ (w : Width). in_register w (value_at s w place)) width
 
-pub told_at : (op : ShiftOp) (s : GplState) (place : Place) (source : Source) (v u : View) → operation_in s ≡ Some (Two (name_of op)) →
+pub count_at : (op : ShiftOp) (s : GplState) (place : Place) (source : Source) (v u : View) → operation_in s ≡ Some (Two (name_of op)) →
     AtRow s place source v → IsView v →
-    u ≡ (pieces.asking (shift_entry op) v).left → Told s place source (pieces.take_count u).left
-told_at op s place source v u known a i is =
-    let at : Told s place source (told (pieces.asking (shift_entry op) v).left (low_four (counted_word v))) =
+    u ≡ (pieces.asking (shift_entry op) v).left → HasCount s place source (pieces.take_count u).left
+count_at op s place source v u known a i is =
+    let at : HasCount s place source (with_count (pieces.asking (shift_entry op) v).left (low_four (counted_word v))) =
     (let loaded = loaded_is op s place v.r.r9 known (a.destination (ap reads_destination known ∙ reads op)) in
     record {
-      changed = changed_kept (unchanged (gone_on s)) v (told (pieces.asking (shift_entry op) v).left (low_four (counted_word v)))
+      changed = changed_kept (unchanged (gone_on s)) v (with_count (pieces.asking (shift_entry op) v).left (low_four (counted_word v)))
           (row_changed s place source v a) refl;
       bytes_are = a.holds.bytes_are;
       to_place = record { address = a.to_place.address; space = a.to_place.space };
@@ -238,14 +238,14 @@ told_at op s place source v u known a i is =
       fits = fits_in (row_width s) v.r.r9 (value_at s (row_width s) place) loaded (i.r 9);
       count = count_is (row_width s) v.r.r3 v.r.r6 source.number a.holds.bytes_are a.value (i.r 6);
     }) in
-    let P : View → Type 0 = λ w. Told s place source w in
-    let Q : View → Type 0 = λ w. Told s place source (pieces.take_count w).left in
-    subst Q (sym is) (subst P (sym (told_is (pieces.asking (shift_entry op) v).left)) at)
+    let P : View → Type 0 = λ w. HasCount s place source w in
+    let Q : View → Type 0 = λ w. HasCount s place source (pieces.take_count w).left in
+    subst Q (sym is) (subst P (sym (count_taken (pieces.asking (shift_entry op) v).left)) at)
 
 few_counts : (n : ℕ) → count_of n < 16
 few_counts n = omega arith
 
-pub stores_none : (op : ShiftOp) (s : GplState) (place : Place) (source : Source) (w : View) → Told s place source w → count_of source.number ≡ 0 →
+pub stores_none : (op : ShiftOp) (s : GplState) (place : Place) (source : Source) (w : View) → HasCount s place source w → count_of source.number ≡ 0 →
     Storing (unchanged (gone_on s)) (row_width s) place (number_by op (row_width s) (value_at s (row_width s) place) (count_of source.number)) w
 stores_none op s place source w h zero =
     let width = row_width s in
@@ -257,7 +257,7 @@ stores_none op s place source w h zero =
       value = ap (of_register width) h.value ∙ back width x ∙ sym (kept_by op width x h.fits) ∙ sym (ap (number_by op width x) zero);
     }
 
-pub stores_some : (op : ShiftOp) (s : GplState) (place : Place) (source : Source) (w : View) → Told s place source w →
+pub stores_some : (op : ShiftOp) (s : GplState) (place : Place) (source : Source) (w : View) → HasCount s place source w →
     Storing (unchanged (gone_on s)) (row_width s) place (number_by op (row_width s) (value_at s (row_width s) place) (count_of source.number))
     (pieces.shifts op w).left
 stores_some op s place source w h =

@@ -28,8 +28,8 @@ low_four word = shifted SRL (shifted SLA word 12) 12
 -- the count is found; where it is 0 the value is stored as it is
 abbrev pub counted : ℕ → ℕ → View → Exit
 counted most word v =
-    let told = record v { r = record v.r { r0 = low_four word } } in
-    if low_four word == 0 then exit most STO told else exit (most + 1) (return_of v) told
+    let with_count = record v { r = record v.r { r0 = low_four word } } in
+    if low_four word == 0 then exit most STO with_count else exit (most + 1) (return_of v) with_count
 
 -- COUNT: the low four bits of the source become the count, which register 0 holds; a byte is swapped into the low half.
 abbrev pub take_count : View → Exit

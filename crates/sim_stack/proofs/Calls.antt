@@ -7,9 +7,9 @@ use Rattle.sim_rows.proofs.Common.{grom_at, grown_by, GSTEP, high, IsView, lost,
 use Rattle.sim_rows.proofs.Common.{SeesFinished, set_is, shifted, SLA, unchanged, View, with_cell, with_pc, with_word}
 use Rattle.sim_rows.proofs.Common.{word_at as word_in_grom}
 use Rattle.sim_stack.proofs.Dispatch.{dispatch_is, dispatch_view}
-use Rattle.sim_stack.proofs.NextAddress.{later_fits}
-use Rattle.sim_stack.proofs.Room.{behind_is, EndsByRoom, tests}
-use Rattle.sim_stack.proofs.Common.{◌>>◌, at_first, call_offset, call_on, called, end_row, Ends, ends_in, first, jump}
+use Rattle.sim_jumps.proofs.NextAddress.{later_fits}
+use Rattle.sim_stack.proofs.Room.{next_is, EndsByRoom, tests}
+use Rattle.sim_stack.proofs.Common.{◌>>?◌, ◌>>◌, at_first, call_offset, call_on, called, end_row, Ends, ends_in, first, jump}
 use Rattle.sim_stack.proofs.Common.{one_at_most, one_if, regroup, row_ends, shows_at}
 use Rattle.sim_stack.specs.Pieces as pieces
 
@@ -53,8 +53,8 @@ module _ (s : GplState) (u : View) where
   next = (read_in s).1
 
   -- the pointer is in register 7, and the target in register 14
-  abbrev told : ℕ → View
-  told pointer = record at {
+  abbrev read : ℕ → View
+  read pointer = record at {
     r = record at.r { r7 = pointer; r14 = (read_in s).0 };
     grom = grom_at s.image next;
   }
@@ -62,7 +62,7 @@ module _ (s : GplState) (u : View) where
   abbrev stored : List ℕ → ℕ → ℕ → List ℕ
   stored cells top second = slice_set (slice_set cells top (high next)) second (low next)
 
-  goes_on : IsView at → top_in s < 256 → Ends (call_on (told (top_in s))) 47 GSTEP (SeesFinished (gone_to s (top_in s)))
+  goes_on : IsView at → top_in s < 256 → Ends (call_on (read (top_in s))) 47 GSTEP (SeesFinished (gone_to s (top_in s)))
   unfolding call_on
   goes_on i small =
       let top = top_in s in
@@ -70,20 +70,20 @@ module _ (s : GplState) (u : View) where
       let more = i.grom.image.fits (behind_code s) in
       let less = i.grom.image.fits (next_in_grom (behind_code s)) in
       let ends : View → Exit = λ w. pieces.store_next w >> end_row in
-      let found : ℕ → Exit = λ n. exit (6 + one_if (at_first (next_in_grom next))) CALLS (record (told top) {
-        r = record (told top).r { r4 = shifted SLA (next_in_grom next) 3; r9 = n };
+      let found : ℕ → Exit = λ n. exit (6 + one_if (at_first (next_in_grom next))) CALLS (record (read top) {
+        r = record (read top).r { r4 = shifted SLA (next_in_grom next) 3; r9 = n };
         grom = lost s.image next;
       }) in
       let stores = pieces.store_next (found next).left in
       let one = one_at_most (at_first (next_in_grom next)) in
       let twelve = twelve_at_most (nat_lt 0x7D top) (nat_lt top 0x7C) in
-      regroup (pieces.find_next (told top)) pieces.store_next end_row
+      regroup (pieces.find_next (read top)) pieces.store_next end_row
       (subst (λ (n : ℕ). Ends (found n >> ends) 47 GSTEP (SeesFinished (gone_to s top))) (sym (back_is next fits))
       (ends_in (found next >> ends)
       (first (found next) ends
       (first stores end_row (row_ends (gone_to s top) stores.left (record {
         cells = ap (λ (n : ℕ). stored (slice_set s.cells 0x73 n) top (top + 1)) (low_is top small)
-            ∙ ap (stored (slice_set s.cells 0x73 top) top) (sym (behind_is top small));
+            ∙ ap (stored (slice_set s.cells 0x73 top) top) (sym (next_is top small));
         vdp = refl;
         registers = refl;
         held = refl;
@@ -97,12 +97,12 @@ module _ (s : GplState) (u : View) where
   turns i =
       let byte = i.cells 0x73 in
       let offset : call_offset at ≡ top_in s = omega arith in
-      tests s 0xC0 2 (call_offset at) (top_in s) 10 (told (call_offset at)) (exit 7 CALLN (told (call_offset at))) call_on
-      54 (gone_to s) refl offset (omega arith)
+      tests s 2 (call_offset at) (top_in s) 10 (read (call_offset at)) (exit 7 CALLN (read (call_offset at)))
+      (λ e. e >>? call_on) 54 (gone_to s) (omega arith) offset (omega arith)
       (record { cells = refl; vdp = refl; registers = refl; image = refl; address = refl })
       refl
-      (λ near. subst (λ (n : ℕ). Ends (exit 7 CALLN (told n) >> call_on) 54 GSTEP (SeesFinished (gone_to s (top_in s))))
-      (sym offset) (first (exit 7 CALLN (told (top_in s))) call_on (goes_on i (omega arith))))
+      (λ near. subst (λ (n : ℕ). Ends (exit 7 CALLN (read n) >> call_on) 54 GSTEP (SeesFinished (gone_to s (top_in s))))
+      (sym offset) (first (exit 7 CALLN (read (top_in s))) call_on (goes_on i (omega arith))))
 
 pub calls : (s : GplState) (v : View) → IsView v → Dispatched s v →
     EndsByRoom (called v) 54 s (jump CALL (read_in s).0 (unchanged (beyond s)))

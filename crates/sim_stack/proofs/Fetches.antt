@@ -11,9 +11,10 @@ use Rattle.sim_rows.proofs.Common.{View, WHERE, Width, with_byte, with_byte_from
 use Rattle.sim_rows.proofs.Common.{with_pc, with_value, with_word, Word, word_in}
 use Rattle.sim_rows.specs.gpl_defs.declared.instruction.OneName.TheVariants.{FETCH}
 use Rattle.sim_rows.specs.gpl_step_defs.Place.{word_at}
-use Rattle.sim_stack.proofs.NextAddress.{aside, aside_first, later_fits, located, located_first, next_fits}
-use Rattle.sim_stack.proofs.Room.{behind_is, EndsByRoom, tests}
-use Rattle.sim_stack.proofs.Common.{◌>>◌, ask_store_first, end_fetch, Ends, fetch_on, fetch_stacked, fetched, first}
+use Rattle.sim_jumps.proofs.NextAddress.{later_fits, next_fits}
+use Rattle.sim_stack.proofs.NextAddress.{aside, aside_first, located, located_first}
+use Rattle.sim_stack.proofs.Room.{next_is, EndsByRoom, tests}
+use Rattle.sim_stack.proofs.Common.{◌>>?◌, ◌>>◌, ask_store_first, end_fetch, Ends, fetch_on, fetch_stacked, fetched, first}
 use Rattle.sim_stack.proofs.Common.{load, load_first, load_stacked, locate_stacked, regroup, resume_row, return_offset}
 use Rattle.sim_stack.proofs.Common.{row_is, row_resumes, row_view, seen_with, set_aside, store, store_first}
 use Rattle.sim_stack.specs.Pieces as pieces
@@ -34,7 +35,7 @@ stacked_first v top f {b = b} {to = to} {R = R} held at near next =
     let asked = pieces.ask_stacked v in
     let word : value_at (state_of asked.left) Word (place_in 0 v.r.r2) ≡ word_in v.cells top =
     ap (λ (n : ℕ). value_at (state_of asked.left) Word (place_in 0 n)) at
-    ∙ ap (λ (n : ℕ). join (slice_index v.cells top) (slice_index v.cells n)) (behind_is top (omega arith)) in
+    ∙ ap (λ (n : ℕ). join (slice_index v.cells top) (slice_index v.cells n)) (next_is top (omega arith)) in
     regroup asked load f
     (first asked (λ w. load w >> f)
     (load_first asked.left f held (omega arith) (omega arith) (λ z. omega arith)
@@ -144,12 +145,12 @@ module _ (s : GplState) (place : Place) (source loaded_value : ℕ) (width : Wid
   abbrev word : ℕ
   word = word_at s (top_in s)
 
-  -- the offset of the top is told, and the operand's place is kept
-  abbrev told : View
-  told = record at { r = record at.r { r2 = return_offset at } }
+  -- the offset of the top is found, and the operand's place is kept
+  abbrev found : View
+  found = record at { r = record at.r { r2 = return_offset at } }
 
   abbrev placed : View
-  placed = record told { r = record told.r { r10 = at.r.r7; r11 = FETCHN; r15 = at.r.r8 } }
+  placed = record found { r = record found.r { r10 = at.r.r7; r11 = FETCHN; r15 = at.r.r8 } }
 
   -- there is room on the stack
   goes_on : IsView at → return_offset at ≡ top_in s → top_in s ≤ 0xC0 →
@@ -185,10 +186,10 @@ module _ (s : GplState) (place : Place) (source loaded_value : ℕ) (width : Wid
   turns place_source i address visible =
       let byte = i.cells 0x73 in
       let offset : return_offset at ≡ top_in s = omega arith in
-      tests s 0xC0 2 (return_offset at) (top_in s) 7 told (exit 7 WHERE placed) fetch_on 131
-      (λ top. with_byte_from (word_at s top) top place (unchanged (gone_on s))) refl offset (omega arith)
+      tests s 2 (return_offset at) (top_in s) 7 found (exit 7 WHERE placed) (λ e. e >>? fetch_on) 131
+      (λ top. with_byte_from (word_at s top) top place (unchanged (gone_on s))) (omega arith) offset (omega arith)
       (record { cells = refl; vdp = refl; registers = refl; image = refl; address = address }) refl
-      (λ near. goes_on i offset near visible)
+      (λ near. goes_on i offset (omega arith) visible)
 
 pub fetches : (s : GplState) (place : Place) (source : Source) (v : View) → IsView v →
     operation_in s ≡ Some (One FETCH) → AtRow s place source v → operands_of s ≡ Ok (place, source) →

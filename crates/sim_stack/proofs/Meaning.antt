@@ -12,7 +12,7 @@ use Rattle.sim_rows.specs.gpl_defs.declared.instruction.OneName.TheVariants.{FET
 use Rattle.sim_stack.proofs.Calls.{beyond, calls, read_in}
 use Rattle.sim_stack.proofs.Fetches.{fetches}
 use Rattle.sim_stack.proofs.Pushes.{pushes}
-use Rattle.sim_stack.proofs.ReturnRows.{before as behind, returns}
+use Rattle.sim_stack.proofs.ReturnRows.{past_code, returns}
 use Rattle.sim_stack.proofs.Room.{EndsByRoom, never_exits}
 use Rattle.sim_stack.proofs.Common.{called, comes_by, HasStarted, is_stack, is_stack_row, jump, plain, returned, row}
 use Rattle.sim_stack.proofs.Common.{turn_at}
@@ -25,14 +25,14 @@ one_byte Byte e = refl
 one_byte Word e = absurd (omega arith)
 
 -- FETCH and PUSH by their operands
-pub row_ends : (op : GplOperation) → is_stack_row (Some op) ≡ true → (s : GplState) (place : Place) (source : Source)
+pub row_means : (op : GplOperation) → is_stack_row (Some op) ≡ true → (s : GplState) (place : Place) (source : Source)
     (v : View) → IsView v → v.r.r3 ≡ 1 → operation_in s ≡ Some op → AtRow s place source v →
     operands_of s ≡ Ok (place, source) → EndsByRoom (row op v) 131 s (row_result op s place source)
-row_ends (One FETCH) e s place source v i one is at operands =
+row_means (One FETCH) e s place source v i one is at operands =
     fetches s place source v i is at operands (one_byte (row_width s) (sym at.holds.bytes_are ∙ one))
-row_ends (One PUSH) e s place source v i one is at operands =
+row_means (One PUSH) e s place source v i one is at operands =
     pushes s place source v i is at (one_byte (row_width s) (sym at.holds.bytes_are ∙ one))
-row_ends _ e s place source v i one is at operands = absurd (cc)
+row_means _ e s place source v i one is at operands = absurd (cc)
 
 module _ {x y : MachineState} {before after : ℕ} {turn : Turn} (turn_is : turn ≡ turn_at y.cpu.pc) where
   -- the turn, by where it ended
@@ -75,7 +75,7 @@ module _ {x y : MachineState} {before after : ℕ} {turn : Turn} (turn_is : turn
     pub return_turns : (op : PlainOp) → is_stack (Some (Plain op)) ≡ true → operation_in s ≡ Some (Plain op) →
         Exits x y before after (returned (view x)) → Turned s x y (from_dispatch before after) turn
     return_turns op family at run =
-        turned_by_result s (plain op (unchanged (behind s))) (ap is_turn_end stands.pc ∙ start) (step_plain s op at)
+        turned_by_result s (plain op (unchanged (past_code s))) (ap is_turn_end stands.pc ∙ start) (step_plain s op at)
         (λ next. bound_made s next (Some (Plain op)) at) run (returns s (view x) op family (is_view x stands.machine) d at)
 
 -- ---- they have the form of bytes alone
@@ -85,8 +85,8 @@ bytes_alone code = if is_stack_row (operation_at code) then eqb (size_of (word_o
 
 -- ---- from the dispatch on
 
-module _ {x y : MachineState} {t u : ℕ} {op : GplOperation} {told : Option GplOperation}
-    (at : AtDispatch is_stack_row x) (is : told ≡ Some op) (l : HasStarted (state_at_dispatch (view x)) x y t u told)
+module _ {x y : MachineState} {t u : ℕ} {op : GplOperation} {found : Option GplOperation}
+    (at : AtDispatch is_stack_row x) (is : found ≡ Some op) (l : HasStarted (state_at_dispatch (view x)) x y t u found)
   where
     abbrev s : GplState
     s = state_at_dispatch (view x)
@@ -104,7 +104,7 @@ module _ {x y : MachineState} {t u : ℕ} {op : GplOperation} {told : Option Gpl
         let b = family.begun rows at is l in
         let e = family.family rows at is l in
         let i = is_view y b.comes.stands.machine in
-        let ends = row_ends op e s b.place b.source (view y) i byte_row b.is_operation b.comes.holds b.is_both in
+        let ends = row_means op e s b.place b.source (view y) i byte_row b.is_operation b.comes.holds b.is_both in
         family.turned_or rows at is l 131 z v turn (λ reason f. never_exits (row op (view y)) 131 s ends f) (omega arith)
         (λ s place source known here operands. turns_at turn_is 131 s (row_result op s place source) run
-        (row_ends op e s place source (view y) i byte_row known here operands))
+        (row_means op e s place source (view y) i byte_row known here operands))

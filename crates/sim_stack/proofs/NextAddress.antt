@@ -1,16 +1,10 @@
 -- The address of the next byte is found, and GROM is set to it again: on views alone.
-use Rattle.std.proofs.Common.{◌+◌, ◌<◌, ◌∙◌, ◌≡◌, ap, arith, List, refl, subst, sym, ℕ}
-use Rattle.sim_rows.proofs.Common.{back_is, exit, Exit, FETCHP, FETCHS, grom_at, GromState, lost, next_in_grom, set_is}
+use Rattle.std.proofs.Common.{◌+◌, ◌<◌, arith, List, subst, sym, ℕ}
+use Rattle.sim_rows.proofs.Common.{exit, Exit, FETCHP, FETCHS, grom_at, GromState, lost, next_in_grom}
 use Rattle.sim_rows.proofs.Common.{shifted, SLA, View, with_grom_address}
 use Rattle.sim_stack.proofs.Common.{◌>>◌, address_before, at_first, Ends, locate_stacked, one_at_most, one_if}
 use Rattle.sim_stack.proofs.Common.{set_aside}
-
--- an address is within GROM where the counter after it is
-pub next_fits : (at : ℕ) → next_in_grom at < 65536 → at < 65536
-next_fits at h = omega arith
-
-pub later_fits : (at : ℕ) → at < 65536 → next_in_grom at < 65536
-later_fits at h = omega arith
+use Rattle.sim_jumps.proofs.NextAddress.{sought}
 
 -- WHERE and SEEK, whatever is made of the address and of GROM
 module _ (image : List ℕ) (at link : ℕ) (made : ℕ → GromState → View) (f : View → Exit) {b to : ℕ} {R : View → Type 0}
@@ -23,9 +17,7 @@ module _ (image : List ℕ) (at link : ℕ) (made : ℕ → GromState → View) 
 
   pub found_first : Ends (read (address_before (next_in_grom at)) >> f) (13 + b) to R
   found_first =
-      let is : read (address_before (next_in_grom at)) ≡ found at (grom_at image at) =
-      ap read (back_is at fits) ∙ ap (found at) (set_is (lost image at) at refl fits) in
-      subst (λ (e : Exit). Ends (e >> f) (13 + b) to R) (sym is) (λ bytes.
+      subst (λ (e : Exit). Ends (e >> f) (13 + b) to R) (sym (sought image at (λ n. n) found fits fits)) (λ bytes.
       let g = next bytes in
       let w = g.within in
       let one = one_at_most (at_first (next_in_grom at)) in

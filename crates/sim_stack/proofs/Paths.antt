@@ -50,7 +50,7 @@ take_return v i =
     (λ c. rest_is (rw (c, pieces.take_return) refl) (part_then return_ends 4 0 12 (return_near v c)
     (return_taken (with_top v) i.cells (at_most 0xC0 (return_offset v) c)))))
 
--- CALL, behind its target
+-- CALL, after its target
 abbrev with_target : View → View
 with_target v = record v { r = record v.r { r14 = join v.grom.fetched (past v.grom).fetched }; grom = past (past v.grom) }
 
@@ -61,18 +61,22 @@ target_read v i =
 abbrev with_grown : View → View
 with_grown v = record v { r = record v.r { r7 = call_offset v } }
 
-target_told : (v : View) → Rest (CALLN ∷ []) 2 14 v CALLT
-    (if_room 0xC0 (call_offset v) 10 (with_grown v) (exit 7 CALLN (with_grown v)))
+-- the offset as the instructions make it
+abbrev made_offset : View → ℕ
+made_offset v = offset_of (sum_of Word (join (slice_index v.cells 0x73) (low v.r.r7)) 0x0200)
+
+pointer_grown : (v : View) → Rest (CALLN ∷ []) 2 14 v CALLT
+    (if_room 2 (call_offset v) 10 (with_grown v) (exit 7 CALLN (with_grown v)))
 unfolding if_room
-target_told v = record {
+pointer_grown v = record {
   by = λ f.
-      pick (nat_lt 0xC0 (call_offset v))
-      (λ c. rw (c, not_limit 0xC0 (call_offset v) c) refl)
+      pick (nat_lt 0xC0 (made_offset v))
+      (λ c. rw (c, not_limit 0xC0 (made_offset v) c) refl)
       (λ c. rw c refl);
 }
 
 pub read_call_target : (v : View) → IsView v → Leads (CALLN ∷ []) v GOCALL (pieces.read_call_target v)
-read_call_target v i = leads (CALLN ∷ []) (part_then (CALLN ∷ []) 2 0 14 (target_read v i) (target_told (with_target v)))
+read_call_target v i = leads (CALLN ∷ []) (part_then (CALLN ∷ []) 2 0 14 (target_read v i) (pointer_grown (with_target v)))
 
 pub find_next : (v : View) → Leads (CALLS ∷ []) v CALLN (pieces.find_next v)
 find_next v = record {
@@ -113,8 +117,8 @@ keep_place v = record {
       (λ c. rw c refl);
 }
 
-pub keep_back : (v : View) → Leads (SEEK ∷ []) v FETCHN (pieces.keep_back v)
-keep_back v = record { by = λ f q. refl }
+pub keep_next : (v : View) → Leads (SEEK ∷ []) v FETCHN (pieces.keep_next v)
+keep_next v = record { by = λ f q. refl }
 
 pub ask_stacked : (v : View) → Leads (LOAD ∷ []) v FETCHP (pieces.ask_stacked v)
 ask_stacked v = record { by = λ f q. refl }

@@ -7,7 +7,7 @@ use Rattle.sim_rows.proofs.Common.{on_stack, One, operation_in, Place, PUSH, rea
 use Rattle.sim_rows.proofs.Common.{SeesFinished, size_of, Source, STO, Storing, sum_of, unchanged, value_at, View}
 use Rattle.sim_rows.proofs.Common.{Width, width_in, with_cell, Word}
 use Rattle.sim_stack.proofs.Room.{EndsByRoom, tests}
-use Rattle.sim_stack.proofs.Common.{◌>>◌, Ends, ends_in, finish_row, first, offset_of, pointer_at, pushed, row_finishes}
+use Rattle.sim_stack.proofs.Common.{◌>>?◌, ◌>>◌, Ends, ends_in, finish_row, first, offset_of, pointer_at, pushed, row_finishes}
 use Rattle.sim_stack.proofs.Common.{row_is, row_view}
 
 abbrev pub top_in : GplState → ℕ
@@ -20,15 +20,15 @@ module _ (s : GplState) (place : Place) (source loaded byte : ℕ) (value : high
   abbrev before : Changes
   before = with_cell 0x72 (top_in s) (unchanged (gone_on s))
 
-  -- the pointer is made, and its offset told; it is stored, and STO is asked for the byte
+  -- the pointer is made, and its offset found; it is stored, and STO is asked for the byte
   abbrev pointer : ℕ
   pointer = sum_of Word (pointer_at 0x72 at) 0x0100
 
-  abbrev told : View
-  told = record at { r = record at.r { r7 = offset_of pointer; r12 = pointer } }
+  abbrev grown : View
+  grown = record at { r = record at.r { r7 = offset_of pointer; r12 = pointer } }
 
   abbrev pointed : View
-  pointed = record told { r = record told.r { r8 = 0 }; cells = slice_set s.cells 0x72 (high pointer) }
+  pointed = record grown { r = record grown.r { r8 = 0 }; cells = slice_set s.cells 0x72 (high pointer) }
 
   -- there is room on the stack
   goes_on : slice_index s.cells 0x72 < 256 → offset_of pointer ≡ top_in s → top_in s ≤ 0xC1 →
@@ -57,10 +57,10 @@ module _ (s : GplState) (place : Place) (source loaded byte : ℕ) (value : high
   unfolding pushed
   turns small address =
       let offset : offset_of pointer ≡ top_in s = omega arith in
-      tests s 0xC1 1 (offset_of pointer) (top_in s) 10 told (exit 10 STO pointed) finish_row 131
-      (λ top. with_cell top byte (with_cell 0x72 top (unchanged (gone_on s)))) refl offset (omega arith)
+      tests s 1 (offset_of pointer) (top_in s) 10 grown (exit 10 STO pointed) (λ e. e >>? finish_row) 131
+      (λ top. with_cell top byte (with_cell 0x72 top (unchanged (gone_on s)))) (omega arith) offset (omega arith)
       (record { cells = refl; vdp = refl; registers = refl; image = refl; address = address }) refl
-      (λ near. goes_on small offset near)
+      (λ near. goes_on small offset (omega arith))
 
 pub pushes : (s : GplState) (place : Place) (source : Source) (v : View) → IsView v → operation_in s ≡ Some (One PUSH) →
     AtRow s place source v → row_width s ≡ Byte →

@@ -1,7 +1,7 @@
 -- Where the machine went that tested a stack: it stopped, or there was room.
-use Rattle.std.proofs.Common.{ℕ, ◌==◌, ◌∙◌, ◌≡◌, ap, arith, Bool, false, if◌then◌else◌, nat_lt, refl, sym, true}
+use Rattle.std.proofs.Common.{ℕ, ◌-◌, ◌==◌, ◌∙◌, ◌≡◌, ap, Bool, false, if◌then◌else◌, nat_lt, refl, sym, true}
 use Rattle.std.proofs.lemmas.Bool.{ne_eqb}
-use Rattle.sim_rows.proofs.Common.{exit, Exit, Exits, first_way, GOTO, GSTOP, is_turn_end, MachineState, second_way}
+use Rattle.sim_rows.proofs.Common.{exit, Exit, Exits, GOTO, GSTOP, is_turn_end, MachineState, second_way}
 use Rattle.sim_rows.proofs.Common.{Stands, TAKE, View, view}
 use Rattle.sim_rows.proofs.sim_view.Routines.{exit_then, exits_by}
 use Rattle.sim_rows.specs.sim_view.Routines.{◌>>?◌}
@@ -24,21 +24,14 @@ module _ {x y : MachineState} {before middle : ℕ} where
       exits_by (rw away refl) (exit_then f run (ap is_turn_end (sym run.stands.pc ∙ at.pc) ∙ end) last)
 
   -- there was room
-  pub room : (last offset count : ℕ) (v : View) (on : Exit) → (y.cpu.pc ≡ GSTOP → ⊥) →
-      Exits x y before middle (if_room last offset count v on) →
-      (nat_lt last offset ≡ false) × Exits x y before middle on
+  pub room : (bytes offset count : ℕ) (v : View) (on : Exit) → (y.cpu.pc ≡ GSTOP → ⊥) →
+      Exits x y before middle (if_room bytes offset count v on) →
+      (nat_lt (0xC2 - bytes) offset ≡ false) × Exits x y before middle on
   unfolding if_room
-  room last offset count v on elsewhere run =
-      second_way GSTOP x y before middle (nat_lt last offset) (full count v) on run refl elsewhere
+  room bytes offset count v on elsewhere run =
+      second_way GSTOP x y before middle (nat_lt (0xC2 - bytes) offset) (full count v) on run refl elsewhere
 
-  -- ---- RTN goes on at TAKE, and RTNC at GOTO
-
-  pub clears : {b : Bool} {v : View} → y.cpu.pc ≡ TAKE →
-      Exits x y before middle (if b then exit 10 TAKE v else exit 11 GOTO v) →
-      (b ≡ true) × Exits x y before middle (exit 10 TAKE v)
-  clears {b = b} {v = v} here run =
-      first_way TAKE x y before middle b (exit 10 TAKE v) (exit 11 GOTO v) run (λ q. absurd (omega arith)) here
-
+  -- RTNC goes on at GOTO
   pub keeps : {b : Bool} {v : View} → (y.cpu.pc ≡ TAKE → ⊥) →
       Exits x y before middle (if b then exit 10 TAKE v else exit 11 GOTO v) →
       (b ≡ false) × Exits x y before middle (exit 11 GOTO v)

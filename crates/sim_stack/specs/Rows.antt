@@ -2,10 +2,10 @@
 -- the other, as the code has them.
 use Rattle.std.specs.Prelude.{◌==◌, if◌then◌else◌, ℕ}
 use Rattle.sim_rows.specs.Prelude.{Exit, exit, GplOperation, GSTEP, GSTOP, IsVisible, One, PUSH, Stack}
-use Rattle.sim_rows.specs.Prelude.{Stepped, Stopped, Turn, View}
+use Rattle.sim_rows.specs.Prelude.{Stepped, Stopped, TAKE, Turn, View}
 use Rattle.sim_rows.specs.gpl_defs.declared.instruction.OneName.TheVariants.{FETCH}
 use Rattle.sim_rows.specs.sim_view.Routines.{◌>>◌, ◌>>?◌}
-use Rattle.sim_rows.specs.sim_operands.Routines.{load, store}
+use Rattle.sim_rows.specs.sim_operands.Routines.{load, on_at, store}
 use Rattle.sim_rows.specs.Routines.{end_row, finish_row}
 use Rattle.sim_jumps.specs.Routines.{resume_row}
 use Rattle.sim_rows.specs.sim_operands.Pieces as subroutine
@@ -24,18 +24,20 @@ called v = piece.read_call_target v >>? call_on
 
 -- ---- RTN and RTNC
 
--- RTN, whose code byte is 0, clears the condition; RTNC keeps it
-unfoldable pub go_back : View → Exit
-go_back v = if v.r.r0 == 0 then jump.take_branch v >> jump.go_on else jump.go_on v
+-- RTN comes to TAKE, which clears the condition; RTNC keeps it
+abbrev pub clear_and_go : View → Exit
+clear_and_go v = jump.take_branch v >> jump.go_to
 
 unfoldable pub returned : View → Exit
-returned v = piece.take_return v >>? go_back
+returned v =
+    let taken = piece.take_return v in
+    on_at TAKE taken clear_and_go (taken >>? jump.go_to)
 
 -- ---- FETCH
 
 -- the next address is kept, where GROM goes on
 abbrev pub set_aside : View → Exit
-set_aside v = step.where_next v >> piece.keep_back >> subroutine.seek
+set_aside v = step.where_next v >> piece.keep_next >> subroutine.seek
 
 -- the address on the stack
 abbrev pub load_stacked : View → Exit
@@ -54,8 +56,8 @@ unfoldable pub end_fetch : View → Exit
 end_fetch v = piece.store_stacked v >> store >> piece.store_fetched >> store >> resume_row
 
 -- both may be stored: at the place in register 7, and at the one that was kept
-abbrev pub CanEnd : View → Type 0
-CanEnd v = IsVisible 0 v.r.r7 v.r.r3 × IsVisible v.r.r15 v.r.r10 1
+abbrev pub CanStoreBoth : View → Type 0
+CanStoreBoth v = IsVisible 0 v.r.r7 v.r.r3 × IsVisible v.r.r15 v.r.r10 1
 
 unfoldable pub fetch_on : View → Exit
 fetch_on v = set_aside v >> load_stacked >> fetch_stacked >> locate_stacked >> end_fetch

@@ -7,7 +7,7 @@ ghost use Rattle.sim_rows.specs.native_interp.declared.addresses.TheConstants as
 ghost use Rattle.sim_stack.specs.Rows as row;
 
 use crate::pieces::{
-    ask_byte, ask_stacked, keep_back, keep_byte, keep_place, keep_stacked_next, seek_stacked,
+    ask_byte, ask_stacked, keep_byte, keep_next, keep_place, keep_stacked_next, seek_stacked,
     store_fetched, store_stacked,
 };
 use sim_jumps::resume_row_routine;
@@ -24,7 +24,7 @@ fn set_aside<L: Ledger>(machine: &mut Machine, steps: &mut Steps<L>)
     ensures { Exits machine.old machine.new steps.old steps.new (row.set_aside (view machine.old)) }
 {
     where_next(machine, steps);
-    keep_back(machine, steps);
+    keep_next(machine, steps);
     seek_address(machine, steps);
 }
 
@@ -64,7 +64,7 @@ fn locate_stacked<L: Ledger>(machine: &mut Machine, steps: &mut Steps<L>)
 /// Stores the address and the byte, and goes on after the instruction.
 fn end_fetch<L: Ledger>(machine: &mut Machine, steps: &mut Steps<L>)
     requires stands { Stands machine.old address.FETCHS }
-    requires visible { row.CanEnd (view machine.old) }
+    requires visible { row.CanStoreBoth (view machine.old) }
     ensures { Exits machine.old machine.new steps.old steps.new (row.end_fetch (view machine.old)) }
 {
     store_stacked(machine, steps);

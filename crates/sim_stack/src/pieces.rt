@@ -44,9 +44,9 @@ pub fn keep_place<L: Ledger>(machine: &mut Machine, steps: &mut Steps<L>)
 }
 
 /// The piece of FETCH that keeps the next address and asks SEEK for it.
-pub fn keep_back<L: Ledger>(machine: &mut Machine, steps: &mut Steps<L>)
+pub fn keep_next<L: Ledger>(machine: &mut Machine, steps: &mut Steps<L>)
     requires { Stands machine.old address.FETCHN }
-    ensures { Exits machine.old machine.new steps.old steps.new (piece.keep_back (view machine.old)) }
+    ensures { Exits machine.old machine.new steps.old steps.new (piece.keep_next (view machine.old)) }
 {
     run_piece(machine, steps, &[SEEK]);
 }

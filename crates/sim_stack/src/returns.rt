@@ -5,7 +5,7 @@ ghost use Rattle.sim_rows.specs.native_interp.declared.addresses.TheConstants as
 ghost use Rattle.sim_stack.specs.Rows as row;
 
 use crate::pieces::take_return;
-use sim_jumps::{go_on, take_branch};
+use sim_jumps::{go_to, take_branch};
 use sim_rows::labels::{GSTOP, TAKE};
 use sim_rows::processor::{Machine, Steps};
 use std::sync::ledger::Ledger;
@@ -16,13 +16,10 @@ pub fn run_return<L: Ledger>(machine: &mut Machine, steps: &mut Steps<L>)
     ensures { Exits machine.old machine.new steps.old steps.new (row.returned (view machine.old)) }
 {
     take_return(machine, steps);
-    if machine.pc() == GSTOP {
-        return;
-    }
     if machine.pc() == TAKE {
         take_branch(machine, steps);
-        go_on(machine, steps);
-        return;
+        go_to(machine, steps);
+    } else if machine.pc() != GSTOP {
+        go_to(machine, steps);
     }
-    go_on(machine, steps);
 }

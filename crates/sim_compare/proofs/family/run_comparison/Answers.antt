@@ -3,7 +3,7 @@ use Rattle.sim_compare.proofs.Comparisons
 use Rattle.sim_compare.proofs.family.run_comparison.Goals as goal
 
 pub end_comparison-requires : goal.end_comparison-requires
-end_comparison-requires g c = Comparisons.comparison_told c.args.operation c.requires.family c.compare_operands.ensures
+end_comparison-requires g c = Comparisons.comparison_decided c.args.operation c.requires.family c.compare_operands.ensures
 
 pub returns : goal.returns
 returns g c =

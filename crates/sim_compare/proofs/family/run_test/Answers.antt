@@ -6,13 +6,13 @@ use Rattle.sim_compare.proofs.family.run_test.Goals as goal
 
 pub test_status-requires-clause-stands : goal.test_status-requires-clause-stands
 test_status-requires-clause-stands g c =
-    subst (λ (n : ℕ). Stands c.args.machine.now n) (ap operation_entry c.requires.told) c.requires.at.stands
+    subst (λ (n : ℕ). Stands c.args.machine.now n) (ap operation_entry c.requires.operation) c.requires.at.stands
 
 pub test_status-requires-clause-test : goal.test_status-requires-clause-test
-test_status-requires-clause-test g c = subst (λ (o : Option GplOperation). is_test o ≡ true) c.requires.told c.requires.at.family
+test_status-requires-clause-test g c = subst (λ (o : Option GplOperation). is_test o ≡ true) c.requires.operation c.requires.at.family
 
 pub end_comparison-requires : goal.end_comparison-requires
-end_comparison-requires g c = StatusTests.test_told c.args.name c.requires.told c.requires.at c.test_status.ensures
+end_comparison-requires g c = StatusTests.test_decided c.args.name c.requires.operation c.requires.at c.test_status.ensures
 
 pub returns : goal.returns
-returns g c = StatusTests.test_turns c.args.name c.requires.told c.requires.at c.test_status.ensures c.end_comparison.ensures
+returns g c = StatusTests.test_turns c.args.name c.requires.operation c.requires.at c.test_status.ensures c.end_comparison.ensures

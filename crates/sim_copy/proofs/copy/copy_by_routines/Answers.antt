@@ -38,5 +38,5 @@ returns g c =
     CopiedBytes.copies q.at q.stands.pc q.left
     (Routines.goes q.at q.left c.next_byte.ensures l.value l.stream c.store_byte.ensures s.register
     c.count_byte.ensures)
-    (Routines.place_told q.at q.left c.next_byte.ensures l.value l.stream c.store_byte.ensures s.register
+    (Routines.place_is q.at q.left c.next_byte.ensures l.value l.stream c.store_byte.ensures s.register
     c.count_byte.ensures)

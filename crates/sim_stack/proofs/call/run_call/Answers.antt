@@ -12,9 +12,9 @@ find_next-requires g c = (room _ _ _ _ _ (off c.pc.ensures.value c.if-pc-eq-GSTO
 
 pub store_next-requires-clause-visible : goal.store_next-requires-clause-visible
 store_next-requires-clause-visible g c =
-    let told = room _ _ _ _ _ (off c.pc.ensures.value c.if-pc-eq-GSTOP.false) c.read_call_target.ensures in
-    shown (λ (w : View). w.r.r7 ≤ 0xC0) (exit_then find_next told.1 refl c.find_next.ensures)
-    (at_most 0xC0 _ told.0)
+    let passed = room _ _ _ _ _ (off c.pc.ensures.value c.if-pc-eq-GSTOP.false) c.read_call_target.ensures in
+    shown (λ (w : View). w.r.r7 ≤ 0xC0) (exit_then find_next passed.1 refl c.find_next.ensures)
+    (at_most 0xC0 _ passed.0)
 
 pub returns : goal.returns
 unfolding called call_on

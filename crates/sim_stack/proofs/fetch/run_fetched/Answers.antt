@@ -1,4 +1,4 @@
-use Rattle.sim_stack.proofs.Common.{ap, arith, at_most, CanEnd, end_fetch, exit_then, fetch_on, fetch_stacked, fetched}
+use Rattle.sim_stack.proofs.Common.{ap, arith, at_most, CanStoreBoth, end_fetch, exit_then, fetch_on, fetch_stacked, fetched}
 use Rattle.sim_stack.proofs.Common.{goes_then, IsVisible, load_stacked, locate_stacked, off, on, refl, room, set_aside}
 use Rattle.sim_stack.proofs.Common.{shown, stopped, subst, View, view, ℕ}
 use Rattle.sim_stack.proofs.fetch.run_fetched.Goals as goal
@@ -35,7 +35,7 @@ end_fetch-requires-clause-visible g c =
     let word = exit_then load_stacked set refl c.load_stacked.ensures in
     let byte = exit_then fetch_stacked word refl c.fetch_stacked.ensures in
     let v = view c.args.machine.now in
-    shown CanEnd (exit_then locate_stacked byte refl c.locate_stacked.ensures)
+    shown CanStoreBoth (exit_then locate_stacked byte refl c.locate_stacked.ensures)
     (λ z. omega arith, subst (λ (n : ℕ). IsVisible v.r.r8 v.r.r7 n) c.requires.byte c.requires.visible)
 
 pub returns : goal.returns

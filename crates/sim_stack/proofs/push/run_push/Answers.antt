@@ -13,10 +13,10 @@ finish_row_routine-requires-clause-stands g c =
 
 pub finish_row_routine-requires-clause-visible : goal.finish_row_routine-requires-clause-visible
 finish_row_routine-requires-clause-visible g c =
-    let told = room _ _ _ _ _ (off c.pc.ensures.value c.if-pc-eq-GSTOP.false) c.push_pointer.ensures in
-    let near = at_most 0xC1 _ told.0 in
+    let passed = room _ _ _ _ _ (off c.pc.ensures.value c.if-pc-eq-GSTOP.false) c.push_pointer.ensures in
+    let near = at_most 0xC1 _ passed.0 in
     let byte = c.requires.byte in
-    shown CanStore told.1 (λ z. rw byte (omega arith))
+    shown CanStore passed.1 (λ z. rw byte (omega arith))
 
 pub returns : goal.returns
 unfolding pushed
