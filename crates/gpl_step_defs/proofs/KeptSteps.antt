@@ -33,8 +33,8 @@ use Rattle.gpl_step_defs.specs.Laws.{StepsKeepStates}
 use Rattle.gpl_step_defs.specs.Place.{place_of, value_at}
 use Rattle.gpl_step_defs.specs.Changes.{Changes, unchanged, shown, finished}
 use Rattle.grom_defs.specs.Addresses.{in_grom_of}
-use Rattle.gpl_step_defs.specs.Copy.{From, FromMemory, FromGrom, To, ToMemory, ToRegisters, byte_from, next_from, with_byte_to, next_to, copied, length_of}
-use Rattle.gpl_step_defs.specs.Copy.{within_limit, target_of, origin_of, moved}
+use Rattle.gpl_step_defs.specs.Copy.{From, FromMemory, FromGrom, To, ToMemory, ToRegisters, byte_from, next_from, with_byte_to, next_to, copied}
+use Rattle.gpl_step_defs.specs.Copy.{move_found, moved}
 use Rattle.gpl_step_defs.specs.Step.{word_or_byte, destination_size, source_of, changes_of, after, executed, step}
 use Rattle.gpl_step_defs.proofs.Kept.{Kept, set_keeps, byte_fits, value_fits, with_byte_keeps, with_register_keeps}
 use Rattle.gpl_step_defs.proofs.KeptRows.{then_if_ok, plain_keeps, immediate_keeps, jump_keeps, branched_keeps, one_keeps, two_keeps}
@@ -162,11 +162,8 @@ any_if_ok (Err cause) = tt
 
 moved_keeps : (length : MoveLength) (target : MoveTarget) (source : MoveSource) (c : Changes) → Kept c → IfOk (moved length target source c) Kept
 moved_keeps length target source c h =
-    then_if_ok Any Kept (length_of c.state length) _ (any_if_ok (length_of c.state length))
-    (λ count _. then_if_ok Any Kept (within_limit count) _ (any_if_ok (within_limit count))
-    (λ bytes _. then_if_ok Any Kept (target_of c.state bytes target) _ (any_if_ok (target_of c.state bytes target))
-    (λ to _. then_if_ok Any Kept (origin_of c.state bytes source) _ (any_if_ok (origin_of c.state bytes source))
-    (λ from _. copied_keeps bytes from to c h))))
+    then_if_ok Any Kept (move_found length target source c.state) _ (any_if_ok (move_found length target source c.state))
+    (λ found _. copied_keeps found.bytes found.from found.to c h)
 
 -- ---- the step
 

@@ -69,11 +69,21 @@ abbrev pub copied : ℕ → From → To → Changes → Changes
 copied zero from to c = c
 copied (suc bytes) from to c = copied bytes (next_from from) (next_to to) (with_byte_to to (byte_from from c.state) c)
 
+-- What a MOVE copies: how many bytes, where they go and where they come from.
+pub record Moving : Type 0 where
+  pub bytes : ℕ
+  pub to : To
+  pub from : From
+
 -- Profile: the length is checked first, then the target, then the source, as their bytes stand.
-abbrev pub moved : MoveLength → MoveTarget → MoveSource → Changes → Result Changes Reason
-moved length target source c = do
-  count ← length_of c.state length
+abbrev pub move_found : MoveLength → MoveTarget → MoveSource → GplState → Result Moving Reason
+move_found length target source s = do
+  count ← length_of s length
   bytes ← within_limit count
-  to ← target_of c.state bytes target
-  from ← origin_of c.state bytes source
-  Ok (copied bytes from to c)
+  to ← target_of s bytes target
+  from ← origin_of s bytes source
+  Ok (record { bytes = bytes; to = to; from = from })
+
+abbrev pub moved : MoveLength → MoveTarget → MoveSource → Changes → Result Changes Reason
+moved length target source c =
+    move_found length target source c.state >>= λ found. Ok (copied found.bytes found.from found.to c)

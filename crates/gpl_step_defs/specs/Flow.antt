@@ -1,5 +1,5 @@
 -- Jumps, the two stacks, and random numbers.
-use Rattle.std.specs.Prelude.{ℕ, ◌+◌, ◌*◌, ◌/◌, ◌%◌, Bool, true, false, not, if◌then◌else◌, slice_index, Result, Ok}
+use Rattle.std.specs.Prelude.{ℕ, ◌+◌, ◌*◌, ◌%◌, Bool, true, false, not, if◌then◌else◌, slice_index, Result, Ok}
 use Rattle.std.specs.Prelude.{Err}
 use Rattle.tms_defs.specs.Words.{plus}
 use Rattle.tms_defs.specs.Flags.{Word}

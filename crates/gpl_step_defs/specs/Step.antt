@@ -3,7 +3,7 @@
 -- GPL Programmer's Guide, the statements.
 -- Profile: all checks come before all changes, and all operands are read before anything is stored. A stop leaves the
 -- state as it was, so it is a reason and nothing else.
-use Rattle.std.specs.Prelude.{ℕ, ◌*◌, ◌==◌, Bool, true, false, if◌then◌else◌, List, ◌++◌, replicate, drop, Some, None}
+use Rattle.std.specs.Prelude.{ℕ, ◌*◌, ◌==◌, Bool, true, false, List, ◌++◌, replicate, drop, Some, None}
 use Rattle.std.specs.Prelude.{Result, Ok, Err}
 use Rattle.tms_defs.specs.Status.{is_set}
 use Rattle.tms_defs.specs.Flags.{Width, Byte, Word, size_of}

@@ -1,11 +1,11 @@
 -- The copy as a whole, and its end.
 use Rattle.std.proofs.Common.{ℕ, ◌*◌, ◌+◌, ◌<◌, ◌==◌, ◌∙◌, ◌≡◌, ◌≤◌, ap, arith, Bool, false, if◌then◌else◌, refl, subst, sym, true}
 use Rattle.std.proofs.lemmas.Bool.{ne_eqb}
-use Rattle.sim_rows.proofs.Common.{ShowsChanges, Changes, ReachesWithin, comes, comes_as, comes_on, copied, EndsRow, Exits, From, GromState, idle_again}
-use Rattle.sim_rows.proofs.Common.{idle_grom, idle_told, idle_video, is_turn_end, is_view, IsFetched, MachineState, MOVEB, PortsAreIdle, RESUME, SeesFinished, SHOW}
+use Rattle.sim_rows.proofs.Common.{ShowsChanges, Changes, ReachesWithin, comes, comes_as, comes_on, comes_then, copied, EndsRow, Exit, Exits, From, GromState, idle_again}
+use Rattle.sim_rows.proofs.Common.{idle_grom, idle_told, idle_video, is_turn_end, is_view, MachineState, PortsAreIdle, RESUME, SeesFinished, SHOW}
 use Rattle.sim_rows.proofs.Common.{Stands, To, View, view, with_pc}
 use Rattle.sim_jumps.specs.Jumps.{ResumesRow}
-use Rattle.sim_copy.specs.Copying.{CopiesBytes, Copying}
+use Rattle.sim_copy.specs.Copying.{CopiesBytes, Copying, MayCopy}
 use Rattle.sim_copy.proofs.Places.{at_end, at_pc, runs_on}
 use Rattle.sim_copy.proofs.Routines.{fetched_seen}
 use Rattle.sim_copy.proofs.CopyStart.{Starts, starts}
@@ -54,11 +54,11 @@ module _ {x a : MachineState} {t t1 : ℕ} (h : AtCopy x) (e : Exits x a t t1 (p
 
 -- ---- the whole
 
-module _ {x a : MachineState} {t t1 : ℕ} (e : Exits x a t t1 (pieces.start_copy (view x))) (stands : Stands x MOVEB) (idle : PortsAreIdle x.cpu.memory)
-    (fetched : IsFetched x.cpu.memory.grom) (source : let r = (view x).r in r.r5 ≡ 0 → r.r2 + r.r12 ≤ 0xC2)
-    (target : let r = (view x).r in r.r8 ≡ 0 → r.r7 + r.r12 ≤ 0xC2) (registers : let r = (view x).r in 1 < r.r8 → r.r7 + r.r12 ≤ 8) where
+module _ {x a : MachineState} {t t1 : ℕ} (e : Exits x a t t1 (pieces.start_copy (view x))) (may : MayCopy x) where
   begun : Starts (view x) (pieces.start_copy (view x))
-  begun = starts (view x) (is_view x stands.machine) (idle_video x.cpu.memory idle) (fetched_seen x.cpu.memory fetched) source target registers
+  begun =
+      starts (view x) (is_view x may.stands.machine) (idle_video x.cpu.memory may.idle) (fetched_seen x.cpu.memory may.fetched)
+      may.source may.target may.registers
 
   pub at_copy : AtCopy a
   at_copy = record {
@@ -66,7 +66,7 @@ module _ {x a : MachineState} {t t1 : ℕ} (e : Exits x a t t1 (pieces.start_cop
     place = subst (λ (p : ℕ). CopiesAt p (view a)) (sym e.stands.pc)
         (subst (λ (u : View). CopiesAt (pieces.start_copy (view x)).to u) (sym e.shows) begun.place);
     idle = idle_told a.cpu.memory (ap (λ (u : View). u.vdp.held) e.shows ∙ begun.held)
-        (ap (λ (u : View). u.grom.half_written) e.shows ∙ ap (λ (g : GromState). g.half_written) begun.grom ∙ idle_grom x.cpu.memory idle);
+        (ap (λ (u : View). u.grom.half_written) e.shows ∙ ap (λ (g : GromState). g.half_written) begun.grom ∙ idle_grom x.cpu.memory may.idle);
   }
 
   copying : (c : Changes) (from : From) (to : To) (bytes : ℕ) → Copying c from to bytes (view x) → CopyingAt a.cpu.pc c from to bytes (view a)

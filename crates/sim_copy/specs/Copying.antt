@@ -1,9 +1,8 @@
 -- The copy of MOVE, for all sources, targets and numbers of bytes that may be there.
-use Rattle.std.specs.Prelude.{ℕ, ◌*◌, ◌+◌, ◌≡◌, None}
+use Rattle.std.specs.Prelude.{ℕ, ◌*◌, ◌+◌, ◌<◌, ◌≡◌, ◌≤◌, None}
 use Rattle.sim_rows.specs.Prelude.{Changes, ReachesWithin, copied, From, FromGrom, FromMemory, grom_at, GSTEP}
-use Rattle.sim_rows.specs.Prelude.{LoadsFrom}
-use Rattle.sim_rows.specs.Prelude.{MachineState, marked_by, Place, SeesFinished, StoresTo, To, ToMemory, ToRegisters}
-use Rattle.sim_rows.specs.Prelude.{View, view}
+use Rattle.sim_rows.specs.Prelude.{IsFetched, LoadsFrom, MachineState, marked_by, MOVEB, Place, PortsAreIdle}
+use Rattle.sim_rows.specs.Prelude.{SeesFinished, Stands, StoresTo, To, ToMemory, ToRegisters, View, view, VISIBLE_CELLS}
 use Rattle.sim_rows.specs.sim_view.Bounds.{most_beside_bytes, most_of_byte}
 
 -- A source in memory: its place is in registers 2 and 5, and GROM gives the byte of the next instruction.
@@ -43,6 +42,15 @@ pub record Copying (c : Changes) (from : From) (to : To) (bytes : ℕ) (w : View
   pub stands_from : StandsFrom c from w
   pub stands_to : StandsTo to w
   pub left : w.r.r12 ≡ bytes
+
+-- At MOVEB the copy may begin: no register names what is not there.
+pub record MayCopy (x : MachineState) : Type 0 where
+  pub stands : Stands x MOVEB
+  pub idle : PortsAreIdle x.cpu.memory
+  pub fetched : IsFetched x.cpu.memory.grom
+  pub source : let r = (view x).r in r.r5 ≡ 0 → r.r2 + r.r12 ≤ VISIBLE_CELLS
+  pub target : let r = (view x).r in r.r8 ≡ 0 → r.r7 + r.r12 ≤ VISIBLE_CELLS
+  pub registers : let r = (view x).r in 1 < r.r8 → r.r7 + r.r12 ≤ 8
 
 -- All bytes are copied, and the step ends.
 abbrev pub CopiesBytes : MachineState → MachineState → ℕ → ℕ → Type 0

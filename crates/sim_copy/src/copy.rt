@@ -1,9 +1,9 @@
 //! The copy, from its beginning to the end of the step.
 
-ghost use Rattle.std.specs.Prelude.{◌+◌, ◌<◌, ◌≡◌, ◌≤◌};
-ghost use Rattle.sim_rows.specs.Prelude.{Exits, IsFetched, PortsAreIdle, Stands, view, VISIBLE_CELLS};
+ghost use Rattle.std.specs.Prelude.{◌<◌, ◌≡◌};
+ghost use Rattle.sim_rows.specs.Prelude.{Exits, Stands, view};
 ghost use Rattle.sim_copy.specs.Bytes.{AtCopy, ByRoutines, CopiesByte, CopiesRest, EndsCopy};
-ghost use Rattle.sim_copy.specs.Copying.{CopiesBytes};
+ghost use Rattle.sim_copy.specs.Copying.{CopiesBytes, MayCopy};
 ghost use Rattle.sim_copy.specs.Pieces as piece;
 ghost use Rattle.sim_rows.specs.native_interp.declared.addresses.TheConstants as address;
 
@@ -101,12 +101,7 @@ fn end_copy<L: Ledger>(machine: &mut Machine, steps: &mut Steps<L>)
 /// registers 7 and 8 the target; 2 in register 5 says that the source is in GROM, and 2 in register 8 that the target
 /// is among the registers of the video processor. It takes at most 31 instructions a byte, and 41 more.
 pub fn copy_bytes<L: Ledger>(machine: &mut Machine, steps: &mut Steps<L>)
-    requires stands { Stands machine.old address.MOVEB }
-    requires idle { PortsAreIdle machine.old.cpu.memory }
-    requires fetched { IsFetched machine.old.cpu.memory.grom }
-    requires source { let r = (view machine.old).r in r.r5 ≡ 0 → r.r2 + r.r12 ≤ VISIBLE_CELLS }
-    requires target { let r = (view machine.old).r in r.r8 ≡ 0 → r.r7 + r.r12 ≤ VISIBLE_CELLS }
-    requires registers { let r = (view machine.old).r in 1 < r.r8 → r.r7 + r.r12 ≤ 8 }
+    requires { MayCopy machine.old }
     ensures { CopiesBytes machine.old machine.new steps.old steps.new }
 {
     start_copy(machine, steps);

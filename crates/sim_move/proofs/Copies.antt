@@ -1,18 +1,19 @@
 -- The length, the target and the source, one after the other, on the machine.
 use Rattle.std.proofs.Common.{ℕ, ◌<◌, ◌∙◌, ◌≡◌, arith, Bool, Err, Ok, Option, refl, Result, Some, subst, sym, true}
-use Rattle.sim_rows.proofs.Common.{◌>>=◌, AtDispatch, code_byte, comes, Dispatched, Exits, From, FromGrom, Goes, GOMOVE, GplOperation, GplState}
+use Rattle.sim_rows.proofs.Common.{◌>>=◌, AtDispatch, code_byte, comes, Dispatched, Exits, FromGrom, Goes, GOMOVE, GplOperation, GplState}
 use Rattle.sim_rows.proofs.Common.{GromIndexedToMemory, GromToMemory, GromToRegisters, GSTOP, index_by, indexed, is_view, length_of, MachineState}
-use Rattle.sim_rows.proofs.Common.{MemoryToMemory, Move, MOVEB, MoveKind, MOVEL, MOVES, MOVEX, next_in_grom, operation_entry, operation_in, operation_in_view}
-use Rattle.sim_rows.proofs.Common.{origin_of, Reason, ReachesWithin, Stands, state_at_dispatch, StoppedBy, To, ToMemory, ToRegisters, View, view, word_at}
+use Rattle.sim_rows.proofs.Common.{MemoryToMemory, Move, MOVEB, MoveKind, MOVEL, MOVES, MOVEX, Moving, next_in_grom, operation_entry, operation_in, operation_in_view}
+use Rattle.sim_rows.proofs.Common.{Reason, ReachesWithin, Stands, state_at_dispatch, StoppedBy, To, ToMemory, ToRegisters, View, view, word_at}
 use Rattle.sim_rows.specs.sim_view.Prelude.{HoldsBytes}
 use Rattle.sim_rows.proofs.sim_operands.Ends.{EndsBy, not_at}
 use Rattle.sim_copy.specs.Copying.{StandsTo}
 use Rattle.sim_move.specs.Family.{is_move}
-use Rattle.sim_move.specs.Moves.{BeforeCopy, copy_in, FindsCopy, length_read, source_read, target_in, target_read}
+use Rattle.sim_move.specs.Moves.{BeforeCopy, FindsCopy, found_in, length_read, source_read, target_read}
 use Rattle.sim_move.specs.Rows.{find_length, find_places, index_source, turn_to_source}
 use Rattle.sim_move.proofs.Codes.{from_grom, has_index, Encodes, encodes}
 use Rattle.sim_move.proofs.Arrivals.{Comes, comes_as_said, comes_stopped, comes_there, then_comes}
 use Rattle.sim_jumps.proofs.NextAddress.{next_fits}
+use Rattle.sim_move.proofs.Found.{found_after_length, found_is, target_in, whole, with_from, with_source}
 use Rattle.sim_move.proofs.Lengths.{length_ends}
 use Rattle.sim_move.proofs.Seen.{dispatched_is, LengthFound, number_to, seen, SourceFound, space_to, stood, TargetFound}
 use Rattle.sim_move.proofs.Sources.{source_ends, source_returns, turned, turns}
@@ -54,18 +55,15 @@ module _ (s : GplState) (kind : MoveKind) (found : ℕ × To) where
   abbrev index_of : Bool → Option ℕ × ℕ
   index_of b = index_by b s.image address.1
 
-  abbrev from_address : ℕ → Result ((ℕ × To) × From) Reason
-  from_address address = Ok (found, FromGrom address)
+  abbrev from_address : ℕ → Result Moving Reason
+  from_address address = Ok (with_from found (FromGrom address))
 
 abbrev Origin : GplState → (ℕ × To) → MoveKind → Type 0
-Origin s found kind = (let pair : From → Result ((ℕ × To) × From) Reason = λ from. Ok (found, from) in
-    (origin_of s found.0 (source_read kind s).0 >>= pair)
-    ≡ (indexed s (index_of s kind found (has_index kind)).0 (address s kind found).0 >>= from_address s kind found))
+Origin s found kind = with_source s (source_read kind s).0 found
+    ≡ (indexed s (index_of s kind found (has_index kind)).0 (address s kind found).0 >>= from_address s kind found)
 
 then_pair : (r : Result ℕ Reason) (found : ℕ × To) →
-    (let pair : From → Result ((ℕ × To) × From) Reason = λ from. Ok (found, from) in
-    let from : ℕ → Result ((ℕ × To) × From) Reason = λ address. Ok (found, FromGrom address) in
-    ((r >>= λ address. Ok (FromGrom address)) >>= pair) ≡ (r >>= from))
+    ((r >>= λ address. Ok (FromGrom address)) >>= λ from. Ok (with_from found from)) ≡ (r >>= λ address. Ok (with_from found (FromGrom address)))
 then_pair (Ok address) found = refl
 then_pair (Err reason) found = refl
 
@@ -101,30 +99,31 @@ module _ {x a : MachineState} {t t1 : ℕ} (stands : Stands x GOMOVE) (dispatche
       let r2 : (find_length v).left.r.r2 < 65536 = subst (λ (w : View). w.r.r2 < 65536) one.shows ((is_view a one.stands.machine).r 2) in
       comes_as_said s (length_of s (length_read s).0) one (subst By (sym (dispatched_is s v dispatched)) (length_ends s v bytes) r2)
 
-  -- what is found from the length on
-  abbrev rest : MoveKind → ℕ → Result ((ℕ × To) × From) Reason
-  rest kind count = target_in s count (target_read kind s).0 >>= λ found. (origin_of s found.0 (source_read kind s).0 >>= λ from. Ok (found, from))
-
   abbrev Finds : MoveKind → MachineState → ℕ → Type 0
-  Finds kind y u = operation_in s ≡ Some (Move kind) → Comes 160 s x y t u MOVEB (BeforeCopy kind s) (copy_in kind s)
+  Finds kind y u = operation_in s ≡ Some (Move kind) → Comes 160 s x y t u MOVEB (BeforeCopy kind s) (whole kind s)
 
   abbrev finds_copy : (y : MachineState) (u : ℕ) → ((kind : MoveKind) → Finds kind y u) → FindsCopy s x y t u
-  finds_copy y u h = record { by = λ kind known. let c = h kind known in c.by }
+  finds_copy y u h = record {
+    by = λ kind known.
+        let c : Comes 160 s x y t u MOVEB (BeforeCopy kind s) (found_in kind s) =
+        subst (Comes 160 s x y t u MOVEB (BeforeCopy kind s)) (found_is kind s) (h kind known) in
+        c.by;
+  }
 
   pub no_length : (a.cpu.pc ≡ MOVEL → ⊥) → FindsCopy s x a t t1
-  no_length away = finds_copy a t1 (λ kind known. comes_stopped (length_of s (length_read s).0) (rest kind) (omega arith) away length)
+  no_length away = finds_copy a t1 (λ kind known. comes_stopped (length_of s (length_read s).0) (found_after_length kind s) (omega arith) away length)
 
   module _ (here : a.cpu.pc ≡ MOVEL) {b : MachineState} {t2 : ℕ} (two : Exits a b t1 t2 (find_places (view a))) where
     after_length : (kind : MoveKind) (y : MachineState) (u : ℕ) →
-        ((count : ℕ) → LengthFound s (length_read s).1 count (view a) → Comes 99 s a y t1 u MOVEB (BeforeCopy kind s) (rest kind count)) →
-        Comes 160 s x y t u MOVEB (BeforeCopy kind s) (copy_in kind s)
-    after_length kind y u next = then_comes (length_of s (length_read s).0) (rest kind) refl here length next
+        ((count : ℕ) → LengthFound s (length_read s).1 count (view a) → Comes 99 s a y t1 u MOVEB (BeforeCopy kind s) (found_after_length kind s count)) →
+        Comes 160 s x y t u MOVEB (BeforeCopy kind s) (whole kind s)
+    after_length kind y u next = then_comes (length_of s (length_read s).0) (found_after_length kind s) refl here length next
 
     memory : (count : ℕ) → Encodes (code_byte s) MemoryToMemory → LengthFound s (length_read s).1 count (view a) →
-        Comes 99 s a b t1 t2 MOVEB (BeforeCopy MemoryToMemory s) (rest MemoryToMemory count)
+        Comes 99 s a b t1 t2 MOVEB (BeforeCopy MemoryToMemory s) (found_after_length MemoryToMemory s count)
     memory count k h =
-        let By : View → Type 0 = λ w. EndsBy (find_places w) 99 MOVEB (BeforeCopy MemoryToMemory s) (StoppedBy s) (rest MemoryToMemory count) in
-        comes_as_said s (rest MemoryToMemory count) two (subst By (sym h) (places_in_memory s count (view a) bytes k))
+        let By : View → Type 0 = λ w. EndsBy (find_places w) 99 MOVEB (BeforeCopy MemoryToMemory s) (StoppedBy s) (found_after_length MemoryToMemory s count) in
+        comes_as_said s (found_after_length MemoryToMemory s count) two (subst By (sym h) (places_in_memory s count (view a) bytes k))
 
     in_memory : Finds MemoryToMemory b t2
     in_memory known = after_length MemoryToMemory b t2 (λ count. memory count (encodes (code_byte s) MemoryToMemory fits known))
@@ -138,18 +137,15 @@ module _ {x a : MachineState} {t t1 : ℕ} (stands : Stands x GOMOVE) (dispatche
         comes_as_said s (target_in s count (target_read kind s).0) two
         (subst By (sym h) (places_to_grom s count (view a) bytes kind (encodes (code_byte s) kind fits known) g))
 
-    abbrev with_source : MoveKind → ℕ × To → Result ((ℕ × To) × From) Reason
-    with_source kind found = origin_of s found.0 (source_read kind s).0 >>= λ from. Ok (found, from)
-
     pub no_target : (b.cpu.pc ≡ MOVES → ⊥) → FindsCopy s x b t t2
     no_target away = finds_copy b t2 (by_kind (λ kind. Finds kind b t2) in_memory (λ kind g known.
         after_length kind b t2 (λ count h.
-        comes_stopped (target_in s count (target_read kind s).0) (with_source kind) (omega arith) away (target kind count g known h))))
+        comes_stopped (target_in s count (target_read kind s).0) (with_source s (source_read kind s).0) (omega arith) away (target kind count g known h))))
 
     module _ (there : b.cpu.pc ≡ MOVES) {c : MachineState} {t3 : ℕ} (three : Exits b c t2 t3 (index_source (view b))) where
       -- it is in memory no longer
       not_memory : (y : MachineState) (u : ℕ) → Finds MemoryToMemory y u
-      not_memory y u known = absurd (comes_there MOVES (copy_in MemoryToMemory s) refl refl (in_memory known) there)
+      not_memory y u known = absurd (comes_there MOVES (whole MemoryToMemory s) refl refl (in_memory known) there)
 
       source : (kind : MoveKind) (found : ℕ × To) → operation_in s ≡ Some (Move kind) → TargetFound s (target_read kind s).1 found (view b) →
           (let index = index_of s kind found (has_index kind) in
@@ -168,12 +164,12 @@ module _ {x a : MachineState} {t t1 : ℕ} (stands : Stands x GOMOVE) (dispatche
           ((found : ℕ × To) → TargetFound s (target_read kind s).1 found (view b) →
           (let index = index_of s kind found (has_index kind) in
           Comes 49 s b y t2 u MOVEB (BeforeCopy kind s) (indexed s index.0 (address s kind found).0 >>= from_address s kind found))) →
-          Comes 160 s x y t u MOVEB (BeforeCopy kind s) (copy_in kind s)
+          Comes 160 s x y t u MOVEB (BeforeCopy kind s) (whole kind s)
       from_target kind y u g known next =
           after_length kind y u (λ count h.
-          then_comes (target_in s count (target_read kind s).0) (with_source kind) refl there (target kind count g known h)
+          then_comes (target_in s count (target_read kind s).0) (with_source s (source_read kind s).0) refl there (target kind count g known h)
           (λ found h.
-          let By : Result ((ℕ × To) × From) Reason → Type 0 = Comes 49 s b y t2 u MOVEB (BeforeCopy kind s) in
+          let By : Result Moving Reason → Type 0 = Comes 49 s b y t2 u MOVEB (BeforeCopy kind s) in
           subst By (sym (origin_is s found kind g)) (next found h)))
 
       pub no_source : c.cpu.pc ≡ GSTOP → FindsCopy s x c t t3
@@ -208,7 +204,7 @@ module _ {x a : MachineState} {t t1 : ℕ} (stands : Stands x GOMOVE) (dispatche
                   counted = run.counted;
                   runs = run.runs;
                   stands = run.stands;
-                  holds = subst (BeforeCopy kind s (found, FromGrom address)) (sym run.holds) (record {
+                  holds = subst (BeforeCopy kind s (with_from found (FromGrom address))) (sym run.holds) (record {
                     cells = refl;
                     vdp = refl;
                     registers = refl;

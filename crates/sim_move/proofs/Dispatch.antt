@@ -1,15 +1,15 @@
 -- MOVE from its dispatch to the end of the step.
 use Rattle.std.proofs.Common.{ℕ, ◌*◌, ◌+◌, ◌≡◌, ap, arith, Err, false, None, Ok, refl, Some, subst, sym, true}
 use Rattle.sim_rows.proofs.Common.{bound, bound_stop, Changes, comes_on, fetched_of, finished, From, FromGrom, FromMemory, GOMOVE, GplState, grom_at, GSTOP}
-use Rattle.sim_rows.proofs.Common.{idle_of, is_turn_end, MachineState, matches, most_to_dispatch, Move, MOVEB, MoveKind, number_of, operation_in, reaches, ReachesWithin, Reason, StoppedBy}
-use Rattle.sim_rows.proofs.Common.{from_dispatch, ShowsState, Stands, Stepped, Stopped, stops, To, Turned, turned_by, View, view, WORKSPACE}
-use Rattle.sim_copy.specs.Copying.{CopiesBytes, StandsFrom}
+use Rattle.sim_rows.proofs.Common.{idle_of, is_exit, is_turn_end, MachineState, matches, most_to_dispatch, Move, MOVEB, MoveKind, Moving, never_exits, number_of, operation_in, reaches, ReachesWithin, Reason, StoppedBy}
+use Rattle.sim_rows.proofs.Common.{from_dispatch, ShowsState, Stands, Stepped, Stopped, stops, Turned, turned_by, View, view, WORKSPACE}
+use Rattle.sim_copy.specs.Copying.{CopiesBytes, MayCopy, StandsFrom}
 use Rattle.sim_move.specs.Family.{is_move}
-use Rattle.sim_move.specs.Moves.{BeforeCopy, begun, copy_in, FindsCopy, MayCopy, source_read, target_read}
+use Rattle.sim_move.specs.Moves.{BeforeCopy, begun, FindsCopy, found_in, source_read, target_read}
 use Rattle.sim_move.proofs.Arrivals.{came, Comes, stopped}
 use Rattle.sim_move.proofs.Copies.{kind_of}
 use Rattle.sim_move.proofs.Ranges.{SourceInRange, registers_there, source_in_range, source_visible, target_in_range, target_visible, TargetInRange}
-use Rattle.sim_move.proofs.MoveSteps.{bound_is, made, no_exit, parts, step_copies, step_stops}
+use Rattle.sim_move.proofs.MoveSteps.{bound_is, made, parts, step_copies, step_stops}
 
 -- where GROM stands before the first byte
 abbrev place_in_grom : Changes → From → ℕ
@@ -20,8 +20,8 @@ grom_of : (c : Changes) (from : From) (w : View) → StandsFrom c from w → w.g
 grom_of c (FromMemory place) w h = h.grom
 grom_of c (FromGrom address) w h = h.grom
 
-sees_of : (kind : MoveKind) (s : GplState) (f : (ℕ × To) × From) (w : View) → BeforeCopy kind s f w → ShowsState s (place_in_grom (begun kind s) f.1) w
-sees_of kind s f w h = record { cells = h.cells; vdp = h.vdp; registers = h.registers; held = h.held; grom = grom_of (begun kind s) f.1 w h.stands_from }
+sees_of : (kind : MoveKind) (s : GplState) (f : Moving) (w : View) → BeforeCopy kind s f w → ShowsState s (place_in_grom (begun kind s) f.from) w
+sees_of kind s f w h = record { cells = h.cells; vdp = h.vdp; registers = h.registers; held = h.held; grom = grom_of (begun kind s) f.from w h.stands_from }
 
 module _ (s : GplState) {x a : MachineState} {t t1 : ℕ} (stands : Stands x GOMOVE) (family : is_move (operation_in s) ≡ true) (finds : FindsCopy s x a t t1)
   where
@@ -35,13 +35,13 @@ module _ (s : GplState) {x a : MachineState} {t t1 : ℕ} (stands : Stands x GOM
     start : is_turn_end x.cpu.pc ≡ false
     start = ap is_turn_end stands.pc
 
-    arrives : Comes 160 s x a t t1 MOVEB (BeforeCopy kind s) (copy_in kind s)
+    arrives : Comes 160 s x a t t1 MOVEB (BeforeCopy kind s) (found_in kind s)
     arrives = record { by = finds.by kind known }
 
     -- a check fails
     module _ (here : a.cpu.pc ≡ GSTOP) where
-      m : (reason : Reason) × (copy_in kind s ≡ Err reason) × ReachesWithin 160 x a t t1 GSTOP (StoppedBy s reason)
-      m = stopped (copy_in kind s) arrives refl here
+      m : (reason : Reason) × (found_in kind s ≡ Err reason) × ReachesWithin 160 x a t t1 GSTOP (StoppedBy s reason)
+      m = stopped (found_in kind s) arrives refl here
 
       pub workspace : a.cpu.wp ≡ WORKSPACE
       workspace = m.2.stands.wp
@@ -60,38 +60,38 @@ module _ (s : GplState) {x a : MachineState} {t t1 : ℕ} (stands : Stands x GOM
           let P : Reason → Type 0 = λ r. Turned s x a (from_dispatch t t1) (Stopped r) in
           subst P (sym same)
           (turned_by x a t t1 most_to_dispatch (Stopped m.0) s (Err m.0) e
-          (refl, reaches most_to_dispatch (bound s) m.2 start refl (omega arith), stops s m.0 a (no_exit s kind m.0 m.1) m.2.stands m.2.holds))
+          (refl, reaches most_to_dispatch (bound s) m.2 start refl (omega arith), stops s m.0 a (never_exits s m.0 (ap is_exit known) e) m.2.stands m.2.holds))
 
     -- all is found
     module _ (away : a.cpu.pc ≡ GSTOP → ⊥) where
-      g : (found : (ℕ × To) × From) × (copy_in kind s ≡ Ok found) × ReachesWithin 160 x a t t1 MOVEB (BeforeCopy kind s found)
-      g = came (copy_in kind s) arrives away
+      g : (found : Moving) × (found_in kind s ≡ Ok found) × ReachesWithin 160 x a t t1 MOVEB (BeforeCopy kind s found)
+      g = came (found_in kind s) arrives away
 
-      target_range : TargetInRange g.0.0.0 g.0.0.1
-      target_range = target_in_range s g.0.0.0 (target_read kind s).0 g.0.0.1 (parts s kind g.0 g.1).target
+      target_range : TargetInRange g.0.bytes g.0.to
+      target_range = target_in_range s g.0.bytes (target_read kind s).0 g.0.to (parts s kind g.0 g.1).target
 
-      source_range : SourceInRange g.0.0.0 g.0.1
-      source_range = source_in_range s g.0.0.0 (source_read kind s).0 g.0.1 (parts s kind g.0 g.1).source
+      source_range : SourceInRange g.0.bytes g.0.from
+      source_range = source_in_range s g.0.bytes (source_read kind s).0 g.0.from (parts s kind g.0 g.1).source
 
       pub may_copy : MayCopy a
       may_copy =
           let h = g.2.holds in
-          let at = place_in_grom (begun kind s) g.0.1 in
+          let at = place_in_grom (begun kind s) g.0.from in
           let sees = sees_of kind s g.0 (view a) h in
           record {
             stands = g.2.stands;
             idle = idle_of a.cpu.memory s at sees;
             fetched = fetched_of a.cpu.memory s at sees;
-            source = source_visible g.0.0.0 (begun kind s) g.0.1 (view a) h.stands_from h.left source_range;
-            target = target_visible g.0.0.0 g.0.0.1 (view a) h.stands_to h.left target_range;
-            registers = registers_there g.0.0.0 g.0.0.1 (view a) h.stands_to h.left target_range;
+            source = source_visible g.0.bytes (begun kind s) g.0.from (view a) h.stands_from h.left source_range;
+            target = target_visible g.0.bytes g.0.to (view a) h.stands_to h.left target_range;
+            registers = registers_there g.0.bytes g.0.to (view a) h.stands_to h.left target_range;
           }
 
       pub turned : {y : MachineState} {t2 : ℕ} → CopiesBytes a y t1 t2 → Turned s x y (from_dispatch t t2) Stepped
       turned {y = y} {t2 = t2} copies =
-          let bytes = g.0.0.0 in
+          let bytes = g.0.bytes in
           let next = finished (made s kind g.0) in
-          let c = comes_on 160 (31 * bytes + 41) g.2 (copies (begun kind s) g.0.1 g.0.0.1 bytes g.2.holds) refl in
+          let c = comes_on 160 (31 * bytes + 41) g.2 (copies (begun kind s) g.0.from g.0.to bytes g.2.holds) refl in
           let e = step_copies s kind known g.0 g.1 in
           let b = bound_is s kind known g.0 g.1 in
           turned_by x y t t2 most_to_dispatch Stepped s (Ok next) e (refl, reaches most_to_dispatch (bound s) c start refl (omega arith), matches next y c.stands c.holds)

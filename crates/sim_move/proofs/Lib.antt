@@ -3,6 +3,7 @@ pub mod Paths
 pub mod Codes
 pub mod Arrivals
 pub mod Seen
+pub mod Found
 pub mod Lengths
 pub mod Targets
 pub mod Sources

@@ -2,13 +2,14 @@
 use Rattle.std.proofs.Common.{ℕ, ◌+◌, ◌≡◌, ◌≤◌, ap, arith, Err, false, nat_lt, Ok, refl, Result, slice_index, subst, sym, true}
 use Rattle.std.proofs.lemmas.Bool.{le-leb, lt-leb, ltb-false, ltb-true}
 use Rattle.sim_rows.proofs.Common.{◌>>=◌, ADDR, code_byte, exit, From, FromMemory, Goes, goes_in, GplOperand, grom_at, GplState}
-use Rattle.sim_rows.proofs.Common.{GromIndexedToMemory, GromToMemory, GromToRegisters, Length, MemoryToMemory, MOVEB, MOVED, MoveKind, MOVER, MOVES}
-use Rattle.sim_rows.proofs.Common.{next_in_grom, number_of_space, operand_at, origin_of, pick, Place, place_of, Reason}
+use Rattle.sim_rows.proofs.Common.{GromIndexedToMemory, GromToMemory, GromToRegisters, Length, MemoryToMemory, MOVEB, MOVED, MoveKind, MOVER, MOVES, Moving}
+use Rattle.sim_rows.proofs.Common.{next_in_grom, number_of_space, operand_at, pick, Place, place_of, Reason}
 use Rattle.sim_rows.proofs.Common.{StoppedBy, sum_of, target_of, To, ToMemory, View, Word}
 use Rattle.sim_rows.specs.sim_view.Prelude.{HoldsBytes}
 use Rattle.sim_rows.specs.gpl_defs.declared.instruction.MoveSource.TheVariants as source
 use Rattle.sim_rows.specs.gpl_defs.declared.instruction.MoveTarget.TheVariants as target
-use Rattle.sim_move.specs.Moves.{BeforeCopy, length_read, source_read, target_in, target_read}
+use Rattle.sim_move.specs.Moves.{BeforeCopy, length_read, source_read, target_read}
+use Rattle.sim_move.proofs.Found.{found_after_length, target_in, with_from, with_source}
 use Rattle.sim_rows.specs.sim_operands.Routines.{find_operand}
 use Rattle.sim_rows.proofs.sim_operands.Ends.{after, EndsBy, ends_into, ends_within, then_ends}
 use Rattle.sim_move.specs.Rows.{find_in_memory, find_places, find_source}
@@ -42,12 +43,9 @@ module _ (s : GplState) (count next : ℕ) (u : View) where
   abbrev read : GplOperand × ℕ
   read = operand_at s.image operand.1
 
-  abbrev with_source : ℕ × To → Result ((ℕ × To) × From) Reason
-  with_source found = origin_of s found.0 (source.At read.0) >>= λ from. Ok (found, from)
-
   joined : (r : Result Place Reason) →
-      (((r >>= λ place. Ok (ToMemory place)) >>= λ to. Ok (count, to)) >>= with_source)
-      ≡ (r >>= λ place. with_source (count, ToMemory place))
+      (((r >>= λ place. Ok (ToMemory place)) >>= λ to. Ok (count, to)) >>= with_source s (source.At read.0))
+      ≡ (r >>= λ place. with_source s (source.At read.0) (count, ToMemory place))
   joined (Ok place) = refl
   joined (Err reason) = refl
 
@@ -93,18 +91,18 @@ module _ (s : GplState) (count next : ℕ) (u : View) where
     from_memory : (place : Place) (r4 r6 : ℕ) → nat_lt (code_byte s) 0x34 ≡ false →
         (source_read MemoryToMemory s).1 ≡ read.1 →
         EndsBy (find_source (at_target place r4 r6)) 43 MOVEB (BeforeCopy MemoryToMemory s) (StoppedBy s)
-        (with_source (count, ToMemory place))
+        (with_source s (source.At read.0) (count, ToMemory place))
     unfolding find_source
     from_memory place r4 r6 high next_is =
         let w = at_target place r4 r6 in
         let q = record w { r = record w.r { r7 = w.r.r2; r8 = w.r.r5; r11 = MOVEB } } in
         let found = place_of s count read.0 in
-        let pair : From → (ℕ × To) × From = λ from. ((count, ToMemory place), from) in
-        let result = with_source (count, ToMemory place) in
+        let moving : From → Moving = with_from (count, ToMemory place) in
+        let result = with_source s (source.At read.0) (count, ToMemory place) in
         rw high (after (exit 5 ADDR q) find_operand 5 result (omega arith)
-        (ends_into (found >>= λ p. Ok (FromMemory p)) pair
+        (ends_into (found >>= λ p. Ok (FromMemory p)) moving
         (ends_into found FromMemory (operand_found s operand.1 q bytes few)
-        (λ p w at_source. subst (BeforeCopy MemoryToMemory s (pair (FromMemory p))) (sym at_source.is) (record {
+        (λ p w at_source. subst (BeforeCopy MemoryToMemory s (moving (FromMemory p))) (sym at_source.is) (record {
           cells = refl;
           vdp = refl;
           registers = refl;
@@ -118,17 +116,18 @@ module _ (s : GplState) (count next : ℕ) (u : View) where
 
     pub to_memory_source : nat_lt (code_byte s) 0x34 ≡ false → (source_read MemoryToMemory s).1 ≡ read.1 →
         EndsBy (find_in_memory asked) 81 MOVEB (BeforeCopy MemoryToMemory s) (StoppedBy s)
-        ((target_of s count (target.At operand.0) >>= λ to. Ok (count, to)) >>= with_source)
+        ((target_of s count (target.At operand.0) >>= λ to. Ok (count, to)) >>= with_source s (source.At read.0))
     unfolding find_in_memory
     to_memory_source high next_is =
         let found = place_of s count operand.0 in
-        let by : Result ((ℕ × To) × From) Reason → Type 0 =
+        let by : Result Moving Reason → Type 0 =
         EndsBy (find_in_memory asked) 81 MOVEB (BeforeCopy MemoryToMemory s) (StoppedBy s) in
         subst by (sym (joined found))
-        (then_ends MOVED (find_operand asked) find_source found (λ place. with_source (count, ToMemory place)) refl
+        (then_ends MOVED (find_operand asked) find_source found (λ place. with_source s (source.At read.0) (count, ToMemory place)) refl
         (operand_found s next asked bytes few)
         (λ place known p.
-        subst (λ (w : View). EndsBy (find_source w) 43 MOVEB (BeforeCopy MemoryToMemory s) (StoppedBy s) (with_source (count, ToMemory place)))
+        subst (λ (w : View). EndsBy (find_source w) 43 MOVEB (BeforeCopy MemoryToMemory s) (StoppedBy s)
+        (with_source s (source.At read.0) (count, ToMemory place)))
         (sym p.is) (from_memory place p.r4 p.r6 high next_is)))
 
 -- ---- from MOVEL on
@@ -174,11 +173,11 @@ module _ (s : GplState) (count : ℕ) (u : View) (bytes : HoldsBytes 65536 s.ima
 
   -- the source is in memory
   pub places_in_memory : Encodes (code_byte s) MemoryToMemory →
-      Finds 99 MOVEB (BeforeCopy MemoryToMemory s) (target_in s count (target_read MemoryToMemory s).0 >>= λ found.
-      (origin_of s found.0 (source_read MemoryToMemory s).0 >>= λ from. Ok (found, from)))
+      Finds 99 MOVEB (BeforeCopy MemoryToMemory s) (found_after_length MemoryToMemory s count)
   unfolding find_places
   places_in_memory k =
-      let q : Result ((ℕ × To) × From) Reason = (target_of s count (target_read MemoryToMemory s).0 >>= λ to. Ok (count, to)) >>= with_source s count next counted in
+      let to : Result (ℕ × To) Reason = target_of s count (target_read MemoryToMemory s).0 >>= λ to. Ok (count, to) in
+      let q : Result Moving Reason = to >>= with_source s (source_read MemoryToMemory s).0 in
       pick (nat_lt 0x4000 count)
       (λ above. rw above (record { by = goes_in (omega arith) (halted s next Length counted) }))
       (λ few. rw (few, k.memory)

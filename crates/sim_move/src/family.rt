@@ -4,8 +4,7 @@ ghost use Rattle.std.specs.Prelude.{◌≡◌, true};
 ghost use Rattle.sim_rows.specs.Prelude.{AtDispatch, Dispatched, from_dispatch, operation_in_view, Stands};
 ghost use Rattle.sim_rows.specs.Prelude.{state_at_dispatch, Turned, view};
 ghost use Rattle.sim_move.specs.Family.{is_move};
-ghost use Rattle.sim_copy.specs.Copying.{CopiesBytes};
-ghost use Rattle.sim_move.specs.Moves.{FindsCopy, MayCopy};
+ghost use Rattle.sim_move.specs.Moves.{FindsCopy};
 ghost use Rattle.sim_rows.specs.native_interp.declared.addresses.TheConstants as address;
 
 use crate::length::find_length;
@@ -40,14 +39,6 @@ fn decode_move<L: Ledger>(machine: &mut Machine, steps: &mut Steps<L>)
     turn_to_source(machine, steps);
 }
 
-/// Copies the bytes, once all is found.
-fn copy_found<L: Ledger>(machine: &mut Machine, steps: &mut Steps<L>)
-    requires { MayCopy machine.old }
-    ensures { CopiesBytes machine.old machine.new steps.old steps.new }
-{
-    copy_bytes(machine, steps);
-}
-
 /// Runs MOVE from its dispatch to the end of the step. It stops by reason 2 where a cell of its operands
 /// or of the index is not visible, by reason 4 where it is longer than 16,384 bytes, and by reason 5
 /// where a register is not there.
@@ -63,6 +54,6 @@ pub fn run_move<L: Ledger>(machine: &mut Machine, steps: &mut Steps<L>) -> Turn
         };
         return Turn::Stopped(reason);
     }
-    copy_found(machine, steps);
+    copy_bytes(machine, steps);
     Turn::Stepped
 }

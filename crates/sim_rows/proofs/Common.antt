@@ -17,7 +17,8 @@ pub use Rattle.sim_rows.proofs.FirstOperand.{operand_stop, barred_stops, finds_o
 pub use Rattle.sim_rows.proofs.FirstOperand.{space_small}
 pub use Rattle.sim_rows.proofs.Operands.{value_same, visible_of}
 pub use Rattle.sim_rows.proofs.Places.{Lies, lies_at, place_lies}
-pub use Rattle.sim_rows.proofs.WholeRows.{both, destination_visible, row_changed}
+pub use Rattle.sim_rows.proofs.OnlyExit.{is_exit, never_exits}
+pub use Rattle.sim_rows.proofs.WholeRows.{both, destination_visible, row_changed, TurnsBy}
 pub use Rattle.sim_rows.proofs.Sources.{code_fits}
 pub use Rattle.sim_rows.proofs.Steps.{bound_made, bound_stop, place_same, step_branch, step_byte, step_jump, step_move, step_none, step_plain}
 pub use Rattle.sim_rows.proofs.StoredResults.{changed_again, ChangedFrom, store_then, stored_idle, storing_again, value_keeps, width_again}
@@ -37,8 +38,8 @@ pub use Rattle.sim_rows.specs.Prelude.{GromToRegisters, grown_by, GSTEP, GSTOP, 
 pub use Rattle.sim_rows.specs.Prelude.{in_register, INCTV, INDEX, index_by, indexed, INVV, is_turn_end, is_grom_idle, is_immediate, is_row, is_set, is_taken}
 pub use Rattle.sim_rows.specs.Prelude.{is_vdp_idle, is_visible, IsFetched, IsMachine, IsMatching, IsMemory, IsNewVdp, IsStatus, IsTurn, IsVisible, join, Jump}
 pub use Rattle.sim_rows.specs.Prelude.{last_out, Length, length_at, length_of, LOAD, Loaded, loaded_of, LoadsFrom, LoadsFromSource, LoadsStream, LoadsValue}
-pub use Rattle.sim_rows.specs.Prelude.{low, MachineState, marked_by, Matches, Memory, MemoryToMemory, modulus, most_to_dispatch, Move, MOVEA, MOVEB, MOVED}
-pub use Rattle.sim_rows.specs.Prelude.{moved, MOVEK, MoveKind, MOVEL, MoveLength, MOVEN, MOVER, MOVES, MoveSource, MoveTarget, MOVEW, MOVEX, MUL, MULB, MULV}
+pub use Rattle.sim_rows.specs.Prelude.{low, MachineState, marked_by, Matches, Memory, MemoryToMemory, modulus, most_to_dispatch, Move, move_found, MOVEA, MOVEB, MOVED}
+pub use Rattle.sim_rows.specs.Prelude.{MOVEK, MoveKind, MOVEL, MoveLength, MOVEN, MOVER, MOVES, MoveSource, MoveTarget, MOVEW, MOVEX, Moving, MUL, MULB, MULV}
 pub use Rattle.sim_rows.specs.Prelude.{negation_flags, negation_of, NEGV, new_grom, next_at, next_from, next_in_grom, next_in_vdp, next_of, next_seed, next_to}
 pub use Rattle.sim_rows.specs.Prelude.{number_of, number_of_space, of_register, on_stack, One, one_more, OneName, ones_cleared, ones_set, Opcode}
 pub use Rattle.sim_rows.specs.Prelude.{operands_of, operation_at, operation_entry, operation_in, operation_in_view, origin_of, ORV, OVER, OVF, pair_kind}
@@ -50,7 +51,7 @@ pub use Rattle.sim_rows.specs.Prelude.{signed, size_of, SLA, SLLB, SLLV, Source,
 pub use Rattle.sim_rows.specs.Prelude.{SRLB, SRLV, ST, Stack, Stands, STATB, state_at_dispatch, state_of, STATUS, Status, status_byte, status_of, status_word}
 pub use Rattle.sim_rows.specs.Prelude.{step, Stepped, steps, STO, Stopped, StoppedBy, STORE, Stored, StoresRegister, StoresResult, StoresTo, StoresValue}
 pub use Rattle.sim_rows.specs.Prelude.{Storing, STREAM, streamed, STV, SUBV, sum_flags, sum_of, swapped, TAKE, target_of, To, ToMemory, ToRegisters, Turn}
-pub use Rattle.sim_rows.specs.Prelude.{from_dispatch, Turned, TurnedBy, TurnsBy, TurnsRow, Two, two, TwoName, unchanged, unit, UNKN, value_at, Vdp, vdp_address_written}
+pub use Rattle.sim_rows.specs.Prelude.{from_dispatch, Turned, TurnedBy, Two, two, TwoName, unchanged, unit, UNKN, value_at, Vdp, vdp_address_written}
 pub use Rattle.sim_rows.specs.Prelude.{vdp_data_written, VdpState, View, view, WHERE, Width, width_in, with_byte, with_byte_from, with_byte_in, with_byte_to}
 pub use Rattle.sim_rows.specs.Prelude.{with_cell, with_condition, with_double, with_immediate, with_overflow, with_pc, with_quotient, with_register}
 pub use Rattle.sim_rows.specs.Prelude.{with_status, with_stop, with_tested, with_value, with_word, with_word_in, within_limit, Word, word_at, word_in, word_of}

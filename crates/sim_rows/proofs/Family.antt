@@ -1,15 +1,13 @@
 -- A row of a family, from its dispatch to the end of the step: the same for every family.
-use Rattle.std.proofs.Common.{ℕ, ◌<◌, ◌∙◌, ◌≡◌, ◌≤◌, ap, arith, Bool, Err, false, None, Option, refl, Some, subst, sym, true}
+use Rattle.std.proofs.Common.{ℕ, ◌<◌, ◌∙◌, ◌≡◌, ◌≤◌, ap, arith, Bool, false, None, Option, refl, Some, subst, sym, true}
 use Rattle.sim_view.proofs.Common.{is_view}
 use Rattle.sim_rows.specs.Prelude.{AtDispatch, AtEntry, bytes_by, Cell, code_byte, GplOperation, GplState, HasStarted, is_turn_end, is_row, IsVisible}
-use Rattle.sim_rows.specs.Prelude.{MachineState, next_of, operation_entry, operation_in, row_entry, row_result, row_width, RunsRow, size_of}
-use Rattle.sim_rows.specs.Prelude.{from_dispatch, state_at_dispatch, Stepped, Stopped, Turn, Turned, TurnsRow, view, Width, width_in}
-use Rattle.sim_view.specs.gpl_step_defs.declared.reason.Reason.{Reason}
-use Rattle.sim_view.specs.gpl_step_defs.declared.reason.Reason.TheVariants.{Exit}
+use Rattle.sim_rows.specs.Prelude.{MachineState, next_of, operation_entry, operation_in, row_entry, row_width, RunsRow, size_of}
+use Rattle.sim_rows.specs.Prelude.{from_dispatch, state_at_dispatch, Stepped, Stopped, Turn, Turned, view, Width, width_in}
 use Rattle.sim_rows.proofs.Ends.{fetched_of, idle_of}
 use Rattle.sim_rows.proofs.FirstOperand.{space_small}
 use Rattle.sim_rows.proofs.StoredResults.{width_again}
-use Rattle.sim_rows.proofs.WholeRows.{destination_visible, Started, started, stopped_row, turned_or_stopped, turned_row}
+use Rattle.sim_rows.proofs.WholeRows.{destination_visible, Started, started, stopped_row, turned_or_stopped, turned_row, TurnsRow}
 use Rattle.sim_view.specs.gpl_defs.declared.instruction.OneName.TheVariants as one
 use Rattle.sim_view.specs.gpl_defs.declared.instruction.TwoName.TheVariants as two
 use Rattle.sim_view.specs.gpl_defs.declared.instruction.GplOperation.TheVariants as operation
@@ -93,8 +91,7 @@ module _ {belongs : Option GplOperation → Bool} (rows : (o : Option GplOperati
     pub turned : (most : ℕ) {z : MachineState} {v : ℕ} → most ≤ 260 → RunsRow op most y z u v → Turned s x z (from_dispatch t v) Stepped
     turned most {z = z} {v = v} le r = turned_row s x t fits start row op y z u v most begun of.goes r le
 
-    -- the same of a row that may stop, but not as EXIT does
-    pub turned_or : (most : ℕ) (z : MachineState) (v : ℕ) (turn : Turn) →
-        ((reason : Reason) → row_result op s begun.place begun.source ≡ Err reason → reason ≡ Exit → ⊥) → most ≤ 220 →
-        TurnsRow op most y z u v turn → Turned s x z (from_dispatch t v) turn
-    turned_or most z v turn other le r = turned_or_stopped s x t fits start row op y z u v most turn begun of.goes other r le
+    -- the same of a row that may stop
+    pub turned_or : (most : ℕ) (z : MachineState) (v : ℕ) (turn : Turn) → most ≤ 220 → TurnsRow op most y z u v turn →
+        Turned s x z (from_dispatch t v) turn
+    turned_or most z v turn le r = turned_or_stopped s x t fits start row op y z u v most turn begun of.goes r le

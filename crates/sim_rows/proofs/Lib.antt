@@ -8,6 +8,7 @@ pub mod Codes
 pub mod Steps
 pub mod Ends
 pub mod Places
+pub mod OnlyExit
 pub mod Entries
 pub mod FirstOperand
 pub mod Operands

@@ -17,13 +17,13 @@ unfolding reading
 reading_is s = refl
 
 -- the step, and the bound of one that is made, by an operation
-abbrev by_operation : GplState → Option GplOperation → Result GplState Reason
+abbrev pub by_operation : GplState → Option GplOperation → Result GplState Reason
 by_operation s o = executed (read_by o (code_byte s) s.image (behind_code s)) s
 
 abbrev bound_by_operation : GplState → Option GplOperation → ℕ
 bound_by_operation s o = bound_at (read_by o (code_byte s) s.image (behind_code s)) s
 
-step_is : (s : GplState) (o : Option GplOperation) → operation_at (code_byte s) ≡ o → step s ≡ by_operation s o
+pub step_is : (s : GplState) (o : Option GplOperation) → operation_at (code_byte s) ≡ o → step s ≡ by_operation s o
 step_is s o e =
     let run : GplRead → Result GplState Reason = λ r. executed r s in
     let read : Option GplOperation → GplRead = λ o. read_by o (code_byte s) s.image (behind_code s) in

@@ -4,11 +4,11 @@ use Rattle.sim_view.proofs.Common.{comes_on}
 use Rattle.sim_rows.specs.Prelude.{◌>>=◌, AtRow, behind_code, bound, Cell, ShowsChanges, Changes, code_byte, ReachesWithin, destination_bytes, finished, first_of, gone_on}
 use Rattle.sim_rows.specs.Prelude.{GplOperation, GplSource, GplState, GSTEP, GSTOP, has_source, is_turn_end, is_row, MachineState, number_of_space, operand_at}
 use Rattle.sim_rows.specs.Prelude.{operands_of, operation_in, Place, place_of, Reason, result_of, row_entry, row_result, row_width, RunsRow, second_by}
-use Rattle.sim_rows.specs.Prelude.{from_dispatch, second_of, SeesResult, size_of, Source, source_of, source_read, StartsRow, step, Stepped, Stopped, StoppedBy, Turn, Turned}
-use Rattle.sim_rows.specs.Prelude.{TurnsBy, TurnsRow, unchanged, value_at, View, Width}
-use Rattle.sim_view.specs.gpl_step_defs.declared.reason.Reason.TheVariants.{Exit}
+use Rattle.sim_rows.specs.Prelude.{from_dispatch, second_of, SeesFinished, SeesResult, size_of, Source, source_of, source_read, StartsRow, step, Stepped, Stopped, StoppedBy, Turn, Turned}
+use Rattle.sim_rows.specs.Prelude.{unchanged, value_at, View, view, Width}
 use Rattle.sim_view.specs.gpl_defs.declared.instruction.GplSource.TheVariants as source
 use Rattle.sim_view.specs.gpl_defs.declared.instruction.GplOperation.TheVariants as operation
+use Rattle.sim_rows.proofs.OnlyExit.{never_exits, row_stays}
 use Rattle.sim_rows.proofs.Places.{Lies, place_lies}
 use Rattle.sim_rows.proofs.Steps.{bound_made, bound_stop, row_after, step_row}
 use Rattle.sim_rows.proofs.Ends.{matches, reaches, stops, turned_by}
@@ -16,6 +16,19 @@ use Rattle.sim_rows.proofs.Destinations.{first_visible}
 use Rattle.sim_rows.proofs.Operands.{value_same}
 use Rattle.sim_view.specs.Bounds.{most_to_row, most_to_row_stop}
 use Rattle.sim_view.specs.interp_defs.Interpreter.{most_to_dispatch}
+
+-- A row that may stop, with its answer: from its entry to the end of the step.
+abbrev pub TurnsBy : ℕ → GplState → MachineState → MachineState → ℕ → ℕ → Turn → Result Changes Reason → Type 0
+TurnsBy most s x y before after turn (Ok c) = (turn ≡ Stepped)
+    × ReachesWithin most x y before after GSTEP (SeesFinished c)
+TurnsBy most s x y before after turn (Err reason) =
+    (turn ≡ Stopped reason) × ReachesWithin most x y before after GSTOP (StoppedBy s reason)
+
+abbrev pub TurnsRow : GplOperation → ℕ → MachineState → MachineState → ℕ → ℕ → Turn → Type 0
+TurnsRow operation most x y before after turn =
+    (s : GplState) → (place : Place) → (source : Source) → operation_in s ≡ Some operation
+    → AtRow s place source (view x) → operands_of s ≡ Ok (place, source)
+    → TurnsBy most s x y before after turn (row_result operation s place source)
 
 -- ---- at the entry of a row
 
@@ -195,15 +208,15 @@ module _ (s : GplState) (x : MachineState) (t : ℕ) (fits : code_byte s < 256) 
   -- a row that may stop, by what was made of the operands
   turned_as : (y : MachineState) (u most : ℕ) (place : Place) (source : Source) (op : GplOperation) (turn : Turn) → operation_in s ≡ Some op →
       operands_of s ≡ Ok (place, source) → most ≤ 371 →
-      (r : Result Changes Reason) → row_result op s place source ≡ r → ((reason : Reason) → r ≡ Err reason → reason ≡ Exit → ⊥) →
-      TurnsBy most s x y t u turn r → Turned s x y (from_dispatch t u) turn
-  turned_as y u most place source op turn e is le (Ok c) f other run =
+      (r : Result Changes Reason) → row_result op s place source ≡ r → TurnsBy most s x y t u turn r → Turned s x y (from_dispatch t u) turn
+  turned_as y u most place source op turn e is le (Ok c) f run =
       subst (λ (a : Turn). Turned s x y (from_dispatch t u) a) (sym run.0) (made y u most place source op e is (omega arith) (Ok c) f run.1)
-  turned_as y u most place source op turn e is le (Err reason) f other run =
+  turned_as y u most place source op turn e is le (Err reason) f run =
       let step_is = step_of place source op e is (Err reason) f in
       let b = bound_stop s reason step_is in
+      let other = never_exits s reason (row_stays (operation_in s) row) step_is in
       turned_by x y t u most_to_dispatch turn s (Err reason) step_is
-      (run.0, reaches most_to_dispatch (bound s) run.1 start refl (omega arith), stops s reason y (other reason refl) run.1.stands run.1.holds)
+      (run.0, reaches most_to_dispatch (bound s) run.1 start refl (omega arith), stops s reason y other run.1.stands run.1.holds)
 
   ends_as : (op : GplOperation) (y z : MachineState) (u v most : ℕ) (place : Place) (source : Source) (turn : Turn) →
       ReachesWithin most_to_row x y t u (row_entry (Some op)) (AtRow s place source) →
@@ -212,10 +225,9 @@ module _ (s : GplState) (x : MachineState) (t : ℕ) (fits : code_byte s < 256) 
   ends_as op y z u v most place source turn c entry (Err reason) h = (h.0, comes_on 127 most c h.1 entry)
 
   pub turned_or_stopped : (op : GplOperation) (y z : MachineState) (u v most : ℕ) (turn : Turn) (b : Started op y u) → is_turn_end (row_entry (Some op)) ≡ false →
-      ((reason : Reason) → row_result op s b.place b.source ≡ Err reason → reason ≡ Exit → ⊥) → TurnsRow op most y z u v turn → most ≤ 220 →
-      Turned s x z (from_dispatch t v) turn
-  turned_or_stopped op y z u v most turn b entry other r le =
-      turned_as z v (127 + most) b.place b.source op turn b.is_operation b.is_both (omega arith) (row_result op s b.place b.source) refl other
+      TurnsRow op most y z u v turn → most ≤ 220 → Turned s x z (from_dispatch t v) turn
+  turned_or_stopped op y z u v most turn b entry r le =
+      turned_as z v (127 + most) b.place b.source op turn b.is_operation b.is_both (omega arith) (row_result op s b.place b.source) refl
       (ends_as op y z u v most b.place b.source turn b.comes entry (row_result op s b.place b.source)
       (r s b.place b.source b.is_operation b.comes.holds b.is_both))
 

@@ -25,9 +25,10 @@ pub use Rattle.sim_view.specs.Prelude.{indexed, INTERP, INV, INVV, is_turn_end, 
 pub use Rattle.sim_view.specs.Prelude.{is_vdp_idle, is_visible, IsBoot, IsFetched, IsHalted, IsMachine, IsMatching}
 pub use Rattle.sim_view.specs.Prelude.{IsMemory, IsNewVdp, IsStatus, IsTurn, join, Jump, jump, last_out, LDATA}
 pub use Rattle.sim_view.specs.Prelude.{Length, length_at, length_of, listed, LOAD, low, MachineState, Matches, Memory}
-pub use Rattle.sim_view.specs.Prelude.{MemoryToMemory, modulus, most_to_dispatch, Move, MOVEA, MOVEB, moved, MOVED}
-pub use Rattle.sim_view.specs.Prelude.{MOVEK, MoveKind, MOVEL, MoveLength, MOVEN, MOVER, MOVES, MoveSource}
-pub use Rattle.sim_view.specs.Prelude.{MoveTarget, MOVEW, MOVEX, MUL, MULB, MULV, NEG, negation_flags, negation_of}
+pub use Rattle.sim_view.specs.Prelude.{MemoryToMemory, modulus, most_to_dispatch, Move, move_found, MOVEA, MOVEB}
+pub use Rattle.sim_view.specs.Prelude.{moved, MOVED, MOVEK, MoveKind, MOVEL, MoveLength, MOVEN, MOVER, MOVES}
+pub use Rattle.sim_view.specs.Prelude.{MoveSource, MoveTarget, MOVEW, MOVEX, Moving, MUL, MULB, MULV, NEG}
+pub use Rattle.sim_view.specs.Prelude.{negation_flags, negation_of}
 pub use Rattle.sim_view.specs.Prelude.{NEGV, new_grom, next_from, next_in_grom, next_in_vdp, next_seed, next_to}
 pub use Rattle.sim_view.specs.Prelude.{NoOperation, number_of, on_stack, one, One, one_more, OneName, ones_cleared}
 pub use Rattle.sim_view.specs.Prelude.{ones_set, Opcode, operation_at, operation_entry, OPTAB}
@@ -59,7 +60,7 @@ pub use Rattle.sim_operands.specs.Subroutines.{LoadsValue, marked_by, next_at, p
 pub use Rattle.sim_operands.specs.Subroutines.{StoresRegister, StoresValue, streamed}
 pub use Rattle.sim_operands.specs.Values.{in_register, IsVisible, number_of_space, of_register, width_in}
 pub use Rattle.sim_rows.specs.Results.{ShowsChanges, EndsRow, HasStarted, result_of, row_result, RunsRow, SeesFinished}
-pub use Rattle.sim_rows.specs.Results.{SeesResult, StartsRow, StoresResult, Storing, TurnsBy, TurnsRow}
+pub use Rattle.sim_rows.specs.Results.{SeesResult, StartsRow, StoresResult, Storing}
 pub use Rattle.sim_rows.specs.Rows.{Asking, AtEntry, AtRow, behind_destination, behind_first, bytes_by}
 pub use Rattle.sim_rows.specs.Rows.{destination_bytes, first_of, gone_on, has_source, Holds, is_immediate, is_row}
 pub use Rattle.sim_rows.specs.Rows.{KeepsDestination, Kept, loaded_of, LoadsBy, LoadsDestination, LoadsFrom}

@@ -1,8 +1,7 @@
 -- What a row makes of its operands, and views of the machine from the row's entry to the end of the step.
 use Rattle.std.specs.Prelude.{ℕ, ◌≡◌, Err, None, Ok, Option, Result, Some}
 use Rattle.sim_view.specs.Prelude.{Changes, ReachesWithin, finished, GplOperation, GplState, GSTEP, GSTOP, MachineState}
-use Rattle.sim_view.specs.Prelude.{One}
-use Rattle.sim_view.specs.Prelude.{one, Place, Reason, row_entry, size_of, Source, Stepped, Stopped, Turn, Two, two}
+use Rattle.sim_view.specs.Prelude.{One, one, Place, Reason, row_entry, size_of, Source, Two, two}
 use Rattle.sim_view.specs.Prelude.{unchanged, value_at, View, view, Width, with_value}
 use Rattle.sim_operands.specs.Values.{of_register}
 use Rattle.sim_operands.specs.Subroutines.{grom_at, marked_by}
@@ -75,16 +74,3 @@ RunsRow operation most x y before after =
     (s : GplState) → (place : Place) → (source : Source) → operation_in s ≡ Some operation
     → AtRow s place source (view x) → operands_of s ≡ Ok (place, source)
     → ReachesWithin most x y before after GSTEP (SeesResult (row_result operation s place source))
-
--- The same of a row that may stop, with its answer.
-abbrev pub TurnsBy : ℕ → GplState → MachineState → MachineState → ℕ → ℕ → Turn → Result Changes Reason → Type 0
-TurnsBy most s x y before after turn (Ok c) = (turn ≡ Stepped)
-    × ReachesWithin most x y before after GSTEP (SeesFinished c)
-TurnsBy most s x y before after turn (Err reason) =
-    (turn ≡ Stopped reason) × ReachesWithin most x y before after GSTOP (StoppedBy s reason)
-
-abbrev pub TurnsRow : GplOperation → ℕ → MachineState → MachineState → ℕ → ℕ → Turn → Type 0
-TurnsRow operation most x y before after turn =
-    (s : GplState) → (place : Place) → (source : Source) → operation_in s ≡ Some operation
-    → AtRow s place source (view x) → operands_of s ≡ Ok (place, source)
-    → TurnsBy most s x y before after turn (row_result operation s place source)

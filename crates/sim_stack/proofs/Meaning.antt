@@ -2,8 +2,8 @@
 use Rattle.std.proofs.Common.{eqb, ◌%◌, ◌==◌, ◌∙◌, ◌≡◌, ap, arith, Bool, Err, false, if◌then◌else◌, Ok, Option}
 use Rattle.std.proofs.Common.{refl, Result, Some, sym, true, ℕ}
 use Rattle.sim_rows.proofs.Common.{◌>>=◌, AtDispatch, AtRow, bound, bound_made, bound_stop, Byte, CALL, Changes}
-use Rattle.sim_rows.proofs.Common.{code_byte, Dispatched, Exit, Exits, finished, from_dispatch, GplOperation, GplState}
-use Rattle.sim_rows.proofs.Common.{if_true, is_turn_end, is_view, IsView, Jump, MachineState, matches, most_to_dispatch}
+use Rattle.sim_rows.proofs.Common.{code_byte, Dispatched, EXIT, Exit, Exits, finished, from_dispatch, GplOperation, GplState}
+use Rattle.sim_rows.proofs.Common.{if_true, is_exit, is_turn_end, is_view, IsView, Jump, MachineState, matches, most_to_dispatch, never_exits}
 use Rattle.sim_rows.proofs.Common.{One, operands_of, operation_at, operation_in, Place, Plain, PlainOp, PUSH, reaches}
 use Rattle.sim_rows.proofs.Common.{Reason, row_result, row_width, size_of, Source, Stands, state_at_dispatch, step}
 use Rattle.sim_rows.proofs.Common.{step_jump, step_plain, Stopped, stops, Turn, Turned, turned_by, TurnsBy, unchanged}
@@ -13,7 +13,7 @@ use Rattle.sim_stack.proofs.Calls.{beyond, calls, read_in}
 use Rattle.sim_stack.proofs.Fetches.{fetches}
 use Rattle.sim_stack.proofs.Pushes.{pushes}
 use Rattle.sim_stack.proofs.ReturnRows.{past_code, returns}
-use Rattle.sim_stack.proofs.Room.{EndsByRoom, never_exits}
+use Rattle.sim_stack.proofs.Room.{EndsByRoom}
 use Rattle.sim_stack.proofs.Common.{called, comes_by, HasStarted, is_stack, is_stack_row, jump, plain, returned, row}
 use Rattle.sim_stack.proofs.Common.{turn_at}
 use Rattle.std.proofs.lemmas.Bool.{agree_below_at, eqb-true}
@@ -34,6 +34,14 @@ row_means (One PUSH) e s place source v i one is at operands =
     pushes s place source v i is at (one_byte (row_width s) (sym at.holds.bytes_are ∙ one))
 row_means _ e s place source v i one is at operands = absurd (cc)
 
+stack_stays : (o : Option GplOperation) → is_stack o ≡ true → is_exit o ≡ false
+stack_stays (Some (Plain op)) e = by op e
+  where
+    by : (op : PlainOp) → is_stack (Some (Plain op)) ≡ true → is_exit (Some (Plain op)) ≡ false
+    by EXIT e = absurd (cc)
+    by _ e = refl
+stack_stays _ e = refl
+
 module _ {x y : MachineState} {before after : ℕ} {turn : Turn} (turn_is : turn ≡ turn_at y.cpu.pc) where
   -- the turn, by where it ended
   pub turns_at : {e : Exit} (most : ℕ) (s : GplState) (r : Result Changes Reason) → Exits x y before after e →
@@ -44,9 +52,10 @@ module _ {x y : MachineState} {before after : ℕ} {turn : Turn} (turn_is : turn
 
   -- what is no row, by its result
   turned_by_result : (s : GplState) (r : Result Changes Reason) {e : Exit} → is_turn_end x.cpu.pc ≡ false →
-      step s ≡ (r >>= λ (c : Changes). Ok (finished c)) → ((next : GplState) → step s ≡ Ok next → bound s ≡ 440) →
-      Exits x y before after e → EndsByRoom e 54 s r → Turned s x y (from_dispatch before after) turn
-  turned_by_result s (Ok c) start is bound_is run h =
+      is_exit (operation_in s) ≡ false → step s ≡ (r >>= λ (c : Changes). Ok (finished c)) →
+      ((next : GplState) → step s ≡ Ok next → bound s ≡ 440) → Exits x y before after e → EndsByRoom e 54 s r →
+      Turned s x y (from_dispatch before after) turn
+  turned_by_result s (Ok c) start stays is bound_is run h =
       let k = turns_at 54 s (Ok c) run h in
       let b = bound_is (finished c) is in
       turned_by x y before after most_to_dispatch turn s (Ok (finished c)) is (
@@ -54,13 +63,13 @@ module _ {x y : MachineState} {before after : ℕ} {turn : Turn} (turn_is : turn
         reaches most_to_dispatch (bound s) k.1 start refl (omega arith),
         matches (finished c) y k.1.stands k.1.holds,
       )
-  turned_by_result s (Err reason) {e = e} start is bound_is run h =
+  turned_by_result s (Err reason) start stays is bound_is run h =
       let k = turns_at 54 s (Err reason) run h in
       let b = bound_stop s reason is in
       turned_by x y before after most_to_dispatch turn s (Err reason) is (
         k.0,
         reaches most_to_dispatch (bound s) k.1 start refl (omega arith),
-        stops s reason y (never_exits e 54 s {r = Err reason} h refl) k.1.stands k.1.holds,
+        stops s reason y (never_exits s reason stays is) k.1.stands k.1.holds,
       )
 
   module _ (s : GplState) {entry : ℕ} (stands : Stands x entry) (start : is_turn_end entry ≡ false)
@@ -68,14 +77,15 @@ module _ {x y : MachineState} {before after : ℕ} {turn : Turn} (turn_is : turn
     pub call_turns : operation_in s ≡ Some (Jump CALL) → Exits x y before after (called (view x)) →
         Turned s x y (from_dispatch before after) turn
     call_turns op run =
-        turned_by_result s (jump CALL (read_in s).0 (unchanged (beyond s))) (ap is_turn_end stands.pc ∙ start)
+        turned_by_result s (jump CALL (read_in s).0 (unchanged (beyond s))) (ap is_turn_end stands.pc ∙ start) (ap is_exit op)
         (step_jump s CALL op) (λ next. bound_made s next (Some (Jump CALL)) op) run
         (calls s (view x) (is_view x stands.machine) d)
 
     pub return_turns : (op : PlainOp) → is_stack (Some (Plain op)) ≡ true → operation_in s ≡ Some (Plain op) →
         Exits x y before after (returned (view x)) → Turned s x y (from_dispatch before after) turn
     return_turns op family at run =
-        turned_by_result s (plain op (unchanged (past_code s))) (ap is_turn_end stands.pc ∙ start) (step_plain s op at)
+        turned_by_result s (plain op (unchanged (past_code s))) (ap is_turn_end stands.pc ∙ start)
+        (stack_stays (operation_in s) (ap is_stack at ∙ family)) (step_plain s op at)
         (λ next. bound_made s next (Some (Plain op)) at) run (returns s (view x) op family (is_view x stands.machine) d at)
 
 -- ---- they have the form of bytes alone
@@ -104,7 +114,6 @@ module _ {x y : MachineState} {t u : ℕ} {op : GplOperation} {found : Option Gp
         let b = family.begun rows at is l in
         let e = family.family rows at is l in
         let i = is_view y b.comes.stands.machine in
-        let ends = row_means op e s b.place b.source (view y) i byte_row b.is_operation b.comes.holds b.is_both in
-        family.turned_or rows at is l 131 z v turn (λ reason f. never_exits (row op (view y)) 131 s ends f) (omega arith)
+        family.turned_or rows at is l 131 z v turn (omega arith)
         (λ s place source known here operands. turns_at turn_is 131 s (row_result op s place source) run
         (row_means op e s place source (view y) i byte_row known here operands))

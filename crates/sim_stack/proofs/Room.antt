@@ -6,7 +6,6 @@ use Rattle.sim_rows.proofs.Common.{◌>>=◌, at_most, Changes, difference_of, E
 use Rattle.sim_rows.proofs.Common.{GSTOP, low, on_stack, pick, plus, Reason, SeesFinished, Stack}
 use Rattle.sim_rows.proofs.Common.{StoppedBy, View, Word}
 use Rattle.sim_stack.proofs.Common.{Ends, full, if_room, ShowsEnd}
-use Rattle.sim_rows.specs.gpl_step_defs.declared.reason.Reason.TheVariants as reasons
 
 -- ---- numbers
 
@@ -56,7 +55,3 @@ tests s bytes offset top count v on f most made all is within ended stops next =
     (λ c. let below : offset ≤ 0xC2 - bytes = at_most (0xC2 - bytes) offset c in
     let some : nat_le (top + bytes) 0xC2 ≡ true = le-leb (top + bytes) 0xC2 (omega arith) in
     subst by (sym (ap (stacked_by top) some)) (rw c (next (omega arith))))
-
-pub never_exits : (e : Exit) (most : ℕ) (s : GplState) {r : Result Changes Reason} {reason : Reason} →
-    EndsByRoom e most s r → r ≡ Err reason → reason ≡ reasons.Exit → ⊥
-never_exits e most s h is other = let alone = (subst (EndsByRoom e most s) is h).0 in absurd (cc)

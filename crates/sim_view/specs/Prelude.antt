@@ -57,9 +57,9 @@ pub use Rattle.gpl_step_defs.specs.Arithmetic.{shifted_left, shifted_right, Sour
 pub use Rattle.gpl_step_defs.specs.Changes.{Changes, condition, finished, shown, status_byte, status_of, unchanged}
 pub use Rattle.gpl_step_defs.specs.Changes.{with_byte, with_byte_in, with_cell, with_condition, with_double}
 pub use Rattle.gpl_step_defs.specs.Changes.{with_overflow, with_pc, with_register, with_status, with_value}
-pub use Rattle.gpl_step_defs.specs.Copy.{byte_from, copied, From, FromGrom, FromMemory, length_of, moved, next_from}
-pub use Rattle.gpl_step_defs.specs.Copy.{next_to, origin_of, target_of, To, ToMemory, ToRegisters, with_byte_to}
-pub use Rattle.gpl_step_defs.specs.Copy.{within_limit}
+pub use Rattle.gpl_step_defs.specs.Copy.{byte_from, copied, From, FromGrom, FromMemory, length_of, move_found, moved}
+pub use Rattle.gpl_step_defs.specs.Copy.{Moving, next_from, next_to, origin_of, target_of, To, ToMemory, ToRegisters}
+pub use Rattle.gpl_step_defs.specs.Copy.{with_byte_to, within_limit}
 pub use Rattle.gpl_step_defs.specs.Flow.{branched, cells_at, drawn, grown_by, is_taken, next_seed, on_stack}
 pub use Rattle.gpl_step_defs.specs.Flow.{with_byte_from, with_word}
 pub use Rattle.gpl_step_defs.specs.Place.{behind, byte_at, byte_in, double_at, indexed, is_visible, Place, place_of}

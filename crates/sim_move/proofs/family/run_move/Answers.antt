@@ -20,14 +20,14 @@ returns-then-pc-eq-GSTOP g c =
     (on c.pc.ensures.value c.if-pc-eq-GSTOP.true) c.in-Some.reason
     (λ reason is. sym c.in-Some.is ∙ c.reason_of.ensures.found reason (is ∙ sym c.register.ensures))
 
-pub copy_found-requires : goal.copy_found-requires
-copy_found-requires g c =
+pub copy_bytes-requires : goal.copy_bytes-requires
+copy_bytes-requires g c =
     Dispatch.may_copy (state c.args.machine.now) (stands_move c.requires) c.requires.family c.decode_move.ensures (off c.pc.ensures.value c.if-pc-eq-GSTOP.false)
 
 pub returns : goal.returns
 returns g c =
     Dispatch.turned (state c.args.machine.now) (stands_move c.requires) c.requires.family c.decode_move.ensures (off c.pc.ensures.value c.if-pc-eq-GSTOP.false)
-    c.copy_found.ensures
+    c.copy_bytes.ensures
 
 pub decode_move-requires-clause-stands : goal.decode_move-requires-clause-stands
 decode_move-requires-clause-stands g c = stands_move c.requires
