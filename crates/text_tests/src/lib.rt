@@ -10,7 +10,7 @@ mod first_words;
 #[cfg(test)]
 mod gpl_images;
 #[cfg(test)]
-mod gpl_lines;
+mod gpl_source_lines;
 #[cfg(test)]
 mod gpl_spellings;
 #[cfg(test)]
