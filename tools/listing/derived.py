@@ -5,12 +5,13 @@ NATIVE, TABLE = 'crates/native_interp', 'crates/line_table'
 WRITTEN = 'Written by tools/interpreter from crates/native_interp/src/source.'
 BLOCK, BLOCKS_IN_FILE = 40, 7
 ROWS = {
+    'tables': 'the use of registers, the names of addresses, the entry points, and the two tables',
     'routines': 'boot, the stops, the routines, the operands of a row, and EXIT',
     'operations': 'the operations on operands, the end of a row, the step, and the tests of the status',
     'flow': 'branches, the stacks and RAND',
     'copy': 'MOVE, ALL and BACK',
 }
-CONSTANT = {'routines': 'ROUTINE', 'operations': 'OPERATION', 'flow': 'FLOW', 'copy': 'COPY'}
+CONSTANT = {'tables': 'TABLE', 'routines': 'ROUTINE', 'operations': 'OPERATION', 'flow': 'FLOW', 'copy': 'COPY'}
 
 
 def chunks(items, size):

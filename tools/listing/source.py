@@ -6,7 +6,7 @@ from lib.repository import TOP, read_text
 from .assembler import Line, assembled
 
 FOLDER = TOP / 'crates/native_interp/src/source'
-GROUPS = ['routines', 'operations', 'flow', 'copy']
+GROUPS = ['tables', 'routines', 'operations', 'flow', 'copy']
 
 
 class Part:

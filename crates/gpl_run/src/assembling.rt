@@ -4,6 +4,7 @@ ghost use Rattle.std.specs.Prelude.{◌≡◌, [], ◌∷◌, ◌++◌, ℕ, Lis
 ghost use Rattle.asm_defs.specs.Modules.{module_of_source};
 ghost use Rattle.native_interp.specs.Source.{lines, source};
 ghost use Rattle.object_tags.specs.Seen.{model_of_module};
+ghost use Rattle.native_interp.specs.declared.source.tables.TheConstants as tables;
 ghost use Rattle.native_interp.specs.declared.source.routines.TheConstants as routines;
 ghost use Rattle.native_interp.specs.declared.source.operations.TheConstants as operations;
 ghost use Rattle.native_interp.specs.declared.source.flow.TheConstants as flow;
@@ -12,7 +13,7 @@ ghost use Rattle.gpl_run.specs.Feeding.{HasLeft};
 
 use crate::error::BuildError;
 use asm_core::{AsmError, AsmLines};
-use native_interp::{COPY_LINES, FLOW_LINES, OPERATION_LINES, ROUTINE_LINES};
+use native_interp::{COPY_LINES, FLOW_LINES, OPERATION_LINES, ROUTINE_LINES, TABLE_LINES};
 use object_tags::Module;
 use std::alloc::Global;
 
@@ -34,13 +35,20 @@ fn take_source(builder: &mut AsmLines) -> Result<(), BuildError>
     requires { HasLeft lines builder.old }
     ensures { OnOk result (HasLeft [] builder.new) }
 {
+    take_lines(builder, table_lines())?;
     take_lines(builder, routine_lines())?;
     take_lines(builder, operation_lines())?;
     take_lines(builder, flow_lines())?;
     take_lines(builder, copy_lines())
 }
 
-// The four parts of the source. Each is a call, so that the proof of the four together sees none of their lines.
+// The five parts of the source. Each is a call, so that the proof of the five together sees none of their lines.
+
+fn table_lines() -> &'static [&'static str]
+    ensures { map (λ line. line.now) result.now ≡ map (λ line. line.now) tables.TABLE_LINES }
+{
+    &TABLE_LINES
+}
 
 fn routine_lines() -> &'static [&'static str]
     ensures { map (λ line. line.now) result.now ≡ map (λ line. line.now) routines.ROUTINE_LINES }

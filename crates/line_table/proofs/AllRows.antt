@@ -4,6 +4,7 @@ use Rattle.std.specs.Prelude.{nat_eq}
 use Rattle.asm_defs.specs.declared.location.Location.{Location}
 use Rattle.asm_defs.specs.declared.location.Part.TheVariants as part
 use Rattle.line_table.specs.declared.line_row.LineRow.{LineRow}
+use Rattle.line_table.specs.declared.rows.tables.TheConstants.{TABLE_ROWS}
 use Rattle.line_table.specs.declared.rows.routines.TheConstants.{ROUTINE_ROWS}
 use Rattle.line_table.specs.declared.rows.operations.TheConstants.{OPERATION_ROWS}
 use Rattle.line_table.specs.declared.rows.flow.TheConstants.{FLOW_ROWS}
@@ -11,7 +12,7 @@ use Rattle.line_table.specs.declared.rows.copy.TheConstants.{COPY_ROWS}
 use Rattle.line_table.specs.Table.{Row, nothing}
 
 abbrev pub table : List Row
-table = ROUTINE_ROWS ++ (OPERATION_ROWS ++ (FLOW_ROWS ++ COPY_ROWS))
+table = TABLE_ROWS ++ (ROUTINE_ROWS ++ (OPERATION_ROWS ++ (FLOW_ROWS ++ COPY_ROWS)))
 
 abbrev pub as_row : Row → LineRow
 as_row row = record { place = row.0; count = row.1; words = row.2 }

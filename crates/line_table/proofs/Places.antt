@@ -19,6 +19,7 @@ use Rattle.native_interp.specs.Words.{words}
 use Rattle.native_interp.specs.declared.addresses.TheConstants.{GBOOT}
 use Rattle.native_interp.specs.Words.{origin}
 use Rattle.line_table.specs.declared.line_row.LineRow.{LineRow}
+use Rattle.line_table.specs.declared.rows.tables.TheConstants.{TABLE_ROWS}
 use Rattle.line_table.specs.declared.rows.routines.TheConstants.{ROUTINE_ROWS}
 use Rattle.line_table.specs.declared.rows.operations.TheConstants.{OPERATION_ROWS}
 use Rattle.line_table.specs.declared.rows.flow.TheConstants.{FLOW_ROWS}
@@ -179,11 +180,12 @@ rows_stand index lt =
     (known_lines_stand 0x1000 front_texts last defined front_lines ending (spot.Absolute GBOOT) index ending are_known inside)
     (at_index ending front_lines ending index to_last.plain refl inside) rows_have_words rows_are_shipped lines_are refl
 
--- the row that is found among the four parts of the table
-pub row_found : (index : ℕ) (row : LineRow) (found : Row) (a b c d : List Row) → a ≡ ROUTINE_ROWS → b ≡ OPERATION_ROWS → c ≡ FLOW_ROWS → d ≡ COPY_ROWS
-    → found ≡ slice_index_or (a ++ (b ++ (c ++ d))) index nothing → row ≡ as_row found → index < length lines → IsRow index row
-row_found index row found a b c d one two three four is made lt =
-    let same : a ++ (b ++ (c ++ d)) ≡ table = λ i. one i ++ (two i ++ (three i ++ four i)) in
+-- the row that is found among the five parts of the table
+pub row_found : (index : ℕ) (row : LineRow) (found : Row) (a b c d e : List Row)
+    → a ≡ TABLE_ROWS → b ≡ ROUTINE_ROWS → c ≡ OPERATION_ROWS → d ≡ FLOW_ROWS → e ≡ COPY_ROWS
+    → found ≡ slice_index_or (a ++ (b ++ (c ++ (d ++ e)))) index nothing → row ≡ as_row found → index < length lines → IsRow index row
+row_found index row found a b c d e one two three four five is made lt =
+    let same : a ++ (b ++ (c ++ (d ++ e))) ≡ table = λ i. one i ++ (two i ++ (three i ++ (four i ++ five i))) in
     let counted : length table ≡ line_count = sym (length-map table as_row) ∙ rows_counted in
     let there : slice_index_or rows index no_row ≡ as_row (slice_index_or table index nothing) =
     index_map as_row table index nothing no_row (omega (arith, lt, lines_counted, counted)) in

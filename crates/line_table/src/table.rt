@@ -6,6 +6,7 @@ ghost use Rattle.line_table.specs.Table.{defined, nothing};
 ghost use Rattle.line_table.specs.Rows.{IsRow, IsNameRow, named};
 ghost use Rattle.expression_defs.specs.Expression.{Absolute};
 ghost use Rattle.source_defs.specs.Names.{is_kept_name};
+ghost use Rattle.line_table.specs.declared.rows.tables.TheConstants.{TABLE_ROWS};
 ghost use Rattle.line_table.specs.declared.rows.routines.TheConstants.{ROUTINE_ROWS};
 ghost use Rattle.line_table.specs.declared.rows.operations.TheConstants.{OPERATION_ROWS};
 ghost use Rattle.line_table.specs.declared.rows.flow.TheConstants.{FLOW_ROWS};
@@ -13,7 +14,7 @@ ghost use Rattle.line_table.specs.declared.rows.copy.TheConstants.{COPY_ROWS};
 
 use crate::line_row::{LineRow, NameRow};
 use crate::names::NAMES;
-use crate::rows::{COPY_ROWS, FLOW_ROWS, OPERATION_ROWS, ROUTINE_ROWS, Row};
+use crate::rows::{COPY_ROWS, FLOW_ROWS, OPERATION_ROWS, ROUTINE_ROWS, Row, TABLE_ROWS};
 use asm_text::Name;
 
 /// The names with their values.
@@ -24,20 +25,27 @@ fn names() -> &'static [(&'static str, u16)]
 }
 
 /// The rows of the first part of the source.
+fn table_rows() -> &'static [Row]
+    ensures { result.now ≡ TABLE_ROWS }
+{
+    &TABLE_ROWS
+}
+
+/// The rows of the second part.
 fn routine_rows() -> &'static [Row]
     ensures { result.now ≡ ROUTINE_ROWS }
 {
     &ROUTINE_ROWS
 }
 
-/// The rows of the second part.
+/// The rows of the third part.
 fn operation_rows() -> &'static [Row]
     ensures { result.now ≡ OPERATION_ROWS }
 {
     &OPERATION_ROWS
 }
 
-/// The rows of the third part.
+/// The rows of the fourth part.
 fn flow_rows() -> &'static [Row]
     ensures { result.now ≡ FLOW_ROWS }
 {
@@ -51,10 +59,19 @@ fn copy_rows() -> &'static [Row]
     &COPY_ROWS
 }
 
-/// A row by its number in four lists of rows, one after the other.
-fn row_of(index: usize, first: &[Row], second: &[Row], third: &[Row], fourth: &[Row]) -> Row
-    requires { index < length (first.now ++ (second.now ++ (third.now ++ fourth.now))) }
-    ensures { result ≡ slice_index_or (first.now ++ (second.now ++ (third.now ++ fourth.now))) index nothing }
+/// A row by its number in five lists of rows, one after the other.
+fn row_of(
+    index: usize,
+    first: &[Row],
+    second: &[Row],
+    third: &[Row],
+    fourth: &[Row],
+    fifth: &[Row],
+) -> Row
+    requires { index < length (first.now ++ (second.now ++ (third.now ++ (fourth.now ++ fifth.now)))) }
+    ensures {
+        result ≡ slice_index_or (first.now ++ (second.now ++ (third.now ++ (fourth.now ++ fifth.now)))) index nothing
+    }
 {
     if index < first.len() {
         return first[index];
@@ -65,9 +82,13 @@ fn row_of(index: usize, first: &[Row], second: &[Row], third: &[Row], fourth: &[
     }
     let index = index - second.len();
     if index < third.len() {
-        third[index]
+        return third[index];
+    }
+    let index = index - third.len();
+    if index < fourth.len() {
+        fourth[index]
     } else {
-        fourth[index - third.len()]
+        fifth[index - fourth.len()]
     }
 }
 
@@ -82,7 +103,11 @@ pub fn name_count() -> usize
 pub fn row_count() -> usize
     ensures { result ≡ length lines }
 {
-    routine_rows().len() + operation_rows().len() + flow_rows().len() + copy_rows().len()
+    table_rows().len()
+        + routine_rows().len()
+        + operation_rows().len()
+        + flow_rows().len()
+        + copy_rows().len()
 }
 
 /// The row of a line of the interpreter's source, by the line's number from 0, which is below [`row_count`].
@@ -92,6 +117,7 @@ pub fn row(index: usize) -> LineRow
 {
     let found = row_of(
         index,
+        table_rows(),
         routine_rows(),
         operation_rows(),
         flow_rows(),

@@ -29,17 +29,19 @@ use Rattle.std.specs.Prelude.{
   bytes_eq,
 }
 use Rattle.std.specs.List.{list_all, list_any}
+use Rattle.native_interp.specs.declared.source.tables.TheConstants.{TABLE_LINES}
 use Rattle.native_interp.specs.declared.source.routines.TheConstants.{ROUTINE_LINES}
 use Rattle.native_interp.specs.declared.source.operations.TheConstants.{OPERATION_LINES}
 use Rattle.native_interp.specs.declared.source.flow.TheConstants.{FLOW_LINES}
 use Rattle.native_interp.specs.declared.source.copy.TheConstants.{COPY_LINES}
 
--- the four parts of the source, one after the other
+-- the five parts of the source, one after the other
 abbrev pub lines : List (List ℕ)
 lines =
-    map (λ line. line.now) ROUTINE_LINES
+    map (λ line. line.now) TABLE_LINES
+    ++ (map (λ line. line.now) ROUTINE_LINES
     ++ (map (λ line. line.now) OPERATION_LINES
-    ++ (map (λ line. line.now) FLOW_LINES ++ map (λ line. line.now) COPY_LINES))
+    ++ (map (λ line. line.now) FLOW_LINES ++ map (λ line. line.now) COPY_LINES)))
 
 -- the text of the source: each line with its line feed
 abbrev pub source : List ℕ

@@ -19,5 +19,5 @@ pub use laws::{
     codes_are_dispatched, entries_come_first, lines_are_in_form, routines_stand,
     rows_are_dispatched,
 };
-pub use source::{COPY_LINES, FLOW_LINES, OPERATION_LINES, ROUTINE_LINES};
+pub use source::{COPY_LINES, FLOW_LINES, OPERATION_LINES, ROUTINE_LINES, TABLE_LINES};
 pub use words::{INTERP, interpreter_words};

@@ -1,4 +1,4 @@
-//! The interpreter's source, line by line: its assembler source is the lines of the four
+//! The interpreter's source, line by line: its assembler source is the lines of the five
 //! constants, one after the other.
 //!
 //! Each line stands without its line feed. The first statement is AORG >2000, the only origin, and the last line is END
@@ -9,8 +9,10 @@ mod copy;
 mod flow;
 mod operations;
 mod routines;
+mod tables;
 
 pub use copy::COPY_LINES;
 pub use flow::FLOW_LINES;
 pub use operations::OPERATION_LINES;
 pub use routines::ROUTINE_LINES;
+pub use tables::TABLE_LINES;
