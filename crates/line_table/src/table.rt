@@ -69,9 +69,7 @@ fn row_of(
     fifth: &[Row],
 ) -> Row
     requires { index < length (first.now ++ (second.now ++ (third.now ++ (fourth.now ++ fifth.now)))) }
-    ensures {
-        result ≡ slice_index_or (first.now ++ (second.now ++ (third.now ++ (fourth.now ++ fifth.now)))) index nothing
-    }
+    ensures { result ≡ slice_index_or (first.now ++ (second.now ++ (third.now ++ (fourth.now ++ fifth.now)))) index nothing }
 {
     if index < first.len() {
         return first[index];
