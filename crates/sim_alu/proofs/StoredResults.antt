@@ -11,7 +11,7 @@ use Rattle.sim_alu.proofs.MadeResults.{Flagged, Plain}
 use Rattle.sim_alu.specs.Pieces as piece
 use Rattle.sim_alu.proofs.MadeResults
 
--- ---- the status behind the result
+-- ---- the status after the result
 
 high_is : (status : ℕ) → high (join status 0) ≡ status
 high_is status = omega arith

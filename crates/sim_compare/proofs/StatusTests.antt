@@ -1,6 +1,6 @@
 -- The tests of the status, from their dispatch to the end of the step.
 use Rattle.std.proofs.Common.{ℕ, ◌<◌, ◌==◌, ◌∙◌, ◌≡◌, ap, arith, Bool, false, List, Ok, Option, refl, Result, slice_index, Some, subst, true}
-use Rattle.sim_rows.proofs.Common.{after, AtDispatch, behind_code, bound, bound_at, bound_by, CARRY, Changes, code_byte, ReachesWithin, comes, CTRUE, executed, Exits}
+use Rattle.sim_rows.proofs.Common.{after, AtDispatch, after_code, bound, bound_at, bound_by, CARRY, Changes, code_byte, ReachesWithin, comes, CTRUE, executed, Exits}
 use Rattle.sim_rows.proofs.Common.{finished, Goes, GplOperation, GplRead, GplState, GT, H, is_turn_end, is_set, is_view, IsView, join, last_out, low, MachineState}
 use Rattle.sim_rows.proofs.Common.{matches, most_to_dispatch, operation_entry, operation_in, operation_in_view, OVF, Plain, PlainOp, reaches}
 use Rattle.sim_rows.proofs.Common.{from_dispatch, read_by, Reason, shifted, ShowsState, SLA, state_at_dispatch, status_of, step, Stepped, Turned, turned_by, unchanged}
@@ -33,13 +33,13 @@ starts _ e = absurd (cc)
 -- ---- the step of a test, and its bound
 
 abbrev read_as : GplState → Option GplOperation → GplRead
-read_as s o = read_by o (code_byte s) s.image (behind_code s)
+read_as s o = read_by o (code_byte s) s.image (after_code s)
 
 step_as : (s : GplState) (o : Option GplOperation) → operation_in s ≡ o → step s ≡ executed (read_as s o) s
 step_as s o is = ap (λ (r : GplRead). executed r s) (reading_is s ∙ ap (read_as s) is)
 
 abbrev changed : GplState → Option GplOperation → Changes
-changed s o = with_tested (tested o) (unchanged (record s { pc = behind_code s }))
+changed s o = with_tested (tested o) (unchanged (record s { pc = after_code s }))
 
 step_is : (s : GplState) (o : Option GplOperation) → is_test o ≡ true → operation_in s ≡ o → step s ≡ Ok (finished (changed s o))
 unfolding after
@@ -105,8 +105,8 @@ module _ {x a : MachineState} {t u : ℕ} (name : PlainOp) (is : operation_in_vi
   abbrev flag : Bool
   flag = is_set (status_of s) (tested o)
 
-  at_flag : ReachesWithin 4 x a t u (end_of flag) (ShowsState s (behind_code s))
-  at_flag = comes first (tests o e s (behind_code s) (view x) at.dispatched.sees (is_view x at.stands.machine))
+  at_flag : ReachesWithin 4 x a t u (end_of flag) (ShowsState s (after_code s))
+  at_flag = comes first (tests o e s (after_code s) (view x) at.dispatched.sees (is_view x at.stands.machine))
 
   pub test_decided : IsDecided a
   test_decided = is_decided a flag at_flag.stands
@@ -114,7 +114,7 @@ module _ {x a : MachineState} {t u : ℕ} (name : PlainOp) (is : operation_in_vi
   pub test_turns : {y : MachineState} {v : ℕ} → Exits a y u v (ending (a.cpu.pc == CTRUE) (view a)) → Turned s x y (from_dispatch t v) Stepped
   test_turns {y = y} {v = v} second =
       let next = finished (changed s o) in
-      let c = decides 4 s (behind_code s) flag at_flag second in
+      let c = decides 4 s (after_code s) flag at_flag second in
       let b = bound_is s o e is in
       turned_by x y t v most_to_dispatch Stepped s (Ok next) (step_is s o e is) (
         refl,

@@ -4,7 +4,7 @@ use Rattle.std.proofs.Common.{subst, suc, sym}
 use Rattle.std.proofs.lemmas.Bool.{eqb-false, eqb-true, le-ltb, lt-ltb}
 use Rattle.std.proofs.Math.Nat.{pos_of_ne-zero}
 use Rattle.sim_rows.proofs.Common.{byte_from, byte_in, Changes, ReachesWithin, comes_as, COPY, Cpu, difference_of, From, FromGrom, FromMemory, GplState, grom_at}
-use Rattle.sim_rows.proofs.Common.{GromState, idle_grom, idle_told, idle_video, is_view, IsFetched, LoadsFrom, MachineState, most_of_byte}
+use Rattle.sim_rows.proofs.Common.{GromState, idle_grom, ports_are_idle, idle_video, is_view, IsFetched, LoadsFrom, MachineState, most_of_byte}
 use Rattle.sim_rows.proofs.Common.{next_from, next_in_grom, next_to, pick, Place, place_in, place_is, previous-next, Space}
 use Rattle.sim_rows.proofs.Common.{space_small, state_of, sum_of, To, ToMemory, ToRegisters, Vdp, View, view, with_byte_to, Word}
 use Rattle.sim_copy.specs.Copying.{Copying, InGrom, StandsFrom, StandsTo}
@@ -184,7 +184,7 @@ module _ {x y : MachineState} {t u : ℕ} (h : AtCopy x) (here : x.cpu.pc ≡ CO
     at = record {
       stands = goes.stands;
       place = place;
-      idle = idle_told y.cpu.memory (ap (λ (u : View). u.vdp.held) goes.holds.is ∙ idle_video x.cpu.memory h.idle)
+      idle = ports_are_idle y.cpu.memory (ap (λ (u : View). u.vdp.held) goes.holds.is ∙ idle_video x.cpu.memory h.idle)
           (ap (λ (u : View). u.grom.half_written) goes.holds.is ∙ idle_after (source_in v) v.grom (idle_grom x.cpu.memory h.idle));
     };
     left = left_is;

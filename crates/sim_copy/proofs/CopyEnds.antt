@@ -2,7 +2,7 @@
 use Rattle.std.proofs.Common.{ℕ, ◌*◌, ◌+◌, ◌<◌, ◌==◌, ◌∙◌, ◌≡◌, ◌≤◌, ap, arith, Bool, false, if◌then◌else◌, refl, subst, sym, true}
 use Rattle.std.proofs.lemmas.Bool.{ne_eqb}
 use Rattle.sim_rows.proofs.Common.{ShowsChanges, Changes, ReachesWithin, comes, comes_as, comes_on, comes_then, copied, EndsRow, Exit, Exits, From, GromState, idle_again}
-use Rattle.sim_rows.proofs.Common.{idle_grom, idle_told, idle_video, is_turn_end, is_view, MachineState, PortsAreIdle, RESUME, SeesFinished, SHOW}
+use Rattle.sim_rows.proofs.Common.{idle_grom, ports_are_idle, idle_video, is_turn_end, is_view, MachineState, PortsAreIdle, RESUME, SeesFinished, SHOW}
 use Rattle.sim_rows.proofs.Common.{Stands, To, View, view, with_pc}
 use Rattle.sim_jumps.specs.Jumps.{ResumesRow}
 use Rattle.sim_copy.specs.Copying.{CopiesBytes, Copying, MayCopy}
@@ -65,7 +65,7 @@ module _ {x a : MachineState} {t t1 : ℕ} (e : Exits x a t t1 (pieces.start_cop
     stands = at_pc a (pieces.start_copy (view x)).to e.stands;
     place = subst (λ (p : ℕ). CopiesAt p (view a)) (sym e.stands.pc)
         (subst (λ (u : View). CopiesAt (pieces.start_copy (view x)).to u) (sym e.shows) begun.place);
-    idle = idle_told a.cpu.memory (ap (λ (u : View). u.vdp.held) e.shows ∙ begun.held)
+    idle = ports_are_idle a.cpu.memory (ap (λ (u : View). u.vdp.held) e.shows ∙ begun.held)
         (ap (λ (u : View). u.grom.half_written) e.shows ∙ ap (λ (g : GromState). g.half_written) begun.grom ∙ idle_grom x.cpu.memory may.idle);
   }
 

@@ -2,7 +2,7 @@
 use Rattle.std.proofs.Common.{ℕ, ◌%◌, ◌+◌, ◌-◌, ◌<◌, ◌==◌, ◌∙◌, ◌≡◌, ◌≤◌, ap, arith, Bool, false, if◌then◌else◌, None, refl, slice_index, subst, suc, sym}
 use Rattle.std.proofs.lemmas.Bool.{eqb-false, eqb-true}
 use Rattle.std.proofs.Math.Nat.{pos_of_ne-zero}
-use Rattle.sim_rows.proofs.Common.{byte_from, ShowsChanges, Changes, comes, copied, difference_of, Exits, From, idle_grom, idle_told, idle_video, is_view}
+use Rattle.sim_rows.proofs.Common.{byte_from, ShowsChanges, Changes, comes, copied, difference_of, Exits, From, idle_grom, ports_are_idle, idle_video, is_view}
 use Rattle.sim_rows.proofs.Common.{MachineState, marked_by, next_from, next_in_grom, next_in_vdp, next_to, pick, plus, sum_of, To, View, view, with_byte_to}
 use Rattle.sim_rows.proofs.Common.{high, join, low, vdp_data_written, VdpState, with_pc, with_video_address, Word}
 use Rattle.sim_copy.proofs.Places.{at_pc, each, few_charged, may_go, on_way, some_left}
@@ -249,7 +249,7 @@ module _ {x : MachineState} (h : AtCopy x) (way : CopyPath) (here : x.cpu.pc ≡
         stands = at_pc y (copy_on way v).to e.stands;
         place = subst (λ (p : ℕ). CopiesAt p (view y)) (sym e.stands.pc)
             (subst (λ (w : View). CopiesAt (copy_on way v).to w) (sym e.shows) (place_on way v may));
-        idle = idle_told y.cpu.memory (ap (λ (w : View). w.vdp.held) e.shows ∙ held_on way v (idle_video x.cpu.memory h.idle))
+        idle = ports_are_idle y.cpu.memory (ap (λ (w : View). w.vdp.held) e.shows ∙ held_on way v (idle_video x.cpu.memory h.idle))
             (ap (λ (w : View). w.grom.half_written) e.shows ∙ idle_on way v (idle_grom x.cpu.memory h.idle));
       };
       left = ap (λ (w : View). w.r.r12) e.shows ∙ one_down v.r.r12 (some_left way v may) few;

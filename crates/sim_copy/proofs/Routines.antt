@@ -3,7 +3,7 @@ use Rattle.std.proofs.Common.{ℕ, ◌<◌, ◌==◌, ◌∙◌, ◌≡◌, ap, 
 use Rattle.std.proofs.Common.{slice_set, subst, sym}
 use Rattle.std.proofs.lemmas.Bool.{ltb-false, ltb-true}
 use Rattle.sim_rows.proofs.Common.{byte_from, Changes, ReachesWithin, comes, comes_as, comes_on, comes_then, COPY, COPYN, COPYS, difference_of, Exits, From}
-use Rattle.sim_rows.proofs.Common.{FromGrom, FromMemory, grom_at, GromState, high, idle_again, idle_grom, idle_told, idle_video, in_register}
+use Rattle.sim_rows.proofs.Common.{FromGrom, FromMemory, grom_at, GromState, high, idle_again, idle_grom, ports_are_idle, idle_video, in_register}
 use Rattle.sim_rows.proofs.Common.{IsFetched, IsVisible, join, LOAD, Loaded, LoadsStream, LoadsValue, MachineState, Memory, most_of_byte}
 use Rattle.sim_rows.proofs.Common.{most_of_load, next_at, next_in_grom, pick, Place, place_in, PortsAreIdle, return_of}
 use Rattle.sim_rows.proofs.Common.{Stands, state_of, STORE, Stored, StoresRegister, streamed, sum_of, To, ToMemory, ToRegisters, unchanged}
@@ -176,7 +176,7 @@ module _ {x a : MachineState} {t t1 : ℕ} (h : AtCopy x) (left : ByRoutines (vi
 
       pub idle_storing : PortsAreIdle d.cpu.memory
       idle_storing =
-          idle_told d.cpu.memory (ap (λ (u : View). u.vdp.held) seen_d ∙ idle_video x.cpu.memory h.idle)
+          ports_are_idle d.cpu.memory (ap (λ (u : View). u.vdp.held) seen_d ∙ idle_video x.cpu.memory h.idle)
           (ap (λ (u : View). u.grom.half_written) seen_d ∙ idle_after (source_in v) v.grom (idle_grom x.cpu.memory h.idle))
 
       pub visible_storing : IsVisible (view d).r.r8 (view d).r.r7 (view d).r.r3

@@ -1,6 +1,6 @@
 -- BR and BS from their dispatch to the end of the step.
 use Rattle.std.proofs.Common.{ℕ, ◌%◌, ◌<◌, ◌∙◌, ◌≡◌, ◌≤◌, ap, arith, Bool, false, if◌then◌else◌, List, not, Ok, refl, slice_index, slice_set, Some, subst, true}
-use Rattle.sim_rows.proofs.Common.{behind_code, bound, bound_made, BRANCH, Branch, branched, BTARG, Byte, CFALSE, Changes, code_byte, ReachesWithin, comes, comes_on}
+use Rattle.sim_rows.proofs.Common.{after_code, bound, bound_made, BRANCH, Branch, branched, BTARG, Byte, CFALSE, Changes, code_byte, ReachesWithin, comes, comes_on}
 use Rattle.sim_rows.proofs.Common.{comes_then, condition, Dispatched, exclusive_or_of, Exits, finished, Goes, goes_in, GplState, GromState, GSTEP, high}
 use Rattle.sim_rows.proofs.Common.{in_grom_of, is_turn_end, is_set, is_taken, is_view, IsView, join, last_out, MachineState, matches, most_to_dispatch, next_in_grom}
 use Rattle.sim_rows.proofs.Common.{from_dispatch, ones_cleared, operation_in, past, reaches, SeesFinished, ShowsState, SRL, Stands, step_branch, Stepped, TAKE, Turned, turned_by}
@@ -12,10 +12,10 @@ use Rattle.sim_flow.specs.Pieces as pieces
 
 -- the address after the instruction, and the target
 abbrev next_after : GplState → ℕ
-next_after s = next_in_grom (behind_code s)
+next_after s = next_in_grom (after_code s)
 
 abbrev target : GplState → ℕ
-target s = in_grom_of s.pc (join (code_byte s % 32) (slice_index s.image (behind_code s)))
+target s = in_grom_of s.pc (join (code_byte s % 32) (slice_index s.image (after_code s)))
 
 -- Behind the target.
 record Targeted (s : GplState) (w : View) : Type 0 where
@@ -30,16 +30,16 @@ made_of v byte code address =
 targets : (s : GplState) (v : View) → Dispatched s v → IsView v → Goes (pieces.read_branch_target v) 8 TAKE (Targeted s)
 targets s v d i =
     let h = d.sees in
-    let fetched : v.grom.fetched ≡ slice_index s.image (behind_code s) = ap (λ (g : GromState). g.fetched) h.grom in
+    let fetched : v.grom.fetched ≡ slice_index s.image (after_code s) = ap (λ (g : GromState). g.fetched) h.grom in
     let byte = subst (λ (n : ℕ). n < 256) fetched i.grom.fetched in
     let fits : s.pc < 65536 = subst (λ (n : ℕ). n < 65536) d.address (i.r 1) in
     goes_in (omega arith) (record {
       sees = record { cells = h.cells; vdp = h.vdp; registers = h.registers; held = h.held; grom = ap past h.grom };
       to =
           ap (λ n. made_of v n v.r.r0 v.r.r1) fetched
-          ∙ ap (λ n. made_of v (slice_index s.image (behind_code s)) n v.r.r1) d.code
-          ∙ ap (λ n. made_of v (slice_index s.image (behind_code s)) (code_byte s) n) d.address
-          ∙ target_is (code_byte s) (slice_index s.image (behind_code s)) s.pc byte fits;
+          ∙ ap (λ n. made_of v (slice_index s.image (after_code s)) n v.r.r1) d.code
+          ∙ ap (λ n. made_of v (slice_index s.image (after_code s)) (code_byte s) n) d.address
+          ∙ target_is (code_byte s) (slice_index s.image (after_code s)) s.pc byte fits;
     })
 
 -- where the test leads, and what holds there

@@ -1,6 +1,6 @@
 -- EXIT and B.
 use Rattle.std.proofs.Common.{ℕ, ◌≡◌, ap, arith, Err, Ok, refl, Some}
-use Rattle.sim_rows.proofs.Common.{B, behind_code, bound, bound_made, bound_stop, comes, comes_on, Dispatched, ShowsEnd, EXIT, exit, Exit as Ending, Exits, from}
+use Rattle.sim_rows.proofs.Common.{B, after_code, bound, bound_made, bound_stop, comes, comes_on, Dispatched, ShowsEnd, EXIT, exit, Exit as Ending, Exits, from}
 use Rattle.sim_rows.proofs.Common.{GEXIT, GOB, Goes, goes_in, GOEXIT, GOTO, GplState, grom_at, GromState, is_turn_end, Jump, known, leaves, MachineState, matches}
 use Rattle.sim_rows.proofs.Common.{from_dispatch, most_to_dispatch, operation_in, Plain, reaches, ShowsState, Stands, step_jump, step_plain, Stepped, Stopped, Turned, turned_by}
 use Rattle.sim_rows.proofs.Common.{View, view, word_at}
@@ -30,10 +30,10 @@ exits {s = s} {x = x} {y = y} {t = t} {u = u} d e stands run =
 -- B
 module _ (s : GplState) (v : View) (d : Dispatched s v) where
   abbrev target : ℕ
-  target = (word_at s.image (behind_code s)).0
+  target = (word_at s.image (after_code s)).0
 
   abbrev after : ℕ
-  after = (word_at s.image (behind_code s)).1
+  after = (word_at s.image (after_code s)).1
 
   abbrev next : GplState
   next = record s { pc = target }

@@ -1,13 +1,13 @@
 -- BACK from its dispatch to the end of the step.
 use Rattle.std.proofs.Common.{ℕ, ◌∙◌, ◌≡◌, ap, arith, None, Ok, refl, slice_index, slice_set, Some}
-use Rattle.sim_rows.proofs.Common.{BACK, behind_code, bound, bound_made, comes, Dispatched, Exits, finished, GOBACK, Goes, GplState, GromState, GSTEP, is_turn_end}
+use Rattle.sim_rows.proofs.Common.{BACK, after_code, bound, bound_made, comes, Dispatched, Exits, finished, GOBACK, Goes, GplState, GromState, GSTEP, is_turn_end}
 use Rattle.sim_rows.proofs.Common.{from_dispatch, MachineState, matches, most_to_dispatch, next_in_grom, operation_in, past, reaches, ShowsState, Stands, step_byte, Stepped, Turned}
 use Rattle.sim_rows.proofs.Common.{turned_by, unchanged, vdp_address_written, VdpState, View, view, with_register}
 use Rattle.sim_rows.specs.gpl_defs.declared.instruction.GplOperation.TheVariants.{Byte}
 use Rattle.sim_misc.specs.Pieces as pieces
 
 abbrev next : GplState → GplState
-next s = finished (with_register 7 (slice_index s.image (behind_code s)) (unchanged (record s { pc = next_in_grom (behind_code s) })))
+next s = finished (with_register 7 (slice_index s.image (after_code s)) (unchanged (record s { pc = next_in_grom (after_code s) })))
 
 -- the pair of bytes loads register 7
 register_set : (vdp : VdpState) (byte : ℕ) → vdp.held ≡ None →

@@ -2,7 +2,7 @@
 use Rattle.std.proofs.Common.{ℕ, ◌%◌, ◌/◌, ◌<◌, ◌==◌, ◌∙◌, ◌≡◌, ap, arith, Bool, Err, false, if◌then◌else◌, not, Ok, Option, refl, Result, Some, subst, sym}
 use Rattle.std.proofs.Common.{true}
 use Rattle.std.proofs.lemmas.Bool.{agree_below_at}
-use Rattle.sim_rows.proofs.Common.{◌>>=◌, AtRow, behind_first, both, Byte, bytes_by, changed_again, ChangedFrom, Changes, code_byte, code_fits, ReachesWithin, comes}
+use Rattle.sim_rows.proofs.Common.{◌>>=◌, AtRow, after_first, both, Byte, bytes_by, changed_again, ChangedFrom, Changes, code_byte, code_fits, ReachesWithin, comes}
 use Rattle.sim_rows.proofs.Common.{comes_on, comes_then, destination_bytes, EX, EXB, exchanged, Exits, gone_on, GplOperation, GplState, GSTEP, has_source}
 use Rattle.sim_rows.proofs.Common.{idle_again, in_register, is_immediate, is_view, IsMachine, IsVisible, LoadsFrom, LoadsFromSource, MachineState}
 use Rattle.sim_rows.proofs.Common.{most_of_store, of_register, operand_at, operands_of, operation_at, operation_in, Place, place_of, PortsAreIdle}
@@ -50,9 +50,9 @@ pub source_place : (s : GplState) (place : Place) (source : Source) → code_byt
 source_place s place source h e is =
     let two : has_source s ≡ true = two_above (code_byte s) h EX e in
     let second : second_by true s ≡ Ok source = sym (ap (λ (b : Bool). second_by b s) two) ∙ (both s place source is).1 in
-    let read : source_of (gone_on s) (row_width s) (source_at false (word_of s) s.image (behind_first s)).0 ≡ Ok source =
-    sym (ap (λ (b : Bool). source_of (gone_on s) (row_width s) (source_at b (word_of s) s.image (behind_first s)).0) (no_immediate s h e)) ∙ second in
-    placed_by (gone_on s) (row_width s) (place_of (gone_on s) (size_of (row_width s)) (operand_at s.image (behind_first s)).0) source read
+    let read : source_of (gone_on s) (row_width s) (source_at false (word_of s) s.image (after_first s)).0 ≡ Ok source =
+    sym (ap (λ (b : Bool). source_of (gone_on s) (row_width s) (source_at b (word_of s) s.image (after_first s)).0) (no_immediate s h e)) ∙ second in
+    placed_by (gone_on s) (row_width s) (place_of (gone_on s) (size_of (row_width s)) (operand_at s.image (after_first s)).0) source read
 
 -- ---- the pieces
 

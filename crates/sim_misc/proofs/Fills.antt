@@ -2,7 +2,7 @@
 use Rattle.std.proofs.Common.{[], ℕ, ◌*◌, ◌++◌, ◌+◌, ◌<◌, ◌==◌, ◌∙◌, ◌∷◌, ◌≡◌, ap, arith, Bool, drop, false, if◌then◌else◌, length, List, None, Ok, refl}
 use Rattle.std.proofs.Common.{replicate, slice_index, slice_set, Some, subst, suc, sym, true, zero}
 use Rattle.std.proofs.lemmas.Bool.{eqb-false, eqb-true, ne_eqb}
-use Rattle.sim_rows.proofs.Common.{ALL, behind_code, bound, bound_made, ReachesWithin, comes, comes_as, comes_then, difference_of, Dispatched, Exits, FILL, finished}
+use Rattle.sim_rows.proofs.Common.{ALL, after_code, bound, bound_made, ReachesWithin, comes, comes_as, comes_then, difference_of, Dispatched, Exits, FILL, finished}
 use Rattle.sim_rows.proofs.Common.{GOALL, Goes, GplState, grom_at, GromState, GSTEP, high, high-join, is_turn_end, is_view, MachineState, matches, most_to_dispatch}
 use Rattle.sim_rows.proofs.Common.{from_dispatch, next_in_grom, operation_in, past, pick, reaches, ShowsState, Stands, step_byte, Stepped, Turned, turned_by, with_video_address}
 use Rattle.sim_rows.proofs.Common.{unchanged, vdp_data_written, VdpState, View, view, with_immediate, Word}
@@ -11,7 +11,7 @@ use Rattle.sim_misc.specs.Pieces as pieces
 
 -- the byte, and a list whose first bytes are it
 abbrev pub byte_of : GplState → ℕ
-byte_of s = slice_index s.image (behind_code s)
+byte_of s = slice_index s.image (after_code s)
 
 abbrev filled_to : ℕ → ℕ → List ℕ → List ℕ
 filled_to made byte bytes = replicate made byte ++ drop made bytes
@@ -27,7 +27,7 @@ pub record Filled (s : GplState) (made : ℕ) (w : View) : Type 0 where
   pub memory : w.vdp.memory ≡ filled_to made (byte_of s) s.vdp
   pub registers : w.vdp.registers ≡ s.registers
   pub held : w.vdp.held ≡ None
-  pub grom : w.grom ≡ grom_at s.image (next_in_grom (behind_code s))
+  pub grom : w.grom ≡ grom_at s.image (next_in_grom (after_code s))
   pub byte : high w.r.r9 ≡ byte_of s
   pub left : w.r.r12 + made ≡ 768
   pub address : w.vdp.address ≡ made
@@ -133,7 +133,7 @@ one_byte {s = s} made {x = x} {z = z} {w = w} {t = t} {v = v} stands d h some st
 -- ---- the turn
 
 abbrev next : GplState → GplState
-next s = finished (with_immediate ALL (byte_of s) (unchanged (record s { pc = next_in_grom (behind_code s) })))
+next s = finished (with_immediate ALL (byte_of s) (unchanged (record s { pc = next_in_grom (after_code s) })))
 
 all_seen : (s : GplState) (made : ℕ) (w : View) → made ≡ 768 → Filled s made w → ShowsState (next s) (next s).pc w
 all_seen s made w all h = record {

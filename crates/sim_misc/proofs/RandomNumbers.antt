@@ -1,6 +1,6 @@
 -- RAND from its dispatch to the end of the step.
 use Rattle.std.proofs.Common.{ℕ, ◌%◌, ◌+◌, ◌∙◌, ◌≡◌, ap, arith, List, Ok, refl, slice_index, slice_set, Some}
-use Rattle.sim_rows.proofs.Common.{behind_code, bound, bound_made, comes, comes_then, Dispatched, drawn, Exits, finished, from, Goes, GORAND, GplState}
+use Rattle.sim_rows.proofs.Common.{after_code, bound, bound_made, comes, comes_then, Dispatched, drawn, Exits, finished, from, Goes, GORAND, GplState}
 use Rattle.sim_rows.proofs.Common.{GromState, GSTEP, is_turn_end, just, MachineState, matches, most_to_dispatch, next_in_grom, next_seed, operation_in, past, RAND}
 use Rattle.sim_rows.proofs.Common.{from_dispatch, RANDL, RANDOM, reaches, SEED, ShowsState, Stands, step_byte, Stepped, swapped, Turned, turned_by, unchanged, View, view}
 use Rattle.sim_rows.proofs.Common.{with_word_in, word_in}
@@ -14,7 +14,7 @@ abbrev drawn_cells : List ℕ → ℕ → ℕ → List ℕ
 drawn_cells cells seed limit = slice_set (with_word_in cells SEED seed) RANDOM (swapped seed % (limit + 1))
 
 abbrev next : GplState → GplState
-next s = finished (drawn (slice_index s.image (behind_code s)) (unchanged (record s { pc = next_in_grom (behind_code s) })))
+next s = finished (drawn (slice_index s.image (after_code s)) (unchanged (record s { pc = next_in_grom (after_code s) })))
 
 drawn_goes : (s : GplState) (v : View) → Dispatched s v → Goes (pieces.draw_number (pieces.draw_seed v).left) 8 GSTEP (ShowsState (next s) (next s).pc)
 drawn_goes s v d =

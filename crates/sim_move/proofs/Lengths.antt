@@ -1,8 +1,8 @@
 -- The length of MOVE, on views alone.
 use Rattle.std.proofs.Common.{ℕ, ◌%◌, ◌+◌, ◌<◌, ◌==◌, ◌∙◌, ◌≡◌, ◌≤◌, ap, arith, false, Ok, refl, Result, subst, sym}
-use Rattle.sim_rows.proofs.Common.{◌>>=◌, ADDR, behind_code, code_byte, Exit, exit, Goes, GplState, grom_at, GSTOP}
-use Rattle.sim_rows.proofs.Common.{is_turn_end, last_out, MOVEL, MOVEN, length_of, lies_at, next_at, number_of_space, operand_at, pick, Place}
-use Rattle.sim_rows.proofs.Common.{place_in, place_is, place_lies, place_of, previous-next, Reason, shifted, space_small}
+use Rattle.sim_rows.proofs.Common.{◌>>=◌, ADDR, after_code, code_byte, Exit, exit, Goes, GplState, grom_at, GSTOP}
+use Rattle.sim_rows.proofs.Common.{is_turn_end, last_out, MOVEL, MOVEN, length_of, visible_when_found, next_at, number_of_space, operand_at, pick, Place}
+use Rattle.sim_rows.proofs.Common.{place_in, place_is, place_found_visible, place_of, previous-next, Reason, shifted, space_small}
 use Rattle.sim_rows.proofs.Common.{SRL, state_of, StoppedBy, value_at, value_same, View, visible_of, Word, word_at}
 use Rattle.sim_rows.specs.sim_operands.Routines.{CanLoad, find_operand, go_on, load}
 use Rattle.sim_rows.specs.sim_view.Prelude.{HoldsBytes}
@@ -85,7 +85,7 @@ word_found v ready bytes two on =
     let q = place_of (state_of v) v.r.r3 (operand_at v.grom.image (next_at v)).0 in
     let g = gave q (operand_goes v (next_at v) ready bytes (omega arith)) on in
     let p = g.2.holds in
-    let visible = lies_at v.r.r3 q g.0 (place_lies (state_of v) v.r.r3 (operand_at v.grom.image (next_at v)).0) g.1 in
+    let visible = visible_when_found v.r.r3 q g.0 (place_found_visible (state_of v) v.r.r3 (operand_at v.grom.image (next_at v)).0) g.1 in
     visible_of g.0 v.r.r3 _ _ _ (ap (λ (w : View). w.r.r5) p.is) (ap (λ (w : View). w.r.r2) p.is)
     (ap (λ (w : View). w.r.r3) p.is) (omega arith) visible
 
@@ -98,7 +98,7 @@ pub length_ends : (s : GplState) (u : View) → HoldsBytes 65536 s.image → (fi
     EndsBy (find_length (dispatch_view s u)) 61 MOVEL (LengthFound s (length_read s).1) (StoppedBy s) (length_of s (length_read s).0)
 unfolding find_length load_placed
 length_ends s u bytes =
-    let read = operand_at s.image (behind_code s) in
+    let read = operand_at s.image (after_code s) in
     let v = dispatch_view s u in
     let q = placed v in
     let found = place_of s 2 read.0 in
@@ -107,16 +107,16 @@ length_ends s u bytes =
     (λ odd. rw (odd_bit (code_byte s), odd)
     (λ fits. record {
       by = goes_within (goes_after (exit 6 MOVEN (following v)) load_count 6 (omega arith)
-          (streams s (behind_code s) (following v))) (omega arith);
+          (streams s (after_code s) (following v))) (omega arith);
     }))
     (λ even. rw (odd_bit (code_byte s), even)
     (λ fits. ends_within (found >>= value) (after (exit 7 ADDR q) load_placed 7 (found >>= value) (omega arith)
     (then_ends MOVEN (find_operand q) load_count found value refl
-    (operand_found s (behind_code s) (placed v) bytes (omega arith))
+    (operand_found s (after_code s) (placed v) bytes (omega arith))
     (λ place known p.
     let near : place.address < 65536 = let r2 = kept_address (find_operand q) in let is = ap (λ (w : View). w.r.r2) p.is in
     omega arith in
     record {
       by = subst (λ (w : View). Goes (load_count w) 16 MOVEL (LengthFound s read.1 (value_at s Word place))) (sym p.is)
-          (loads s place read.1 p.r4 p.r6 (placed v) near (lies_at 2 found place (place_lies s 2 read.0) known));
+          (loads s place read.1 p.r4 p.r6 (placed v) near (visible_when_found 2 found place (place_found_visible s 2 read.0) known));
     }))) (omega arith)))

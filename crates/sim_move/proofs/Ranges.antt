@@ -1,8 +1,8 @@
 -- What is found is in range for all bytes that are copied.
 use Rattle.std.proofs.Common.{ℕ, ◌+◌, ◌<◌, ◌∙◌, ◌≡◌, ◌≤◌, arith, Err, nat_le, Ok, refl, Result, Some, subst, sym}
 use Rattle.std.proofs.lemmas.Bool.{leb-true}
-use Rattle.sim_rows.proofs.Common.{◌>>=◌, Changes, From, FromGrom, FromMemory, GplState, indexed, lies_at, MoveSource, MoveTarget, number_of_space, origin_of}
-use Rattle.sim_rows.proofs.Common.{place_lies, place_of, Reason, space_small, target_of, To, ToMemory, ToRegisters, View}
+use Rattle.sim_rows.proofs.Common.{◌>>=◌, Changes, From, FromGrom, FromMemory, GplState, indexed, visible_when_found, MoveSource, MoveTarget, number_of_space, origin_of}
+use Rattle.sim_rows.proofs.Common.{place_found_visible, place_of, Reason, space_small, target_of, To, ToMemory, ToRegisters, View}
 use Rattle.sim_rows.proofs.Common.{pick}
 use Rattle.sim_copy.specs.Copying.{StandsFrom, StandsTo}
 use Rattle.sim_rows.specs.gpl_defs.declared.instruction.MoveTarget.TheVariants as target
@@ -31,15 +31,15 @@ then_gives Good (Err reason) f h = tt
 
 target_gives : (s : GplState) (bytes : ℕ) (t : MoveTarget) → Gives (TargetInRange bytes) (target_of s bytes t)
 target_gives s bytes (target.At operand) =
-    then_gives (TargetInRange bytes) (place_of s bytes operand) _ (λ place e. lies_at bytes (place_of s bytes operand) place
-    (place_lies s bytes operand) e)
+    then_gives (TargetInRange bytes) (place_of s bytes operand) _ (λ place e. visible_when_found bytes (place_of s bytes operand) place
+    (place_found_visible s bytes operand) e)
 target_gives s bytes (target.Register number) =
     pick (nat_le (number + bytes) 8) (λ e. rw e (leb-true (number + bytes) 8 e)) (λ e. rw e tt)
 
 source_gives : (s : GplState) (bytes : ℕ) (t : MoveSource) → Gives (SourceInRange bytes) (origin_of s bytes t)
 source_gives s bytes (source.At operand) =
-    then_gives (SourceInRange bytes) (place_of s bytes operand) _ (λ place e. lies_at bytes (place_of s bytes operand) place
-    (place_lies s bytes operand) e)
+    then_gives (SourceInRange bytes) (place_of s bytes operand) _ (λ place e. visible_when_found bytes (place_of s bytes operand) place
+    (place_found_visible s bytes operand) e)
 source_gives s bytes (source.Grom address) = tt
 source_gives s bytes (source.GromIndexed address index) = then_gives (SourceInRange bytes) (indexed s (Some index) address) _ (λ a e. tt)
 

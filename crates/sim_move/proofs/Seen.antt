@@ -1,6 +1,6 @@
 -- The view while the parts of MOVE are found, written out: so what its registers hold is known without a proof.
 use Rattle.std.proofs.Common.{ℕ, ◌≡◌, ◌≤◌, ap, None, refl, subst, sym}
-use Rattle.sim_rows.proofs.Common.{behind_code, code_byte, Dispatched, GplState, grom_at, number_of}
+use Rattle.sim_rows.proofs.Common.{after_code, code_byte, Dispatched, GplState, grom_at, number_of}
 use Rattle.sim_rows.proofs.Common.{number_of_space, operand_at, place_of, Placed, previous-next, Reason}
 use Rattle.sim_rows.proofs.Common.{return_of, StoppedBy, To, ToMemory, ToRegisters, View}
 use Rattle.sim_rows.specs.sim_view.Prelude.{HoldsBytes}
@@ -49,7 +49,7 @@ dispatch_view s u = record u {
   r = record u.r { r0 = code_byte s; r1 = s.pc };
   cells = s.cells;
   vdp = record u.vdp { memory = s.vdp; registers = s.registers; held = None };
-  grom = grom_at s.image (behind_code s);
+  grom = grom_at s.image (after_code s);
 }
 
 pub dispatched_is : (s : GplState) (v : View) → Dispatched s v → v ≡ dispatch_view s v

@@ -1,6 +1,6 @@
 -- The parts of MOVE up to its copy, for all states that may be there.
 use Rattle.std.specs.Prelude.{ℕ, ◌%◌, ◌==◌, ◌≡◌, Err, Ok, Result, Some}
-use Rattle.sim_rows.specs.Prelude.{behind_code, Changes, code_byte, from_at, GplState, GSTOP, length_at, MachineState}
+use Rattle.sim_rows.specs.Prelude.{after_code, Changes, code_byte, from_at, GplState, GSTOP, length_at, MachineState}
 use Rattle.sim_rows.specs.Prelude.{Move, move_found, MOVEB, MoveKind, MoveLength, MoveSource, MoveTarget, Moving}
 use Rattle.sim_rows.specs.Prelude.{operation_in, ReachesWithin, Reason, StoppedBy, target_at, unchanged, View}
 use Rattle.sim_copy.specs.Copying.{Copying}
@@ -8,7 +8,7 @@ use Rattle.sim_rows.specs.sim_view.Bounds.{most_to_copy}
 
 -- What the bytes after the code byte say, each part with the address after it.
 abbrev pub length_read : GplState → MoveLength × ℕ
-length_read s = length_at (code_byte s % 2 == 1) s.image (behind_code s)
+length_read s = length_at (code_byte s % 2 == 1) s.image (after_code s)
 
 abbrev pub target_read : MoveKind → GplState → MoveTarget × ℕ
 target_read kind s = target_at kind s.image (length_read s).1

@@ -107,13 +107,13 @@ module _ {x y : MachineState} {before middle : ℕ} where
       Exits x y before middle (on_at at e f d)
   ends_there at e f {d = d} run is = exits_by (sym (stayed at e f d is)) run
 
-  -- by what a test of the program counter has told
-  module _ {told : ℕ} (is : told ≡ y.cpu.pc) where
+  -- by what a test of the program counter has found
+  module _ {found : ℕ} (is : found ≡ y.cpu.pc) where
     pub goes_at : (at : ℕ) (f : View → Exit) (d : Exit) {e : Exit} {z : MachineState} {last : ℕ} →
-        Exits x y before middle e → told ≡ at → is_turn_end at ≡ false → Exits y z middle last (f (view y)) →
+        Exits x y before middle e → found ≡ at → is_turn_end at ≡ false → Exits y z middle last (f (view y)) →
         Exits x z before last (on_at at e f d)
     goes_at at f d {e = e} run here = goes_on at f d run (eq-eqb e.to at (sym run.stands.pc ∙ sym is ∙ here))
 
     pub stays : (at : ℕ) (f : View → Exit) {d e : Exit} {z : MachineState} {last : ℕ} → Exits x y before middle e →
-        (told ≡ at → ⊥) → Exits x z before last d → Exits x z before last (on_at at e f d)
+        (found ≡ at → ⊥) → Exits x z before last d → Exits x z before last (on_at at e f d)
     stays at f {d = d} {e = e} run away other = exits_by (sym (stayed at e f d (not_at at run (λ q. away (is ∙ q))))) other

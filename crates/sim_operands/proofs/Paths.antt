@@ -260,7 +260,7 @@ store_first v h z e = record { by = λ f. rw (z, spot_cell (plus 0x8300 v.r.r7) 
 store_mark : (v : View) → v.r.r7 < 194 → v.r.r8 ≡ 0 → (v.r.r7 == 0x7D) ≡ true → Part store_ends 6 v STORE (with_one v) SCELL
 store_mark v h z e = record { by = λ f. rw (z, spot_cell (plus 0x8300 v.r.r7) v.r.r7 (omega arith) h, e) refl }
 
--- the rest behind it
+-- the rest after it
 abbrev with_two : View → View
 with_two v =
     record v {

@@ -14,8 +14,8 @@ use Rattle.sim_operands.specs.Pieces as pieces
 
 -- ---- cells
 
-behind_is : (offset : ℕ) → offset + 1 < 194 → plus offset 1 ≡ offset + 1
-behind_is offset h = omega arith
+after_is : (offset : ℕ) → offset + 1 < 194 → plus offset 1 ≡ offset + 1
+after_is offset h = omega arith
 
 -- the value of LOAD
 abbrev pub loaded_by : View → View → Type 0
@@ -28,7 +28,7 @@ load_cells v z h =
     (goes_in (omega arith) (record { r4 = v.r.r4; address = v.vdp.address; byte = v.vdp.fetched; is = rw c refl })))
     (λ c. let fits = second_fits v.r.r5 v.r.r2 v.r.r3 h z c in
     rw (z, c, pieces.load) (goes_in (omega arith)
-    (record { r4 = v.r.r4; address = v.vdp.address; byte = v.vdp.fetched; is = rw (c, behind_is v.r.r2 fits) refl })))
+    (record { r4 = v.r.r4; address = v.vdp.address; byte = v.vdp.fetched; is = rw (c, after_is v.r.r2 fits) refl })))
 
 -- ---- video memory
 
@@ -140,7 +140,7 @@ store_byte v z c =
 
 store_word : (v : View) → v.r.r8 ≡ 0 → (v.r.r3 == 1) ≡ false → v.r.r7 + 1 < 194 → Goes (pieces.store_word v) 15 (pieces.return_of v) (stored_by v)
 store_word v z c h =
-    let b = behind_is v.r.r7 h in
+    let b = after_is v.r.r7 h in
     pick (v.r.r7 == 0x7D)
     (λ d. let e = apart v.r.r7 d in
     rw (z, c, b, d, e, next_cell v.r.r7 false e, pieces.store_word)

@@ -89,18 +89,18 @@ short_range v = if nat_lt 4 v.r.r3 then cells_range 2 v else exit 3 (return_of v
 -- pointer, which is read if it may be.
 abbrev pub pointer : View → Exit
 pointer v =
-    let told = record v { r = record v.r { r5 = shifted SRL v.r.r5 5 } } in
+    let tested = record v { r = record v.r { r5 = shifted SRL v.r.r5 5 } } in
     if last_out SRL v.r.r5 5
     then (
     if nat_lt 0xC0 v.r.r2
-    then operand_stop 5 told
+    then operand_stop 5 tested
     else if v.r.r2 == 0x7C
-    then operand_stop 7 told
-    else exit 9 INDEX (record told {
-      r = record told.r { r2 = word_in v.cells v.r.r2; r4 = word_in v.cells v.r.r2 };
+    then operand_stop 7 tested
+    else exit 9 INDEX (record tested {
+      r = record tested.r { r2 = word_in v.cells v.r.r2; r4 = word_in v.cells v.r.r2 };
     })
     )
-    else exit 2 INDEX told
+    else exit 2 INDEX tested
 
 -- INDEX: where the operand has an index, its byte is read, and the word at it is added to the address if it may be.
 abbrev pub index : View → Exit
@@ -125,8 +125,8 @@ index v =
 abbrev pub range : View → Exit
 range v =
     let space = conjunction_of v.r.r5 1 in
-    let told = record v { r = record v.r { r5 = space } } in
-    if space == 0 then cells_range 2 told else exit 3 (return_of v) told
+    let tested = record v { r = record v.r { r5 = space } } in
+    if space == 0 then cells_range 2 tested else exit 3 (return_of v) tested
 
 -- LOAD: a value of the cells is read, or the video processor is set to its address, or the value is that of STREAM.
 abbrev pub load : View → Exit

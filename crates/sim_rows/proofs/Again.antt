@@ -11,9 +11,9 @@ unfolding view_of
 fetched_again m n g f = subst IsFetched (sym g) f
 
 -- idle ports, as a view tells them
-pub idle_told : (m : Memory) → (view_of m).vdp.held ≡ None → (view_of m).grom.half_written ≡ false → PortsAreIdle m
+pub ports_are_idle : (m : Memory) → (view_of m).vdp.held ≡ None → (view_of m).grom.half_written ≡ false → PortsAreIdle m
 unfolding view_of
-idle_told m h g = record { vdp = ap is_none h; grom = ap not g }
+ports_are_idle m h g = record { vdp = ap is_none h; grom = ap not g }
 
 -- where it went of two ways
 pub first_way : (p : ℕ) (x a : MachineState) (t u : ℕ) (b : Bool) (first second : Exit) → Exits x a t u (if b then first else second) →

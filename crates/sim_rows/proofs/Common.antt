@@ -8,7 +8,7 @@ pub use Rattle.sim_operands.proofs.AddressPieces.{Answers, index_read, IndexRead
 pub use Rattle.sim_operands.proofs.Facts.{at_most, byte_is, down, no_other, not_limit, spot_cell}
 pub use Rattle.sim_operands.proofs.Paths.{rest_is}
 pub use Rattle.sim_operands.proofs.Ready.{idle_grom, idle_video, ready, set_is}
-pub use Rattle.sim_rows.proofs.Again.{begins, fetched_again, first_way, idle_again, idle_told, second_way}
+pub use Rattle.sim_rows.proofs.Again.{begins, fetched_again, first_way, idle_again, ports_are_idle, second_way}
 pub use Rattle.sim_rows.proofs.StepStart.{back_is, from, known, located_at, lost, where_found}
 pub use Rattle.sim_rows.proofs.Codes.{if_true, one_below, two_above}
 pub use Rattle.sim_rows.proofs.Ends.{fetched_of, idle_of, leaves, matches, reaches, same_state, state_at, stops, turned_by, turned_from}
@@ -16,7 +16,7 @@ pub use Rattle.sim_rows.proofs.Facts.{not_above}
 pub use Rattle.sim_rows.proofs.FirstOperand.{operand_stop, barred_stops, finds_of, from_placed, holds_addressed, holds_again, holds_loaded, located, place_is, sees_again}
 pub use Rattle.sim_rows.proofs.FirstOperand.{space_small}
 pub use Rattle.sim_rows.proofs.Operands.{value_same, visible_of}
-pub use Rattle.sim_rows.proofs.Places.{Lies, lies_at, place_lies}
+pub use Rattle.sim_rows.proofs.Places.{FoundVisible, visible_when_found, place_found_visible}
 pub use Rattle.sim_rows.proofs.OnlyExit.{is_exit, never_exits}
 pub use Rattle.sim_rows.proofs.WholeRows.{both, destination_visible, row_changed, TurnsBy}
 pub use Rattle.sim_rows.proofs.Sources.{code_fits}
@@ -24,7 +24,7 @@ pub use Rattle.sim_rows.proofs.Steps.{bound_made, bound_stop, place_same, step_b
 pub use Rattle.sim_rows.proofs.StoredResults.{changed_again, ChangedFrom, store_then, stored_idle, storing_again, value_keeps, width_again}
 pub use Rattle.sim_rows.proofs.RowStart.{stands_at}
 pub use Rattle.sim_rows.specs.Prelude.{◌>>=◌, absolute_flags, absolute_of, ABSV, ADDR, Addressed, ADDV, ALL, ANDV, Answer, Asking, ASPACE, AtDispatch}
-pub use Rattle.sim_rows.specs.Prelude.{AtRow, B, BACK, OperandStop, behind, behind_code, behind_first, bit_of, bound, bound_at, bound_by, BRANCH, Branch, branched}
+pub use Rattle.sim_rows.specs.Prelude.{AtRow, B, BACK, OperandStop, behind, after_code, after_first, bit_of, bound, bound_at, bound_by, BRANCH, Branch, branched}
 pub use Rattle.sim_rows.specs.Prelude.{BTARG, Byte, byte_at, byte_from, byte_in, bytes_by, bytes_or_none, CALL, CALLN, CALLS, CARRY, CASE, CASEN, CASET, CASEV}
 pub use Rattle.sim_rows.specs.Prelude.{Cell, cells_at, CEQ, CEQV, CFALSE, CGE, CGEV, CGT, CGTV, CH, ShowsChanges, Changes, CHARACTER, CHE, CHEV, CHV, CLOG, CLOGV}
 pub use Rattle.sim_rows.specs.Prelude.{CLRV, code_byte, ReachesWithin, complement_of, condition, conjunction_of, copied, COPY, COPYN, COPYS, COUNT, count_in, count_of}

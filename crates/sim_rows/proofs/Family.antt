@@ -51,15 +51,15 @@ module _ {belongs : Option GplOperation → Bool} (rows : (o : Option GplOperati
   at_row = record { stands = at.stands; dispatched = at.dispatched; family = row }
 
   -- an operand is not visible
-  pub stopped : {y : MachineState} {t u : ℕ} {told : Option GplOperation} → told ≡ None →
-      HasStarted s x y t u told → Turned s x y (from_dispatch t u) (Stopped Cell)
-  stopped {y = y} {t = t} {u = u} {told = told} none l = stopped_row s x t fits start row y u told none l.starts
+  pub stopped : {y : MachineState} {t u : ℕ} {returned : Option GplOperation} → returned ≡ None →
+      HasStarted s x y t u returned → Turned s x y (from_dispatch t u) (Stopped Cell)
+  stopped {y = y} {t = t} {u = u} {returned = returned} none l = stopped_row s x t fits start row y u returned none l.starts
 
-  -- the operands are loaded, and the operation is told
-  module _ {y : MachineState} {t u : ℕ} {op : GplOperation} {told : Option GplOperation} (is : told ≡ Some op)
-      (l : HasStarted s x y t u told) where
+  -- the operands are loaded, and the operation is returned
+  module _ {y : MachineState} {t u : ℕ} {op : GplOperation} {returned : Option GplOperation} (is : returned ≡ Some op)
+      (l : HasStarted s x y t u returned) where
     pub begun : Started s x t fits start row op y u
-    begun = started s x t fits start row op y u told is l.starts
+    begun = started s x t fits start row op y u returned is l.starts
 
     pub family : belongs (Some op) ≡ true
     family = subst (λ (o : Option GplOperation). belongs o ≡ true) begun.is_operation at.family

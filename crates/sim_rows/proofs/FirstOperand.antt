@@ -3,7 +3,7 @@ use Rattle.std.proofs.Common.{ℕ, ◌%◌, ◌*◌, ◌+◌, ◌<◌, ◌==◌,
 use Rattle.std.proofs.lemmas.Nat.{and_mask}
 use Rattle.std.proofs.lemmas.Bool.Decides.{nat_tests}
 use Rattle.sim_view.proofs.Common.{comes, comes_as, comes_on, Goes, is_view, previous-next, pick}
-use Rattle.sim_rows.specs.Prelude.{ADDR, Addressed, Asking, AtDispatch, OperandStop, behind_code, behind_destination, code_byte, ReachesWithin, conjunction_of, Cpu}
+use Rattle.sim_rows.specs.Prelude.{ADDR, Addressed, Asking, AtDispatch, OperandStop, after_code, after_destination, code_byte, ReachesWithin, conjunction_of, Cpu}
 use Rattle.sim_rows.specs.Prelude.{destination_bytes}
 use Rattle.sim_rows.specs.Prelude.{Dispatched, even, Exits, Finds, FindsOperand, GplState, grom_at, GromState, GSTOP, Holds, is_row, Loaded, LoadsFrom}
 use Rattle.sim_rows.specs.Prelude.{MachineState, next_at, number_of_space, operand_at, operation_in, Place, place_in, place_of, Placed, previous_in_grom}
@@ -133,13 +133,13 @@ wide_is s v e h = ap pieces.twice_of_code e ∙ twice_is (code_byte s) h ∙ ap 
 
 -- ADDR is asked for it
 asks : (s : GplState) (v : View) (count bytes link : ℕ) → count ≤ 6 → Dispatched s v → bytes ≡ destination_bytes s →
-    Goes (pieces.ask_place count bytes link v) 6 ADDR (Asking s (destination_bytes s) (behind_code s) link)
+    Goes (pieces.ask_place count bytes link v) 6 ADDR (Asking s (destination_bytes s) (after_code s) link)
 asks s v count bytes link within d e = record {
   within = within;
   to_is = refl;
   holds = record {
     holds = record {
-      sees = sees_again s (behind_code s) v (pieces.ask_place count bytes link v).left d.sees refl refl refl;
+      sees = sees_again s (after_code s) v (pieces.ask_place count bytes link v).left d.sees refl refl refl;
       code = d.code;
       address = d.address;
       bytes_are = e;
@@ -157,12 +157,12 @@ module _ {x : MachineState} (at : AtDispatch is_row x) where
   fits = (is_view x at.stands.machine).grom.image.fits s.pc
 
   abbrev Asks : MachineState → ℕ → ℕ → Type 0
-  Asks y t u = ReachesWithin 6 x y t u ADDR (Asking s (destination_bytes s) (behind_code s) (behind_destination (operation_in s)))
+  Asks y t u = ReachesWithin 6 x y t u ADDR (Asking s (destination_bytes s) (after_code s) (after_destination (operation_in s)))
 
-  asks_at : {y : MachineState} {t u : ℕ} (count bytes link : ℕ) → count ≤ 6 → bytes ≡ destination_bytes s → behind_destination (operation_in s) ≡ link →
+  asks_at : {y : MachineState} {t u : ℕ} (count bytes link : ℕ) → count ≤ 6 → bytes ≡ destination_bytes s → after_destination (operation_in s) ≡ link →
       Exits x y t u (pieces.ask_place count bytes link (view x)) → Asks y t u
   asks_at {y = y} {t = t} {u = u} count bytes link within size is e =
-      subst (λ (n : ℕ). ReachesWithin 6 x y t u ADDR (Asking s (destination_bytes s) (behind_code s) n)) (sym is)
+      subst (λ (n : ℕ). ReachesWithin 6 x y t u ADDR (Asking s (destination_bytes s) (after_code s) n)) (sym is)
       (comes e (asks s (view x) count bytes link within at.dispatched size))
 
   module _ {y : MachineState} {t u : ℕ} where

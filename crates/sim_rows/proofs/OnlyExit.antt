@@ -1,7 +1,7 @@
 -- No operation but EXIT stops the program by EXIT.
 use Rattle.std.proofs.Common.{ℕ, ◌+◌, ◌∙◌, ◌≡◌, Bool, Err, false, None, Ok, Option, refl, Result, Some, subst, sym, true}
 use Rattle.std.specs.Prelude.{nat_le, nat_lt}
-use Rattle.sim_rows.specs.Prelude.{◌>>=◌, after, behind_code, Changes, code_byte, destination_size, GoOp, GplInstr, GplOperand, GplOperation, GplSource}
+use Rattle.sim_rows.specs.Prelude.{◌>>=◌, after, after_code, Changes, code_byte, destination_size, GoOp, GplInstr, GplOperand, GplOperation, GplSource}
 use Rattle.sim_rows.specs.Prelude.{GplState, grown_by, indexed, is_row, is_visible, length_of, move_found, MoveLength, MoveSource, MoveTarget}
 use Rattle.sim_rows.specs.Prelude.{on_stack, one, OneName, operation_in, origin_of, Place, place_of, plain, PlainOp, Reason, RETURN_STACK, size_of, jump}
 use Rattle.sim_rows.specs.Prelude.{source_of, step, target_of, unchanged, value_at, VALUE_STACK, Width, within_limit, word_or_byte}
@@ -19,7 +19,7 @@ use Rattle.sim_view.specs.gpl_step_defs.declared.reason.Reason.TheVariants.{Exit
 use Rattle.sim_view.specs.gpl_step_defs.Flow.{top_of}
 use Rattle.sim_view.specs.gpl_step_defs.Step.{changes_of}
 use Rattle.sim_view.proofs.Common.{pick}
-use Rattle.sim_rows.proofs.Places.{Lies, place_lies}
+use Rattle.sim_rows.proofs.Places.{FoundVisible, place_found_visible}
 use Rattle.sim_rows.proofs.Steps.{by_operation, step_is}
 
 -- whether an operation is EXIT, and whether an instruction is
@@ -45,9 +45,9 @@ then_never (Ok x) f n h = h x
 then_never (Err reason) f n h = n
 
 place_never : (s : GplState) (bytes : ℕ) (operand : GplOperand) → Never (place_of s bytes operand)
-place_never s bytes operand = by (place_of s bytes operand) (place_lies s bytes operand)
+place_never s bytes operand = by (place_of s bytes operand) (place_found_visible s bytes operand)
   where
-    by : (r : Result Place Reason) → Lies bytes r → Never r
+    by : (r : Result Place Reason) → FoundVisible bytes r → Never r
     by (Ok place) h = tt
     by (Err reason) h = λ e. absurd (cc)
 
@@ -118,7 +118,7 @@ changes_never (instruction.Two op word dst src) at c stays =
 changes_never (instruction.Move l t o) at c stays = then_never (move_found l t o c.state) _ (move_never c.state l t o) (λ found. tt)
 
 module _ (s : GplState) where
-  read_stays : (op : GplOperation) → is_exit (Some op) ≡ false → exits (instr_at op (code_byte s) s.image (behind_code s)).0 ≡ false
+  read_stays : (op : GplOperation) → is_exit (Some op) ≡ false → exits (instr_at op (code_byte s) s.image (after_code s)).0 ≡ false
   read_stays (operation.Plain EXIT) stays = stays
   read_stays _ stays = refl
 
@@ -126,7 +126,7 @@ module _ (s : GplState) where
   unfolding after
   operation_never None stays = λ e. absurd (cc)
   operation_never (Some op) stays =
-      let read = instr_at op (code_byte s) s.image (behind_code s) in
+      let read = instr_at op (code_byte s) s.image (after_code s) in
       let c : Changes = unchanged (record s { pc = read.1 }) in
       then_never (changes_of read.0 s.pc c) _ (changes_never read.0 s.pc c (read_stays op stays)) (λ c. tt)
 

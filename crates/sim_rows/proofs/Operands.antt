@@ -3,7 +3,7 @@ use Rattle.std.proofs.Common.{ℕ, ◌%◌, ◌*◌, ◌+◌, ◌-◌, ◌/◌, 
 use Rattle.std.proofs.Common.{refl, slice_index, Some, subst, sym, true}
 use Rattle.std.proofs.lemmas.Bool.Decides.{nat_tests}
 use Rattle.sim_view.proofs.Common.{comes_as, comes_on, comes_then, goes_in, pick}
-use Rattle.sim_rows.specs.Prelude.{ADDR, Addressed, OperandStop, behind_first, Byte, byte_in, code_byte, ReachesWithin, Cpu, destination_bytes, even, Exits, GO}
+use Rattle.sim_rows.specs.Prelude.{ADDR, Addressed, OperandStop, after_first, Byte, byte_in, code_byte, ReachesWithin, Cpu, destination_bytes, even, Exits, GO}
 use Rattle.sim_rows.specs.Prelude.{GplState, GSTOP, Holds, in_register, INTERP, is_turn_end, is_row, IsVisible, join, Kept, last_out, LOAD, Loaded, LoadsFrom}
 use Rattle.sim_rows.specs.Prelude.{LoadsFromSource, LoadsValue, MachineState, number_of_space, operation_in, OPVAL, Place, place_in, Placed, plus, Reason}
 use Rattle.sim_rows.specs.Prelude.{reads_destination, return_of, row_entry, row_width, shifted, size_of, Source, Sourced, Space, SRL, state_of, StoppedBy}
@@ -35,19 +35,19 @@ pub record Loading (s : GplState) (bytes : ℕ) (place kept : Place) (next to : 
   pub to_place : StoresTo kept w
   pub link : w.r.r11 ≡ to
 
--- a width is no longer than the bytes that are told
+-- a width is no longer than the bytes that are given
 size_within : (bytes : ℕ) → 0 < bytes → size_of (width_in bytes) ≤ bytes
 size_within bytes some =
     pick (bytes == 1) (λ e. rw e (let one : bytes ≡ 1 = grind (arith, nat_tests) in omega arith))
     (λ e. rw e (let two : 2 ≤ bytes = grind (arith, nat_tests) in two))
 
 -- the place is visible
-pub visible_of : (place : Place) (bytes space address told : ℕ) → space ≡ number_of_space place.space → address ≡ place.address → told ≡ bytes → 0 < bytes →
-    (number_of_space place.space ≡ 0 → place.address + bytes ≤ 0xC2) → IsVisible space address told
-visible_of place bytes space address told a b c some h =
+pub visible_of : (place : Place) (bytes space address given : ℕ) → space ≡ number_of_space place.space → address ≡ place.address → given ≡ bytes → 0 < bytes →
+    (number_of_space place.space ≡ 0 → place.address + bytes ≤ 0xC2) → IsVisible space address given
+visible_of place bytes space address given a b c some h =
     λ z. let zero : number_of_space place.space ≡ 0 = sym a ∙ z in
     let end = h zero in
-    let size : size_of (width_in told) ≤ bytes = subst (λ (n : ℕ). size_of (width_in n) ≤ bytes) (sym c) (size_within bytes some) in
+    let size : size_of (width_in given) ≤ bytes = subst (λ (n : ℕ). size_of (width_in n) ≤ bytes) (sym c) (size_within bytes some) in
     omega arith
 
 -- the value that it gives
@@ -103,7 +103,7 @@ module _ (s : GplState) (place : Place) where
   bytes = destination_bytes s
 
   abbrev next : ℕ
-  next = behind_first s
+  next = after_first s
 
   module _ {x y : MachineState} {t u : ℕ} where
     -- its place was found

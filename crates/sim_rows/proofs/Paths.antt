@@ -57,7 +57,7 @@ go_to_row v l h = record { by = λ f q. rw (spot_rows v.r.r0 l h) refl }
 pub show : (v : View) → Leads (STORE ∷ []) v SHOW (pieces.show v)
 show v = record { by = λ f q. pick (v.r.r13 == 0) (λ c. rw c refl) (λ c. rw c refl) }
 
--- GSTEP, behind the two reads of the counter and its test
+-- GSTEP, after the two reads of the counter and its test
 abbrev at_back : View → ℕ → ℕ → View
 at_back v scratch word =
     record v { r = record v.r { r1 = word; r4 = scratch }; grom = pieces.read_once (pieces.read_once v.grom) }
@@ -92,7 +92,7 @@ step_short v z = record {
 not_first : (counter : ℕ) → (low counter == 0) ≡ false → pieces.at_first counter ≡ false
 not_first counter z = let h = eqb-false (low counter) 0 z in ne_eqb (shifted SLA counter 3) 0 (λ e. h (omega arith))
 
--- the address behind is set again, and the byte there is read
+-- the address after is set again, and the byte there is read
 abbrev set_again : View → ℕ → GromState
 set_again v word = with_grom_address (difference_of Word word 1) (pieces.read_once (pieces.read_once v.grom))
 

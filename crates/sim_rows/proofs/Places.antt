@@ -7,14 +7,14 @@ use Rattle.sim_view.specs.gpl_step_defs.Place.{word_at}
 use Rattle.sim_view.proofs.Common.{pick}
 
 -- A place is visible where it lies in the cells, and there is none for one reason alone.
-abbrev pub Lies : ℕ → Result Place Reason → Type 0
-Lies bytes (Ok place) = number_of_space place.space ≡ 0 → place.address + bytes ≤ 0xC2
-Lies bytes (Err reason) = reason ≡ Cell
+abbrev pub FoundVisible : ℕ → Result Place Reason → Type 0
+FoundVisible bytes (Ok place) = number_of_space place.space ≡ 0 → place.address + bytes ≤ 0xC2
+FoundVisible bytes (Err reason) = reason ≡ Cell
 
-ranged_lies : (bytes : ℕ) (space : Space) (address : ℕ) → Lies bytes (ranged bytes space address)
-ranged_lies bytes Cpu address =
+ranged_found_visible : (bytes : ℕ) (space : Space) (address : ℕ) → FoundVisible bytes (ranged bytes space address)
+ranged_found_visible bytes Cpu address =
     pick (is_visible bytes address) (λ e. rw e (λ z. leb-true (address + bytes) 0xC2 e)) (λ e. rw e refl)
-ranged_lies bytes Vdp address = λ z. absurd (omega arith)
+ranged_found_visible bytes Vdp address = λ z. absurd (omega arith)
 
 abbrev Alone : Result ℕ Reason → Type 0
 Alone (Ok n) = Unit {0}
@@ -32,15 +32,15 @@ indexed_alone : (s : GplState) (index : Option ℕ) (address : ℕ) → Alone (i
 indexed_alone s None address = tt
 indexed_alone s (Some offset) address = alone_if (is_visible 2 offset) (plus address (word_at s offset))
 
-then_lies : (bytes : ℕ) (r : Result ℕ Reason) (f : ℕ → Result Place Reason) → Alone r → ((n : ℕ) → Lies bytes (f n)) → Lies bytes (r >>= f)
-then_lies bytes (Ok n) f a g = g n
-then_lies bytes (Err reason) f a g = a
+then_found_visible : (bytes : ℕ) (r : Result ℕ Reason) (f : ℕ → Result Place Reason) → Alone r → ((n : ℕ) → FoundVisible bytes (f n)) → FoundVisible bytes (r >>= f)
+then_found_visible bytes (Ok n) f a g = g n
+then_found_visible bytes (Err reason) f a g = a
 
-pub place_lies : (s : GplState) (bytes : ℕ) (operand : GplOperand) → Lies bytes (place_of s bytes operand)
-place_lies s bytes operand =
-    then_lies bytes (pointed s operand.indirect operand.address) _ (pointed_alone s operand.indirect operand.address)
-    (λ base. then_lies bytes (indexed s operand.index base) _ (indexed_alone s operand.index base) (λ address. ranged_lies bytes operand.space address))
+pub place_found_visible : (s : GplState) (bytes : ℕ) (operand : GplOperand) → FoundVisible bytes (place_of s bytes operand)
+place_found_visible s bytes operand =
+    then_found_visible bytes (pointed s operand.indirect operand.address) _ (pointed_alone s operand.indirect operand.address)
+    (λ base. then_found_visible bytes (indexed s operand.index base) _ (indexed_alone s operand.index base) (λ address. ranged_found_visible bytes operand.space address))
 
-pub lies_at : (bytes : ℕ) (r : Result Place Reason) (place : Place) → Lies bytes r → r ≡ Ok place → number_of_space place.space ≡ 0 →
+pub visible_when_found : (bytes : ℕ) (r : Result Place Reason) (place : Place) → FoundVisible bytes r → r ≡ Ok place → number_of_space place.space ≡ 0 →
     place.address + bytes ≤ 0xC2
-lies_at bytes r place h e = let P : Result Place Reason → Type 0 = Lies bytes in subst P e h
+visible_when_found bytes r place h e = let P : Result Place Reason → Type 0 = FoundVisible bytes in subst P e h

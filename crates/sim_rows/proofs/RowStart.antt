@@ -1,7 +1,7 @@
 -- The beginning of a row: its destination, its source, and the second dispatch.
 use Rattle.std.proofs.Common.{ℕ, ◌<◌, ◌≡◌, ap, arith, Bool, Err, false, if◌then◌else◌, Ok, Option, refl, Result, subst, sym, true}
 use Rattle.sim_view.proofs.Common.{comes_as, comes_on}
-use Rattle.sim_rows.specs.Prelude.{◌>>=◌, behind_first, code_byte, ReachesWithin, Exits, first_of, GO, GplOperation, GplState, has_source, is_row, Kept}
+use Rattle.sim_rows.specs.Prelude.{◌>>=◌, after_first, code_byte, ReachesWithin, Exits, first_of, GO, GplOperation, GplState, has_source, is_row, Kept}
 use Rattle.sim_rows.specs.Prelude.{KeepsDestination, AtRow, LoadsBy, LoadsDestination, LoadsOperands, MachineState, next_of, operands_of, operation_in, Place}
 use Rattle.sim_rows.specs.Prelude.{Reason, second_by, second_of, Source, source_read, Sourced, Stands, StartsRow, unit, view}
 use Rattle.sim_operands.proofs.Facts.{not_both}
@@ -41,14 +41,14 @@ module _ (s : GplState) (x b : MachineState) (t u : ℕ) where
         by : (n : Bool) → has_source s ≡ n → KeepsDestination s k.place x b t u n → LoadsOperands s x b t u true (operands_of s)
         by true has c = absurd (elsewhere c.stands.pc)
         by false has c =
-            let next : next_of s ≡ behind_first s = ap (λ (n : Bool). if n then (source_read s).1 else behind_first s) has in
+            let next : next_of s ≡ after_first s = ap (λ (n : Bool). if n then (source_read s).1 else after_first s) has in
             loads b u true (subst (λ (r : Result Source Reason). Loads s x b t u true (Ok k.place) r) (sym (ap (λ (n : Bool). second_by n s) has))
             (refl, subst (λ (n : ℕ). ReachesWithin 124 x b t u GO (Sourced s k.place unit n)) (sym next) (comes_as 124 _ c (omega arith) (λ v a. a))))
 
     -- one of two
     pub record TwoOperands : Type 0 where
       pub has : has_source s ≡ true
-      pub comes : ReachesWithin 65 x b t u OPSTWO (Kept s k.place (behind_first s))
+      pub comes : ReachesWithin 65 x b t u OPSTWO (Kept s k.place (after_first s))
 
     pub two : b.cpu.pc ≡ OPSTWO → TwoOperands
     two here = by (has_source s) refl k.keeps
@@ -79,8 +79,8 @@ module _ (s : GplState) (x y : MachineState) (t u : ℕ) where
       by (Ok o) e l = record { operands = o; are = e; comes = l.1 }
       by (Err reason) e l = absurd (not_both true refl l.0)
 
-  pub starts : (k : Ready) (z : MachineState) (v : ℕ) (told : Option GplOperation) → code_byte s < 256 → is_row (operation_in s) ≡ true →
-      Exits y z u v (pieces.go_to_row (view y)) → told ≡ operation_in s → StartsRow s x z t v told (operands_of s)
-  starts k z v told fits row e is =
-      subst (λ (r : Result (Place × Source) Reason). StartsRow s x z t v told r) (sym k.are)
+  pub starts : (k : Ready) (z : MachineState) (v : ℕ) (returned : Option GplOperation) → code_byte s < 256 → is_row (operation_in s) ≡ true →
+      Exits y z u v (pieces.go_to_row (view y)) → returned ≡ operation_in s → StartsRow s x z t v returned (operands_of s)
+  starts k z v returned fits row e is =
+      subst (λ (r : Result (Place × Source) Reason). StartsRow s x z t v returned r) (sym k.are)
       (is, comes_as 127 _ (goes_to_row s k.operands.0 k.operands.1 (next_of s) 124 fits row k.comes e) (omega arith) (λ v a. a))

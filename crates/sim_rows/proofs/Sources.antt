@@ -2,7 +2,7 @@
 use Rattle.std.proofs.Common.{ℕ, ◌<◌, ◌==◌, ◌∙◌, ◌≡◌, ap, arith, Bool, Err, false, if◌then◌else◌, List, None, not, Ok, refl, Result}
 use Rattle.std.proofs.Common.{slice_index, Some, subst, sym, true}
 use Rattle.sim_view.proofs.Common.{comes, comes_as, comes_then, IsView, previous-next}
-use Rattle.sim_rows.specs.Prelude.{◌>>=◌, ADDR, behind_first, code_byte, ReachesWithin, Exit, exit, Exits, Finds, FindsOperand, GO, gone_on, GplOperand, GplSource}
+use Rattle.sim_rows.specs.Prelude.{◌>>=◌, ADDR, after_first, code_byte, ReachesWithin, Exit, exit, Exits, Finds, FindsOperand, GO, gone_on, GplOperand, GplSource}
 use Rattle.sim_rows.specs.Prelude.{GplState, grom_at, GromState, GSTOP, has_source, in_register, is_immediate, Kept, last_out, LOAD, LoadsBy, LoadsValue}
 use Rattle.sim_rows.specs.Prelude.{MachineState, next_at, next_of, operand_at, OPVAL, Place, place_of, Reason, row_width, second_by, second_of, ShowsState, shifted}
 use Rattle.sim_rows.specs.Prelude.{size_of, Source, source_at, source_of, source_read, Sourced, SRL, STREAM, streamed, value_at, View, view, Width}
@@ -22,7 +22,7 @@ code_fits s next v i h =
     let P : List ℕ → Type 0 = λ image. slice_index image s.pc < 256 in
     subst P (ap (λ (g : GromState). g.image) h.grom) (i.grom.image.fits s.pc)
 
--- words are told by the width in register 3
+-- words are known by the width in register 3
 word_is : (w : Bool) → not (size_of (word_or_byte w) == 1) ≡ w
 word_is true = refl
 word_is false = refl
@@ -31,23 +31,23 @@ module _ {x a : MachineState} {t t1 : ℕ} (e : Exits x a t t1 (pieces.ask_secon
   abbrev v : View
   v = view x
 
-  abbrev pub told : ℕ → View
-  told link = record v { r = record v.r { r4 = shifted SRL v.r.r0 2; r11 = link } }
+  abbrev pub tested : ℕ → View
+  tested link = record v { r = record v.r { r4 = shifted SRL v.r.r0 2; r11 = link } }
 
   module _ (here : a.cpu.pc ≡ STREAM) where
-    streaming : (last_out SRL v.r.r0 2 ≡ true) × Exits x a t t1 (exit 5 STREAM (told GO))
-    streaming = first_way STREAM x a t t1 (last_out SRL v.r.r0 2) (exit 5 STREAM (told GO)) (exit 4 ADDR (told OPVAL)) e (λ q. absurd (omega arith)) here
+    streaming : (last_out SRL v.r.r0 2 ≡ true) × Exits x a t t1 (exit 5 STREAM (tested GO))
+    streaming = first_way STREAM x a t t1 (last_out SRL v.r.r0 2) (exit 5 STREAM (tested GO)) (exit 4 ADDR (tested OPVAL)) e (λ q. absurd (omega arith)) here
 
   module _ (away : a.cpu.pc ≡ STREAM → ⊥) where
-    asking : (last_out SRL v.r.r0 2 ≡ false) × Exits x a t t1 (exit 4 ADDR (told OPVAL))
-    asking = second_way STREAM x a t t1 (last_out SRL v.r.r0 2) (exit 5 STREAM (told GO)) (exit 4 ADDR (told OPVAL)) e refl away
+    asking : (last_out SRL v.r.r0 2 ≡ false) × Exits x a t t1 (exit 4 ADDR (tested OPVAL))
+    asking = second_way STREAM x a t t1 (last_out SRL v.r.r0 2) (exit 5 STREAM (tested GO)) (exit 4 ADDR (tested OPVAL)) e refl away
 
-    pub shows_asking : view a ≡ told OPVAL
+    pub shows_asking : view a ≡ tested OPVAL
     shows_asking = asking.1.shows
 
-  module _ (i : IsView v) (s : GplState) (place : Place) (has : has_source s ≡ true) (k : Kept s place (behind_first s) v) where
+  module _ (i : IsView v) (s : GplState) (place : Place) (has : has_source s ≡ true) (k : Kept s place (after_first s) v) where
     abbrev next : ℕ
-    next = behind_first s
+    next = after_first s
 
     -- what the source is
     bit_is : last_out SRL v.r.r0 2 ≡ is_immediate s
@@ -73,15 +73,15 @@ module _ {x a : MachineState} {t t1 : ℕ} (e : Exits x a t t1 (pieces.ask_secon
 
     module _ (here : a.cpu.pc ≡ STREAM) {b : MachineState} {t2 : ℕ} (e2 : Exits a b t1 t2 (operands.stream (view a))) where
       abbrev set : View
-      set = record (told GO) { grom = grom_at s.image next }
+      set = record (tested GO) { grom = grom_at s.image next }
 
       abbrev read : ℕ × ℕ
       read = value_in (word_of s) s.image next
 
       streamed_is : ReachesWithin 11 x b t t2 GO (λ w. w ≡ streamed set)
       streamed_is =
-          let by : GromState → Exit = λ g. operands.stream (record (told GO) { grom = g }) in
-          let c : ReachesWithin 5 x a t t1 STREAM (λ w. w ≡ told GO) = comes (streaming here).1 (record { within = omega arith; to_is = refl; holds = refl }) in
+          let by : GromState → Exit = λ g. operands.stream (record (tested GO) { grom = g }) in
+          let c : ReachesWithin 5 x a t t1 STREAM (λ w. w ≡ tested GO) = comes (streaming here).1 (record { within = omega arith; to_is = refl; holds = refl }) in
           comes_then 5 6 c e2 (from operands.stream c.holds (known (ap by k.holds.sees.grom)
           (streams set (ap (grom_at s.image) (sym (previous-next next)))))) refl
 
@@ -137,7 +137,7 @@ module _ {x a : MachineState} {t t1 : ℕ} (e : Exits x a t t1 (pieces.ask_secon
         to_is = refl;
         holds = record {
           kept = record {
-            holds = holds_again s (size_of (row_width s)) (size_of (row_width s)) next v (told OPVAL) k.holds refl refl refl refl refl refl k.holds.bytes_are;
+            holds = holds_again s (size_of (row_width s)) (size_of (row_width s)) next v (tested OPVAL) k.holds refl refl refl refl refl refl k.holds.bytes_are;
             to_place = record { address = k.to_place.address; space = k.to_place.space };
             destination = k.destination;
           };

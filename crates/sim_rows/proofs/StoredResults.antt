@@ -7,7 +7,7 @@ use Rattle.sim_rows.specs.Prelude.{PortsAreIdle, previous_in_grom, return_of, si
 use Rattle.sim_rows.specs.Prelude.{StoresValue, Storing, unchanged, Vdp, View, view, Width, width_in, with_byte_in}
 use Rattle.sim_rows.specs.Prelude.{with_value, Word}
 use Rattle.sim_operands.proofs.Ready.{idle_grom, idle_video}
-use Rattle.sim_rows.proofs.Again.{idle_told}
+use Rattle.sim_rows.proofs.Again.{ports_are_idle}
 use Rattle.sim_rows.proofs.FirstOperand.{place_is}
 use Rattle.sim_rows.proofs.Ends.{same_state}
 use Rattle.sim_view.specs.Bounds.{most_of_store}
@@ -120,7 +120,7 @@ store_then c width place number x y t u h l =
 pub stored_idle : (x y : MachineState) (t u : ℕ) → PortsAreIdle x.cpu.memory → StoresValue x y t u → PortsAreIdle y.cpu.memory
 stored_idle x y t u i l =
     let is = l.holds.is in
-    idle_told y.cpu.memory (ap (λ (w : View). w.vdp.held) is ∙ idle_video x.cpu.memory i) (ap (λ (w : View). w.grom.half_written) is ∙ idle_grom x.cpu.memory i)
+    ports_are_idle y.cpu.memory (ap (λ (w : View). w.vdp.held) is ∙ idle_video x.cpu.memory i) (ap (λ (w : View). w.grom.half_written) is ∙ idle_grom x.cpu.memory i)
 
 -- ---- views with the same changes
 

@@ -1,7 +1,7 @@
 -- A row from its dispatch to the end of the step.
 use Rattle.std.proofs.Common.{ℕ, ◌+◌, ◌<◌, ◌∙◌, ◌≡◌, ◌≤◌, ap, arith, Bool, Err, false, None, Ok, Option, refl, Result, Some, subst, sym, true}
 use Rattle.sim_view.proofs.Common.{comes_on}
-use Rattle.sim_rows.specs.Prelude.{◌>>=◌, AtRow, behind_code, bound, Cell, ShowsChanges, Changes, code_byte, ReachesWithin, destination_bytes, finished, first_of, gone_on}
+use Rattle.sim_rows.specs.Prelude.{◌>>=◌, AtRow, after_code, bound, Cell, ShowsChanges, Changes, code_byte, ReachesWithin, destination_bytes, finished, first_of, gone_on}
 use Rattle.sim_rows.specs.Prelude.{GplOperation, GplSource, GplState, GSTEP, GSTOP, has_source, is_turn_end, is_row, MachineState, number_of_space, operand_at}
 use Rattle.sim_rows.specs.Prelude.{operands_of, operation_in, Place, place_of, Reason, result_of, row_entry, row_result, row_width, RunsRow, second_by}
 use Rattle.sim_rows.specs.Prelude.{from_dispatch, second_of, SeesFinished, SeesResult, size_of, Source, source_of, source_read, StartsRow, step, Stepped, Stopped, StoppedBy, Turn, Turned}
@@ -9,7 +9,7 @@ use Rattle.sim_rows.specs.Prelude.{unchanged, value_at, View, view, Width}
 use Rattle.sim_view.specs.gpl_defs.declared.instruction.GplSource.TheVariants as source
 use Rattle.sim_view.specs.gpl_defs.declared.instruction.GplOperation.TheVariants as operation
 use Rattle.sim_rows.proofs.OnlyExit.{never_exits, row_stays}
-use Rattle.sim_rows.proofs.Places.{Lies, place_lies}
+use Rattle.sim_rows.proofs.Places.{FoundVisible, place_found_visible}
 use Rattle.sim_rows.proofs.Steps.{bound_made, bound_stop, row_after, step_row}
 use Rattle.sim_rows.proofs.Ends.{matches, reaches, stops, turned_by}
 use Rattle.sim_rows.proofs.Destinations.{first_visible}
@@ -73,13 +73,13 @@ abbrev AllLie : ℕ → Result Source Reason → Type 0
 AllLie bytes (Ok source) = SourceLies bytes source.place
 AllLie bytes (Err reason) = reason ≡ Cell
 
-place_in_lies : (s : GplState) (w : Width) (r : Result Place Reason) → Lies (size_of w) r →
+place_in_found_visible : (s : GplState) (w : Width) (r : Result Place Reason) → FoundVisible (size_of w) r →
     AllLie (size_of w) (r >>= λ p. Ok (record { number = value_at s w p; place = Some p }))
-place_in_lies s w (Ok place) h = h
-place_in_lies s w (Err reason) h = h
+place_in_found_visible s w (Ok place) h = h
+place_in_found_visible s w (Err reason) h = h
 
 source_lies : (s : GplState) (w : Width) (read : GplSource) → AllLie (size_of w) (source_of s w read)
-source_lies s w (source.At operand) = place_in_lies s w (place_of s (size_of w) operand) (place_lies s (size_of w) operand)
+source_lies s w (source.At operand) = place_in_found_visible s w (place_of s (size_of w) operand) (place_found_visible s (size_of w) operand)
 source_lies s w (source.Immediate value) = tt
 
 second_lies : (s : GplState) (b : Bool) → AllLie (size_of (row_width s)) (second_by b s)
@@ -95,9 +95,9 @@ abbrev Alone : {X : Type 0} → Result X Reason → Type 0
 Alone (Ok x) = Unit {0}
 Alone (Err reason) = reason ≡ Cell
 
-lies_alone : (bytes : ℕ) (r : Result Place Reason) → Lies bytes r → Alone r
-lies_alone bytes (Ok place) h = tt
-lies_alone bytes (Err reason) h = h
+found_visible_alone : (bytes : ℕ) (r : Result Place Reason) → FoundVisible bytes r → Alone r
+found_visible_alone bytes (Ok place) h = tt
+found_visible_alone bytes (Err reason) h = h
 
 source_alone : (bytes : ℕ) (r : Result Source Reason) → AllLie bytes r → Alone r
 source_alone bytes (Ok source) h = tt
@@ -109,8 +109,8 @@ then_alone (Err reason) f a g = a
 
 operands_alone : (s : GplState) → Alone (operands_of s)
 operands_alone s =
-    then_alone (first_of s) _ (lies_alone (destination_bytes s) (first_of s) (place_lies (gone_on s) (destination_bytes s)
-    (operand_at s.image (behind_code s)).0))
+    then_alone (first_of s) _ (found_visible_alone (destination_bytes s) (first_of s) (place_found_visible (gone_on s) (destination_bytes s)
+    (operand_at s.image (after_code s)).0))
     (λ place. then_alone (second_of s) _ (source_alone (size_of (row_width s)) (second_of s) (second_lies s (has_source s))) (λ source. tt))
 
 reason_in : {X : Type 0} → Result X Reason → Reason
@@ -140,7 +140,7 @@ bound_row s next (operation.Two op) e row is = bound_made s next (Some (operatio
 bound_row s next _ e row is = absurd (cc)
 
 module _ (s : GplState) (x : MachineState) (t : ℕ) (fits : code_byte s < 256) (start : is_turn_end x.cpu.pc ≡ false) (row : is_row (operation_in s) ≡ true) where
-  -- the operands are there, and the operation is told
+  -- the operands are there, and the operation is returned
   pub record Started (op : GplOperation) (y : MachineState) (u : ℕ) : Type 0 where
     pub place : Place
     pub source : Source
@@ -148,9 +148,9 @@ module _ (s : GplState) (x : MachineState) (t : ℕ) (fits : code_byte s < 256) 
     pub is_operation : operation_in s ≡ Some op
     pub comes : ReachesWithin most_to_row x y t u (row_entry (Some op)) (AtRow s place source)
 
-  started_by : (op : GplOperation) (y : MachineState) (u : ℕ) (told : Option GplOperation) → told ≡ Some op → (r : Result (Place × Source) Reason) →
-      operands_of s ≡ r → StartsRow s x y t u told r → Started op y u
-  started_by op y u told e (Ok o) is l =
+  started_by : (op : GplOperation) (y : MachineState) (u : ℕ) (returned : Option GplOperation) → returned ≡ Some op → (r : Result (Place × Source) Reason) →
+      operands_of s ≡ r → StartsRow s x y t u returned r → Started op y u
+  started_by op y u returned e (Ok o) is l =
       let same : operation_in s ≡ Some op = sym l.0 ∙ e in
       record {
         place = o.0;
@@ -160,17 +160,17 @@ module _ (s : GplState) (x : MachineState) (t : ℕ) (fits : code_byte s < 256) 
         comes =
             subst (λ (p : Option GplOperation). ReachesWithin most_to_row x y t u (row_entry p) (AtRow s o.0 o.1)) same l.1;
       }
-  started_by op y u told e (Err reason) is l = absurd (none_some op (sym l.0 ∙ e))
+  started_by op y u returned e (Err reason) is l = absurd (none_some op (sym l.0 ∙ e))
 
-  pub started : (op : GplOperation) (y : MachineState) (u : ℕ) (told : Option GplOperation) → told ≡ Some op → StartsRow s x y t u told (operands_of s) →
+  pub started : (op : GplOperation) (y : MachineState) (u : ℕ) (returned : Option GplOperation) → returned ≡ Some op → StartsRow s x y t u returned (operands_of s) →
       Started op y u
-  started op y u told e l = started_by op y u told e (operands_of s) refl l
+  started op y u returned e l = started_by op y u returned e (operands_of s) refl l
 
   -- an operand that is not visible
-  stopped_by : (y : MachineState) (u : ℕ) (told : Option GplOperation) → told ≡ None → (r : Result (Place × Source) Reason) → operands_of s ≡ r →
-      StartsRow s x y t u told r → Turned s x y (from_dispatch t u) (Stopped Cell)
-  stopped_by y u told none (Ok o) e l = let op = some_is (operation_in s) row in absurd (none_some op.0 (sym none ∙ l.0 ∙ op.1))
-  stopped_by y u told none (Err reason) e l =
+  stopped_by : (y : MachineState) (u : ℕ) (returned : Option GplOperation) → returned ≡ None → (r : Result (Place × Source) Reason) → operands_of s ≡ r →
+      StartsRow s x y t u returned r → Turned s x y (from_dispatch t u) (Stopped Cell)
+  stopped_by y u returned none (Ok o) e l = let op = some_is (operation_in s) row in absurd (none_some op.0 (sym none ∙ l.0 ∙ op.1))
+  stopped_by y u returned none (Err reason) e l =
       let op = some_is (operation_in s) row in
       let cell : reason ≡ Cell = reason_is (operands_of s) reason (operands_alone s) e in
       let run : ReachesWithin most_to_row_stop x y t u GSTOP (StoppedBy s Cell) =
@@ -181,9 +181,9 @@ module _ (s : GplState) (x : MachineState) (t : ℕ) (fits : code_byte s < 256) 
       turned_by x y t u most_to_dispatch (Stopped Cell) s (Err Cell) is
       (refl, reaches most_to_dispatch (bound s) run start refl (omega arith), stops s Cell y (λ e. cc) run.stands run.holds)
 
-  pub stopped_row : (y : MachineState) (u : ℕ) (told : Option GplOperation) → told ≡ None → StartsRow s x y t u told (operands_of s) →
+  pub stopped_row : (y : MachineState) (u : ℕ) (returned : Option GplOperation) → returned ≡ None → StartsRow s x y t u returned (operands_of s) →
       Turned s x y (from_dispatch t u) (Stopped Cell)
-  stopped_row y u told none l = stopped_by y u told none (operands_of s) refl l
+  stopped_row y u returned none l = stopped_by y u returned none (operands_of s) refl l
 
   -- what was made of the operands is the step
   step_of : (place : Place) (source : Source) (op : GplOperation) → operation_in s ≡ Some op → operands_of s ≡ Ok (place, source) →

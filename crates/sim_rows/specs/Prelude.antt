@@ -61,11 +61,11 @@ pub use Rattle.sim_operands.specs.Subroutines.{StoresRegister, StoresValue, stre
 pub use Rattle.sim_operands.specs.Values.{in_register, IsVisible, number_of_space, of_register, width_in}
 pub use Rattle.sim_rows.specs.Results.{ShowsChanges, EndsRow, HasStarted, result_of, row_result, RunsRow, SeesFinished}
 pub use Rattle.sim_rows.specs.Results.{SeesResult, StartsRow, StoresResult, Storing}
-pub use Rattle.sim_rows.specs.Rows.{Asking, AtEntry, AtRow, behind_destination, behind_first, bytes_by}
+pub use Rattle.sim_rows.specs.Rows.{Asking, AtEntry, AtRow, after_destination, after_first, bytes_by}
 pub use Rattle.sim_rows.specs.Rows.{destination_bytes, first_of, gone_on, has_source, Holds, is_immediate, is_row}
 pub use Rattle.sim_rows.specs.Rows.{KeepsDestination, Kept, loaded_of, LoadsBy, LoadsDestination, LoadsFrom}
 pub use Rattle.sim_rows.specs.Rows.{LoadsFromSource, LoadsOperands, LoadsSource, next_of, operands_of}
 pub use Rattle.sim_rows.specs.Rows.{reads_destination, row_width, second_by, second_of, source_read, Sourced}
 pub use Rattle.sim_rows.specs.Rows.{StoresTo, unit, word_of}
-pub use Rattle.sim_rows.specs.States.{AtDispatch, behind_code, code_byte, Dispatched, ShowsEnd, operation_in}
+pub use Rattle.sim_rows.specs.States.{AtDispatch, after_code, code_byte, Dispatched, ShowsEnd, operation_in}
 pub use Rattle.sim_rows.specs.States.{operation_in_view, ShowsState, state_at_dispatch, StoppedBy}

@@ -58,14 +58,14 @@ StoresResult x y before after =
 -- A row's operands are loaded, and its operation is known; or it stops.
 abbrev pub StartsRow : GplState → MachineState → MachineState → ℕ → ℕ → Option GplOperation
     → Result (Place × Source) Reason → Type 0
-StartsRow s x y before after told (Ok operands) =
-    (told ≡ operation_in s)
+StartsRow s x y before after returned (Ok operands) =
+    (returned ≡ operation_in s)
     × ReachesWithin most_to_row x y before after (row_entry (operation_in s)) (AtRow s operands.0 operands.1)
-StartsRow s x y before after told (Err reason) =
-    (told ≡ None) × ReachesWithin most_to_row_stop x y before after GSTOP (StoppedBy s reason)
+StartsRow s x y before after returned (Err reason) =
+    (returned ≡ None) × ReachesWithin most_to_row_stop x y before after GSTOP (StoppedBy s reason)
 
-pub record HasStarted (s : GplState) (x y : MachineState) (before after : ℕ) (told : Option GplOperation) : Type 0 where
-  pub starts : StartsRow s x y before after told (operands_of s)
+pub record HasStarted (s : GplState) (x y : MachineState) (before after : ℕ) (returned : Option GplOperation) : Type 0 where
+  pub starts : StartsRow s x y before after returned (operands_of s)
 
 -- A row from its entry to the end of the step, for all operands that may be there: at most a given number of
 -- instructions.

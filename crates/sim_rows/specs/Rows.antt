@@ -7,7 +7,7 @@ use Rattle.sim_view.specs.Prelude.{Reason, row_entry, size_of, Source, source_at
 use Rattle.sim_view.specs.Prelude.{View, view, Width, word_or_byte}
 use Rattle.sim_view.specs.gpl_defs.declared.instruction.TwoName.TheVariants.{DIV, MUL, ST}
 use Rattle.sim_operands.specs.Values.{in_register, IsVisible, number_of_space, width_in}
-use Rattle.sim_rows.specs.States.{behind_code, code_byte, operation_in, ShowsState, StoppedBy}
+use Rattle.sim_rows.specs.States.{after_code, code_byte, operation_in, ShowsState, StoppedBy}
 use Rattle.sim_view.specs.native_interp.declared.addresses.TheConstants.{OPSDST, OPSTWO, STDST, WIDDST}
 use Rattle.sim_view.specs.Bounds.{most_of_operands, most_of_second_operand, most_to_first_stop, most_to_row_of_one}
 use Rattle.sim_view.specs.Bounds.{most_to_row_stop, most_to_second_operand, most_to_second_stop}
@@ -32,14 +32,14 @@ abbrev pub is_immediate : GplState → Bool
 is_immediate s = code_byte s / 2 % 2 == 1
 
 -- the address after the first operand; the source with the address after it; and the address after the instruction
-abbrev pub behind_first : GplState → ℕ
-behind_first s = (operand_at s.image (behind_code s)).1
+abbrev pub after_first : GplState → ℕ
+after_first s = (operand_at s.image (after_code s)).1
 
 abbrev pub source_read : GplState → GplSource × ℕ
-source_read s = source_at (is_immediate s) (word_of s) s.image (behind_first s)
+source_read s = source_at (is_immediate s) (word_of s) s.image (after_first s)
 
 abbrev pub next_of : GplState → ℕ
-next_of s = if has_source s then (source_read s).1 else behind_first s
+next_of s = if has_source s then (source_read s).1 else after_first s
 
 -- the state whose next instruction is the one after
 abbrev pub gone_on : GplState → GplState
@@ -55,7 +55,7 @@ destination_bytes s = bytes_by (operation_in s) (row_width s)
 
 -- The place of the destination, and the source: a row of one operand has 1 for its source's value.
 abbrev pub first_of : GplState → Result Place Reason
-first_of s = place_of (gone_on s) (destination_bytes s) (operand_at s.image (behind_code s)).0
+first_of s = place_of (gone_on s) (destination_bytes s) (operand_at s.image (after_code s)).0
 
 abbrev pub unit : Source
 unit = record { number = 1; place = None }
@@ -107,11 +107,11 @@ pub record Asking (s : GplState) (bytes at to : ℕ) (w : View) : Type 0 where
   pub link : w.r.r11 ≡ to
 
 -- where it returns to with the place of the destination
-abbrev pub behind_destination : Option GplOperation → ℕ
-behind_destination (Some (Two MUL)) = WIDDST
-behind_destination (Some (Two DIV)) = WIDDST
-behind_destination (Some (Two ST)) = STDST
-behind_destination _ = OPSDST
+abbrev pub after_destination : Option GplOperation → ℕ
+after_destination (Some (Two MUL)) = WIDDST
+after_destination (Some (Two DIV)) = WIDDST
+after_destination (Some (Two ST)) = STDST
+after_destination _ = OPSDST
 
 -- ST alone asks nothing of its destination's value.
 abbrev pub reads_destination : Option GplOperation → Bool
@@ -142,9 +142,9 @@ AtRow s place source w = Sourced s place source (next_of s) w
 -- The destination is found and kept, or the program stops. A row of one operand goes on at GO.
 abbrev pub KeepsDestination : GplState → Place → MachineState → MachineState → ℕ → ℕ → Bool → Type 0
 KeepsDestination s place x y before after true =
-    ReachesWithin most_to_second_operand x y before after OPSTWO (Kept s place (behind_first s))
+    ReachesWithin most_to_second_operand x y before after OPSTWO (Kept s place (after_first s))
 KeepsDestination s place x y before after false =
-    ReachesWithin most_to_row_of_one x y before after GO (Sourced s place unit (behind_first s))
+    ReachesWithin most_to_row_of_one x y before after GO (Sourced s place unit (after_first s))
 
 abbrev pub LoadsDestination : GplState → MachineState → MachineState → ℕ → ℕ → Bool → Result Place Reason → Type 0
 LoadsDestination s x y before after went (Ok place) =
@@ -161,7 +161,7 @@ LoadsBy s place x y before after went (Err reason) =
 
 abbrev pub LoadsSource : MachineState → MachineState → ℕ → ℕ → Bool → Type 0
 LoadsSource x y before after went =
-    (s : GplState) → (place : Place) → IsTrue (has_source s) → Kept s place (behind_first s) (view x)
+    (s : GplState) → (place : Place) → IsTrue (has_source s) → Kept s place (after_first s) (view x)
     → LoadsBy s place x y before after went (second_of s)
 
 -- Both operands are there, or the program stops.

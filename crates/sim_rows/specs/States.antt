@@ -30,8 +30,8 @@ code_byte s = slice_index s.image s.pc
 abbrev pub operation_in : GplState → Option GplOperation
 operation_in s = operation_at (code_byte s)
 
-abbrev pub behind_code : GplState → ℕ
-behind_code s = next_in_grom s.pc
+abbrev pub after_code : GplState → ℕ
+after_code s = next_in_grom s.pc
 
 -- the operation of the code byte that is shown at dispatch
 abbrev pub operation_in_view : View → Option GplOperation

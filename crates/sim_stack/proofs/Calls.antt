@@ -2,7 +2,7 @@
 use Rattle.std.proofs.Common.{◌+◌, ◌<◌, ◌==◌, ◌||◌, ◌∙◌, ◌≡◌, ◌≤◌, ap, arith, Bool, false, if◌then◌else◌, List, nat_lt}
 use Rattle.std.proofs.Common.{refl, slice_index, slice_set, subst, sym, true, ℕ}
 use Rattle.std.proofs.lemmas.Bool.{agree_below_at}
-use Rattle.sim_rows.proofs.Common.{back_is, behind_code, CALL, CALLN, CALLS, Changes, Dispatched, exit, Exit, GplState}
+use Rattle.sim_rows.proofs.Common.{back_is, after_code, CALL, CALLN, CALLS, Changes, Dispatched, exit, Exit, GplState}
 use Rattle.sim_rows.proofs.Common.{grom_at, grown_by, GSTEP, high, IsView, lost, low, marked_by, next_in_grom, plus}
 use Rattle.sim_rows.proofs.Common.{SeesFinished, set_is, shifted, SLA, unchanged, View, with_cell, with_pc, with_word}
 use Rattle.sim_rows.proofs.Common.{word_at as word_in_grom}
@@ -34,7 +34,7 @@ shows_is top h = agree_below_at shows_at shows_by 256 top refl h
 
 -- the target, and the address after the instruction
 abbrev pub read_in : GplState → ℕ × ℕ
-read_in s = word_in_grom s.image (behind_code s)
+read_in s = word_in_grom s.image (after_code s)
 
 abbrev pub beyond : GplState → GplState
 beyond s = record s { pc = (read_in s).1 }
@@ -66,9 +66,9 @@ module _ (s : GplState) (u : View) where
   unfolding call_on
   goes_on i small =
       let top = top_in s in
-      let fits : next < 65536 = later_fits (next_in_grom (behind_code s)) i.grom.counter in
-      let more = i.grom.image.fits (behind_code s) in
-      let less = i.grom.image.fits (next_in_grom (behind_code s)) in
+      let fits : next < 65536 = later_fits (next_in_grom (after_code s)) i.grom.counter in
+      let more = i.grom.image.fits (after_code s) in
+      let less = i.grom.image.fits (next_in_grom (after_code s)) in
       let ends : View → Exit = λ w. pieces.store_next w >> end_row in
       let found : ℕ → Exit = λ n. exit (6 + one_if (at_first (next_in_grom next))) CALLS (record (read top) {
         r = record (read top).r { r4 = shifted SLA (next_in_grom next) 3; r9 = n };

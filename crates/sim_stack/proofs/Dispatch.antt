@@ -1,6 +1,6 @@
 -- FETCH and PUSH are rows; the others of this family are not.
 use Rattle.std.proofs.Common.{None, ◌∙◌, ◌≡◌, ap, Option, refl, Some, subst, sym, true, ℕ}
-use Rattle.sim_rows.proofs.Common.{behind_code, code_byte, Dispatched, grom_at, GplState, IsView, View}
+use Rattle.sim_rows.proofs.Common.{after_code, code_byte, Dispatched, grom_at, GplState, IsView, View}
 use Rattle.sim_rows.proofs.Common.{AtDispatch, CALL, GOCALL, GoOp, GORTN, GplOperation, is_row, Jump, MachineState, One}
 use Rattle.sim_rows.proofs.Common.{OneName, operation_entry, operation_in_view, Plain, PlainOp, RTN, RTNC, Stands, view}
 use Rattle.sim_stack.proofs.Common.{is_stack, is_stack_row}
@@ -55,7 +55,7 @@ dispatch_view s v = record v {
   r = record v.r { r0 = code_byte s; r1 = s.pc };
   cells = s.cells;
   vdp = record v.vdp { memory = s.vdp; registers = s.registers; held = None };
-  grom = grom_at s.image (behind_code s);
+  grom = grom_at s.image (after_code s);
 }
 
 pub dispatch_is : (s : GplState) (v : View) (P : View → Type 0) → IsView v → Dispatched s v →

@@ -2,7 +2,7 @@
 use Rattle.std.proofs.Common.{◌+◌, ◌<◌, ◌==◌, ◌∙◌, ◌≡◌, ap, arith, Bool, eqb, Err, false, if◌then◌else◌, Ok, Option}
 use Rattle.std.proofs.Common.{refl, Result, slice_index, slice_set, Some, subst, sym, true, ℕ}
 use Rattle.std.proofs.lemmas.Bool.{agree_below_at, eqb-true}
-use Rattle.sim_rows.proofs.Common.{◌>>=◌, behind_code, Changes, code_byte, code_fits, difference_of, Dispatched, exit}
+use Rattle.sim_rows.proofs.Common.{◌>>=◌, after_code, Changes, code_byte, code_fits, difference_of, Dispatched, exit}
 use Rattle.sim_rows.proofs.Common.{Exit, goes_in, GOTO, GplOperation, GplState, grom_at, grown_by, GSTEP, IsView, low}
 use Rattle.sim_rows.proofs.Common.{on_stack, operation_at, operation_in, Plain, PlainOp, Reason, RTN, RTNC}
 use Rattle.sim_rows.proofs.Common.{SeesFinished, set_is, TAKE, unchanged, View, with_cell, with_condition, with_pc}
@@ -33,7 +33,7 @@ code_is s o fits is =
 
 -- the state whose next instruction is the one after
 abbrev pub past_code : GplState → GplState
-past_code s = record s { pc = behind_code s }
+past_code s = record s { pc = after_code s }
 
 abbrev top_in : GplState → ℕ
 top_in s = slice_index s.cells 0x73
@@ -72,10 +72,10 @@ module _ (s : GplState) (u : View) where
 
   goes_on : (clears : Bool) → word_in s.cells (top_in s) < 65536 → ends clears (top_in s) (grown_by 254 (top_in s))
   goes_on true fits z =
-      let grom = set_is (grom_at s.image (behind_code s)) (word_in s.cells (top_in s)) refl fits in
+      let grom = set_is (grom_at s.image (after_code s)) (word_in s.cells (top_in s)) refl fits in
       goes_in (omega arith) (record { cells = refl; vdp = refl; registers = refl; held = refl; grom = grom })
   goes_on false fits z =
-      let grom = set_is (grom_at s.image (behind_code s)) (word_in s.cells (top_in s)) refl fits in
+      let grom = set_is (grom_at s.image (after_code s)) (word_in s.cells (top_in s)) refl fits in
       goes_in (omega arith) (record { cells = refl; vdp = refl; registers = refl; held = refl; grom = grom })
 
   turns : IsView at → EndsByRoom (returned at) 54 s (on_stack 2 (top_in s) >>= λ n. Ok (gone_back s (code_byte s == 0) n))
@@ -114,4 +114,4 @@ module _ (s : GplState) (v : View) where
   returns op family i d is =
       returns_by op family
       (dispatch_is s v (λ w. EndsByRoom (returned w) 54 s (result (code_byte s))) i d (turns s v))
-      (code_is s (Some (Plain op)) (code_fits s (behind_code s) v i d.sees) is)
+      (code_is s (Some (Plain op)) (code_fits s (after_code s) v i d.sees) is)

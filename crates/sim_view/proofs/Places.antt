@@ -55,9 +55,9 @@ agrees a =
     rw (n1, n2, n3, n4, e, region_ports a from below, spot) (ports_agree (port_region (port_at a))))
     (λ n5. rw (n1, n2, n3, n4, n5, spot) tt)))))
 
--- what a test of the program counter has told: the machine is at an address, or it is not
-pub on : {told pc p : ℕ} → told ≡ pc → told ≡ p → pc ≡ p
-on told is = omega arith
+-- what a test of the program counter has found: the machine is at an address, or it is not
+pub on : {found pc p : ℕ} → found ≡ pc → found ≡ p → pc ≡ p
+on found is = omega arith
 
-pub off : {told pc p : ℕ} → told ≡ pc → (told ≡ p → ⊥) → pc ≡ p → ⊥
-off told other is = other (told ∙ is)
+pub off : {found pc p : ℕ} → found ≡ pc → (found ≡ p → ⊥) → pc ≡ p → ⊥
+off found other is = other (found ∙ is)

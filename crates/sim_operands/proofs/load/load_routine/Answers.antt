@@ -7,7 +7,7 @@ use Rattle.sim_operands.proofs.load.load_routine.Goals as goal
 
 pub returns-then-space-eq1 : goal.returns-then-space-eq1
 returns-then-space-eq1 g c =
-    let told = c.register-space.ensures in
+    let space = c.register-space.ensures in
     let test = c.if-space-eq1.true in
     let one : (view c.args.machine.now).r.r5 ≡ 1 = omega arith in
     exits_by (Routines.load_of_video _ one)
@@ -15,7 +15,7 @@ returns-then-space-eq1 g c =
 
 pub returns-then-space-gt1 : goal.returns-then-space-gt1
 returns-then-space-gt1 g c =
-    let told = c.register-space.ensures in
+    let space = c.register-space.ensures in
     let test = c.if-space-gt1.true in
     let more : 1 < (view c.args.machine.now).r.r5 = omega arith in
     exits_by (Routines.load_of_stream _ more)
@@ -23,7 +23,7 @@ returns-then-space-gt1 g c =
 
 pub returns-else-space-gt1 : goal.returns-else-space-gt1
 returns-else-space-gt1 g c =
-    let told = c.register-space.ensures in
+    let space = c.register-space.ensures in
     let one = c.if-space-eq1.false in
     let more = c.if-space-gt1.false in
     exits_by (Routines.load_of_cells _ (omega arith)) c.load_value.ensures

@@ -1,6 +1,6 @@
 use Rattle.std.proofs.Common.{◌<◌, ◌≡◌, arith}
 use Rattle.sim_view.proofs.Common.{on}
-use Rattle.sim_rows.specs.Prelude.{behind_code, GSTOP, operation_in, ROW, state_at_dispatch, view, WIDE, word_of}
+use Rattle.sim_rows.specs.Prelude.{after_code, GSTOP, operation_in, ROW, state_at_dispatch, view, WIDE, word_of}
 use Rattle.sim_view.specs.native_interp.declared.addresses.TheConstants.{OPSDST, OPSVAL, STROW, WIDDST, WIDVAL}
 use Rattle.std.proofs.Common.{refl}
 use Rattle.sim_rows.proofs.Ends.{fetched_of, idle_of}
@@ -11,7 +11,7 @@ use Rattle.sim_rows.proofs.row.load_destination.Given.{Over}
 use Rattle.sim_rows.proofs.row.load_destination.Goals.{After-load_first, After-load_wide, After-run_address}
 use Rattle.sim_rows.proofs.row.load_destination.Goals as goal
 
--- What is known behind ADDR: how many bytes were asked for.
+-- What is known after ADDR: how many bytes were asked for.
 module _ (g : Over) (c : After-run_address g) where
   some : 0 < (view c.ask_destination.new.machine).r.r3
   some =
@@ -20,7 +20,7 @@ module _ (g : Over) (c : After-run_address g) where
       let b = c.ask_destination.ensures.holds.holds.bytes_are in
       omega arith
 
--- What is known behind a piece that asks for the value: the destination was found.
+-- What is known after a piece that asks for the value: the destination was found.
 module _ (g : Over) (c : After-load_wide g) where
   wide_there : c.run_address.new.machine.cpu.pc ≡ GSTOP → ⊥
   wide_there here = let a = c.pc.ensures.value in let b = c.if-pc-eq-GSTOP.false in absurd (omega arith)
@@ -40,12 +40,12 @@ module _ (g : Over) (c : After-load_first g) where
 pub run_address-requires-clause-idle : goal.run_address-requires-clause-idle
 run_address-requires-clause-idle g c =
     let s = state_at_dispatch (view c.args.machine.now) in
-    idle_of c.ask_destination.new.machine.cpu.memory s (behind_code s) c.ask_destination.ensures.holds.holds.sees
+    idle_of c.ask_destination.new.machine.cpu.memory s (after_code s) c.ask_destination.ensures.holds.holds.sees
 
 pub run_address-requires-clause-fetched : goal.run_address-requires-clause-fetched
 run_address-requires-clause-fetched g c =
     let s = state_at_dispatch (view c.args.machine.now) in
-    fetched_of c.ask_destination.new.machine.cpu.memory s (behind_code s) c.ask_destination.ensures.holds.holds.sees
+    fetched_of c.ask_destination.new.machine.cpu.memory s (after_code s) c.ask_destination.ensures.holds.holds.sees
 
 pub run_address-requires-clause-bytes : goal.run_address-requires-clause-bytes
 run_address-requires-clause-bytes g c =

@@ -1,6 +1,6 @@
 use Rattle.std.proofs.Common.{◌≡◌, arith, Bool, subst, true}
 use Rattle.sim_view.proofs.Common.{off, on}
-use Rattle.sim_rows.specs.Prelude.{behind_first, first_of, GplState, LoadsDestination, state_at_dispatch, view, word_of}
+use Rattle.sim_rows.specs.Prelude.{after_first, first_of, GplState, LoadsDestination, state_at_dispatch, view, word_of}
 use Rattle.sim_view.specs.native_interp.declared.addresses.TheConstants.{OPSTWO}
 use Rattle.sim_rows.proofs.Ends.{fetched_of, idle_of}
 use Rattle.sim_rows.proofs.Destinations.{few_bytes}
@@ -9,7 +9,7 @@ use Rattle.sim_rows.proofs.row.load_operands.Given.{Over}
 use Rattle.sim_rows.proofs.row.load_operands.Goals.{After-load_destination}
 use Rattle.sim_rows.proofs.row.load_operands.Goals as goal
 
--- What is known behind the destination: it was kept; and where there is a source.
+-- What is known after the destination: it was kept; and where there is a source.
 module _ (g : Over) (c : After-load_destination g) (went : c.load_destination.result ≡ true) where
   abbrev s : GplState
   s = state_at_dispatch (view c.args.machine.now)
@@ -35,14 +35,14 @@ load_source-requires-clause-idle g c =
     let at = (goal.at.load_source-requires-clause-idle g c).After-load_destination in
     let o = two g at c.if-not-load_destination.false (on c.pc.ensures.value c.if-pc-eq-OPSTWO.true) in
     let s = state_at_dispatch (view c.args.machine.now) in
-    idle_of c.load_destination.new.machine.cpu.memory s (behind_first s) o.comes.holds.holds.sees
+    idle_of c.load_destination.new.machine.cpu.memory s (after_first s) o.comes.holds.holds.sees
 
 pub load_source-requires-clause-fetched : goal.load_source-requires-clause-fetched
 load_source-requires-clause-fetched g c =
     let at = (goal.at.load_source-requires-clause-fetched g c).After-load_destination in
     let o = two g at c.if-not-load_destination.false (on c.pc.ensures.value c.if-pc-eq-OPSTWO.true) in
     let s = state_at_dispatch (view c.args.machine.now) in
-    fetched_of c.load_destination.new.machine.cpu.memory s (behind_first s) o.comes.holds.holds.sees
+    fetched_of c.load_destination.new.machine.cpu.memory s (after_first s) o.comes.holds.holds.sees
 
 pub load_source-requires-clause-some : goal.load_source-requires-clause-some
 load_source-requires-clause-some g c =

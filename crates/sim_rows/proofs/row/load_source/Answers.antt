@@ -22,7 +22,7 @@ module _ (g : Over) (c : After-load_second g) where
   found =
       found_there c.ask_second.new.machine c.run_address.new.machine c.ask_second.new.steps c.run_address.new.steps elsewhere c.run_address.ensures
 
-  asking : view c.ask_second.new.machine ≡ Sources.told c.ask_second.ensures OPVAL
+  asking : view c.ask_second.new.machine ≡ Sources.tested c.ask_second.ensures OPVAL
   asking = Sources.shows_asking c.ask_second.ensures away
 
   idle : PortsAreIdle c.run_address.new.machine.cpu.memory

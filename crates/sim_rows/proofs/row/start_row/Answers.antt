@@ -7,7 +7,7 @@ use Rattle.sim_rows.proofs.row.start_row.Given.{Over}
 use Rattle.sim_rows.proofs.row.start_row.Goals.{After-load_operands}
 use Rattle.sim_rows.proofs.row.start_row.Goals as goal
 
--- What is known behind the operands: they are there.
+-- What is known after the operands: they are there.
 module _ (g : Over) (c : After-load_operands g) (went : c.load_operands.result ≡ true) where
   abbrev s : GplState
   s = state_at_dispatch (view c.args.machine.now)
