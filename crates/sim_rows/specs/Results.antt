@@ -64,7 +64,8 @@ StartsRow s x y before after returned (Ok operands) =
 StartsRow s x y before after returned (Err reason) =
     (returned ≡ None) × ReachesWithin most_to_row_stop x y before after GSTOP (StoppedBy s reason)
 
-pub record HasStarted (s : GplState) (x y : MachineState) (before after : ℕ) (returned : Option GplOperation) : Type 0 where
+pub record HasStarted (s : GplState) (x y : MachineState) (before after : ℕ) (returned : Option GplOperation)
+    : Type 0 where
   pub starts : StartsRow s x y before after returned (operands_of s)
 
 -- A row from its entry to the end of the step, for all operands that may be there: at most a given number of

@@ -1,10 +1,10 @@
 //! The operands of a row.
 
 ghost use Rattle.std.specs.Prelude.{◌+◌, ◌<◌, ◌≡◌, ◌≤◌};
-ghost use Rattle.sim_rows.specs.Prelude.{Asking, AtDispatch, after_code, after_destination, ReachesWithin, destination_bytes};
-ghost use Rattle.sim_rows.specs.Prelude.{Exits, first_of, HasStarted, is_row, IsFetched, IsVisible, LoadsDestination};
-ghost use Rattle.sim_rows.specs.Prelude.{LoadsOperands, LoadsSource, operands_of, operation_in, PortsAreIdle, Stands};
-ghost use Rattle.sim_rows.specs.Prelude.{state_at_dispatch, view};
+ghost use Rattle.sim_rows.specs.Prelude.{after_code, after_destination, Asking, AtDispatch, destination_bytes, Exits};
+ghost use Rattle.sim_rows.specs.Prelude.{first_of, HasStarted, is_row, IsFetched, IsVisible, LoadsDestination};
+ghost use Rattle.sim_rows.specs.Prelude.{LoadsOperands, LoadsSource, operands_of, operation_in, PortsAreIdle};
+ghost use Rattle.sim_rows.specs.Prelude.{ReachesWithin, Stands, state_at_dispatch, view};
 ghost use Rattle.sim_view.specs.native_interp.declared.addresses.TheConstants as address;
 ghost use Rattle.sim_rows.specs.Pieces as piece;
 
