@@ -1,6 +1,6 @@
 -- The rows of kept lines are those of the listing.
 use Rattle.std.proofs.Common.{◌≡◌, ℕ, zero, suc, ◌-◌, List, [], ◌∷◌, ◌++◌, Some, None, Ok, Err, length, map, take, refl, sym, ap, ◌∙◌, subst}
-use Rattle.std.proofs.Common.{append-nil, inl, inr}
+use Rattle.std.proofs.Common.{append-nil}
 use Rattle.std.specs.Prelude.{Option, Result}
 use Rattle.std.specs.List.{flat_map}
 use Rattle.std.proofs.lemmas.List.{length-map}
@@ -14,7 +14,7 @@ use Rattle.asm_defs.specs.FirstChecks.{names}
 use Rattle.asm_defs.specs.Memory.{AssembledLine}
 use Rattle.asm_defs.specs.Modules.{assembled_line}
 use Rattle.shelf_defs.specs.Copied as spec
-use Rattle.shelf_defs.specs.Copied.{PlacedLine, CopyRefusal, Copied, most_bytes, copied_by}
+use Rattle.shelf_defs.specs.Copied.{PlacedLine, CopyRefusal, Copied, copied_by}
 use Rattle.shelf_defs.specs.Assembly.{texts, laid_copied}
 use Rattle.asm_list_defs.specs.Listed.{front, shown, paired, defined, first_answer, lines_in}
 use Rattle.asm_list_defs.specs.Listed.{Listing, names_of_line, listing_before, listing_behind, listing_by, listing_of}
@@ -24,18 +24,16 @@ use Rattle.asm_list_defs.proofs.TextLaws.{shown_by_texts, defined_by_texts}
 use Rattle.bench_shelf.specs.States.{ShelfState}
 use Rattle.bench_shelf.specs.declared.copy_error.CopyError.{CopyError}
 use Rattle.bench_shelf.specs.declared.copy_error.CopyError.TheVariants.{At, TooLarge, Fault, Memory}
-use Rattle.bench_shelf.specs.declared.copy_error.CopyCause.TheVariants.{Missing}
 use Rattle.bench_shelf.specs.declared.kept_line.KeptLine.{KeptLine}
 use Rattle.bench_shelf.specs.declared.listed.ListedEnding.{ListedEnding}
 use Rattle.bench_shelf.specs.declared.listed.ListedEnding.TheVariants.{Whole, Behind, Before}
 use Rattle.bench_shelf.specs.declared.listed.ListedSource.{ListedSource}
 use Rattle.bench_shelf.specs.CopyAnswers.{CopyRefuses, model_of_cause}
-use Rattle.bench_shelf.specs.Causes.{ShelfCauses}
 use Rattle.bench_shelf.specs.Kept.{model_of_kept}
-use Rattle.bench_shelf.specs.Listed.{KeepsFront, EndsListed, GivesListed, ListFaultEnds, ListAnswered, EndingCauses, ListCauses, RefusedBehind, IsTold}
+use Rattle.bench_shelf.specs.Listed.{KeepsFront, EndsListed, GivesListed, ListAnswered, RefusedBehind, IsTold}
 use Rattle.asm_list.specs.declared.listing.AsmListing.{AsmListing}
 use Rattle.asm_list.specs.Adding.{listed_line, named_line, rows_of_names, all_rows, refused_in}
-use Rattle.asm_list.specs.Listings.{rows_of, RefusedAs, Lists, FaultEnds, ListingAnswered, RefusedCauses, ListingCauses}
+use Rattle.asm_list.specs.Listings.{rows_of, RefusedAs, Lists, ListingAnswered}
 
 -- what is shown of kept lines
 module _ (known : Option Names) where
@@ -178,55 +176,3 @@ module _ (listed : ListedSource) (listing : AsmListing) (rows : rows_of listing 
     ends = tt;
     gives = λ contents agrees. lists (length answered.questions) (copied_by contents source) (answered.gives contents agrees);
   }
-
-  causes_by : (ending : ListedEnding) (before after : ShelfState) → EndingCauses ending before after → RefusedCauses (refused_in ending) before after
-  causes_by (Whole known) before after causes = causes
-  causes_by (Behind known number error) before after causes = causes
-  causes_by (Before error) before after causes = causes
-
-  pub listing_causes : (before after : ShelfState) → ListCauses (Ok listed) before after → ListingCauses (Ok listing) before after
-  listing_causes before after causes =
-      subst (λ (refused : Option CopyError). RefusedCauses refused before after) (sym refused) (causes_by listed.ending before after causes)
-
--- no listing was made
-pub none_answered : (before after : ShelfState) (source : List ℕ) (result : Result ListedSource CopyError) → ListAnswered before after source result
-    → ListingAnswered before after source (Err Memory)
-none_answered before after source result answered =
-    record { questions = answered.questions; dialogue = answered.dialogue; ends = tt; gives = λ contents agrees. tt }
-
-pub error_answered : (before after : ShelfState) (source : List ℕ) (error : CopyError) → ListAnswered before after source (Err error)
-    → ListingAnswered before after source (Err error)
-error_answered before after source error answered = record {
-  questions = answered.questions;
-  dialogue = answered.dialogue;
-  ends = ends error answered.ends;
-  gives = λ contents agrees. tt;
-}
-  where
-    ends : (error : CopyError) → ListFaultEnds (Err error) answered.questions → FaultEnds (Err error) answered.questions
-    ends (At file line cause) is = tt
-    ends TooLarge is = tt
-    ends Fault is = is
-    ends Memory is = tt
-
--- an error says that no more was taken of a file than it may have, or that of the last more was
-error_amounts : (error : CopyError) (before after : ShelfState) → ShelfCauses error before after → ListingCauses (Err Memory) before after
-error_amounts (At file line (Missing name)) before after causes = inl causes.1
-error_amounts (At file line cause) before after causes = inl causes.1
-error_amounts TooLarge before after causes = inr causes
-error_amounts Fault before after causes = inl causes.1
-error_amounts Memory before after causes = inl causes
-
-ending_amounts : (ending : ListedEnding) (before after : ShelfState) → EndingCauses ending before after → ListingCauses (Err Memory) before after
-ending_amounts (Whole known) before after causes = inl causes
-ending_amounts (Behind known number error) before after causes = error_amounts error before after causes
-ending_amounts (Before error) before after causes = error_amounts error before after causes
-
-pub memory_causes : (listed : ListedSource) (before after : ShelfState) → ListCauses (Ok listed) before after → ListingCauses (Err Memory) before after
-memory_causes listed before after causes = ending_amounts listed.ending before after causes
-
-pub error_causes : (error : CopyError) (before after : ShelfState) → ShelfCauses error before after → ListingCauses (Err error) before after
-error_causes (At file line cause) before after causes = causes
-error_causes TooLarge before after causes = causes
-error_causes Fault before after causes = causes
-error_causes Memory before after causes = inl causes

@@ -1,7 +1,7 @@
 -- Rows below a line, and what stands in a row.
 use Rattle.std.proofs.Common.{◌≡◌, ℕ, zero, suc, ◌<◌, ◌≤◌, true, List, [], ◌∷◌, length, take, drop, refl, ap, arith}
 use Rattle.std.proofs.lemmas.Bool.Decides.{nat_tests}
-use Rattle.std.proofs.lemmas.List.{drop_all, length-drop}
+use Rattle.std.proofs.lemmas.List.{length-drop}
 use Rattle.asm_defs.specs.declared.location.Location.{Location}
 use Rattle.shelf_defs.specs.Files.{is_file_name}
 use Rattle.shelf_defs.specs.Copied.{PlacedLine}
@@ -10,15 +10,6 @@ use Rattle.asm_list.specs.Adding.{below}
 
 pub short_name : (name : List ℕ) → is_file_name name ≡ true → length name ≤ 60
 short_name name is = grind (arith, nat_tests, is)
-
-pub take_short : (count : ℕ) (text : List ℕ) → length text ≤ count → take count text ≡ text
-take_short zero [] le = refl
-take_short zero (byte ∷ text) le = absurd (omega (arith, le))
-take_short (suc count) [] le = refl
-take_short (suc count) (byte ∷ text) le = ap (λ others. byte ∷ others) (take_short count text (omega (arith, le)))
-
-pub drop_short : (count : ℕ) (text : List ℕ) → length text ≤ count → drop count text ≡ []
-drop_short count text le = drop_all count text le
 
 -- rows are made as long as text is left
 rows_enough : (count more : ℕ) (at : Location) (text : List ℕ) → length text ≤ count → length text ≤ more → rows_below count at text ≡ rows_below more at text

@@ -1,27 +1,22 @@
 -- The report of an assembler source with the files that it copies.
 use Rattle.std.proofs.Common.{◌≡◌, ℕ, List, refl, sym, ap}
 use Rattle.std.specs.Prelude.{Ok, Err, Option, Some, None, IfSome}
-use Rattle.source_defs.specs.Refusals.{map_ok}
 use Rattle.shelf_defs.specs.Copied as copied
 use Rattle.shelf_defs.specs.Copied.{CopyRefusal, most_bytes}
 use Rattle.bench_shelf.specs.States.{ShelfState}
 use Rattle.bench_shelf.specs.CopyAnswers.{model_of_cause}
 use Rattle.bench_shelf.specs.Causes.{ShelfCauses}
-use Rattle.bench_shelf.specs.Listed.{IsTold, IsUntold}
+use Rattle.bench_shelf.specs.Listed.{IsTold}
 use Rattle.bench_shelf.specs.declared.copy_error.CopyCause.{CopyCause}
 use Rattle.bench_shelf.specs.declared.copy_error.CopyCause.TheVariants.{Asm, BadCopy, TooDeep, TooMany, Missing}
 use Rattle.bench_shelf.specs.declared.copy_error.CopyError.{CopyError}
 use Rattle.bench_shelf.specs.declared.copy_error.CopyError.TheVariants.{At, TooLarge, Fault, Memory}
 use Rattle.bench_shelf.proofs.AskedLaws.{some_contents}
-use Rattle.report_defs.specs.FileReports.{copy_report}
-use Rattle.reports.specs.declared.command_error.CommandError.{CommandError}
-use Rattle.reports.specs.Answers.{Reported, error_answer}
-use Rattle.file_commands.specs.Copying.{copy_refusal}
 use Rattle.file_commands.specs.Reported.{CopyCauses}
 use Rattle.asm_list.specs.declared.listing.AsmListing.{AsmListing}
-use Rattle.asm_list.specs.Listings.{rows_of, as_result, RefusedAs, ListingAnswered, RefusedCauses, ListingCauses}
+use Rattle.asm_list.specs.Listings.{rows_of, as_result, RefusedAs, ListingAnswered, RefusedCauses}
 use Rattle.debug_report_defs.specs.Listings.{rows_report}
-use Rattle.debug_commands.specs.Listed.{RefusalCauses, ListReported, ListFails, model_of_refusal}
+use Rattle.debug_commands.specs.Listed.{RefusalCauses, ListReported, model_of_refusal}
 
 -- the refusal is one that the definitions have
 told_by : (refused : Option CopyError) (defined : Option CopyRefusal) → RefusedAs refused defined → IfSome refused IsTold
@@ -74,12 +69,3 @@ module _ (before after : ShelfState) (source : List ℕ) where
     causes = refusal_causes listing.refused (is_told listing answered) causes;
     is = refl;
   }
-
-  pub error_reported : (error : CopyError) (command_error : CommandError) → IsUntold error → ListingAnswered before after source (Err error)
-      → ListingCauses (Err error) before after → error_answer command_error ≡ map_ok (λ refusal. copy_report (Err refusal)) (copy_refusal error)
-      → Reported (ListReported before after source) (ListFails before after source) (error_answer command_error)
-  error_reported (At file line cause) command_error untold answered causes is = absurd untold
-  error_reported TooLarge command_error untold answered causes is = absurd untold
-  error_reported Fault command_error untold answered causes is =
-      rw is (answered.questions, answered.dialogue, record { ends = answered.ends; rose = causes.0; within = causes.1 })
-  error_reported Memory command_error untold answered causes is = rw is (answered.questions, answered.dialogue, causes)

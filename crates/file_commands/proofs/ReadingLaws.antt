@@ -15,7 +15,7 @@ use Rattle.bench_shelf.specs.States.{ShelfState}
 use Rattle.bench_shelf.specs.Causes.{ReadsOnce, AsksOne, CountsGrew, FileCauses, IsOfName, ReadWithinLimit, answer_by}
 use Rattle.bench_shelf.specs.Leading.{AllGiven}
 use Rattle.bench_shelf.proofs.UnchangedParts.{within_then}
-use Rattle.bench_shelf.proofs.AskingLaws.{agrees_front, agrees_back, shown_then, shown_one, shown_none, reads_none, reads_then, none_follow, turns_then}
+use Rattle.bench_shelf.proofs.AskingLaws.{agrees_front, agrees_back, shown_then, shown_one, reads_then, none_follow, turns_then}
 use Rattle.report_defs.specs.Report.{largest_input}
 use Rattle.report_defs.specs.LinkedFiles as spec
 use Rattle.report_defs.specs.LinkedFiles.{FilesRefusal, TooLarge, taken_file, read_by}
@@ -98,9 +98,6 @@ refused_by _ a b same refused = tt
 pub record ReadSoFar (texts : List FileText) (s t : ShelfState) : Type 0 where
   pub reads : ReadsOnce largest_input (questions_of texts) s t
   pub files : IfSome s.files (λ files. Agrees largest_input (of_files files) 0 (questions_of texts))
-
-pub none_read : (s : ShelfState) → ReadSoFar [] s s
-none_read s = record { reads = reads_none largest_input s; files = shown_none largest_input s.files }
 
 all_given : (texts : List FileText) → AllGiven (questions_of texts)
 all_given [] = tt

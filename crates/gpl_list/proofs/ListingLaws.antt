@@ -1,15 +1,15 @@
 -- Listings of lines that were read.
-use Rattle.std.proofs.Common.{◌≡◌, ℕ, List, [], ◌∷◌, ◌++◌, Ok, Err, map, refl, sym, ap, subst, ◌∙◌, append_assoc, append-nil}
+use Rattle.std.proofs.Common.{◌≡◌, ℕ, List, [], ◌∷◌, ◌++◌, Ok, Err, map, sym, ap, ◌∙◌, append_assoc, append-nil}
 use Rattle.source_defs.specs.Refusals.{Refusal}
 use Rattle.expression_defs.specs.Symbols.{Names}
-use Rattle.expression_defs.specs.Layout.{laid, assembled_lines}
+use Rattle.expression_defs.specs.Layout.{assembled_lines}
 use Rattle.expression_defs.proofs.DefinedNames.{grown_not}
 use Rattle.gpl_source_defs.specs.declared.causes.GplCause.{GplCause}
 use Rattle.gpl_source_defs.specs.Locations.{Line}
-use Rattle.gpl_source_defs.specs.FirstChecks.{check, names}
+use Rattle.gpl_source_defs.specs.FirstChecks.{names}
 use Rattle.gpl_source_defs.specs.Programs.{AssembledLine, assembled_line}
 use Rattle.gpl_list_defs.specs.Rows as spec
-use Rattle.gpl_list_defs.specs.Listing.{Listing, assembled_listing, laid_listing, let_through}
+use Rattle.gpl_list_defs.specs.Listing.{assembled_listing}
 use Rattle.gpl_list.specs.declared.rows.Row.{Row}
 use Rattle.gpl_list.specs.Reading.{model_of_row, Describes, DescribesAll, onto}
 use Rattle.gpl_list.proofs.SecondPassLaws.{same_row}

@@ -1,10 +1,10 @@
 -- The lines of a source, of which some were passed.
-use Rattle.std.proofs.Common.{◌≡◌, ℕ, suc, ◌+◌, ◌-◌, List, [], ◌∷◌, ◌++◌, Bool, true, false, ◌||◌, Ok, Err, length, map, take, refl, sym, ap, subst, ◌∙◌, length-append, arith}
-use Rattle.std.specs.Prelude.{Result, ◌==◌, if◌then◌else◌}
+use Rattle.std.proofs.Common.{◌≡◌, ℕ, suc, ◌+◌, ◌-◌, List, [], ◌∷◌, ◌++◌, true, false, ◌||◌, Ok, Err, length, take, refl, sym, ap, ◌∙◌, length-append, arith}
+use Rattle.std.specs.Prelude.{◌==◌, if◌then◌else◌}
 use Rattle.std.proofs.lemmas.Bool.Decides.{nat_tests}
 use Rattle.source_defs.specs.declared.text.Line.{Line as TextLine}
 use Rattle.source_defs.specs.Lines.{part, lines, numbered, line_texts}
-use Rattle.source_defs.specs.Refusals.{Refusal, ◌>>=◌, at_line}
+use Rattle.source_defs.specs.Refusals.{◌>>=◌, at_line}
 use Rattle.expression_defs.specs.Layout.{laid, laid_behind, has_ended}
 use Rattle.expression_defs.proofs.LaidLaws.{texts_of, laid_more, goes_on, ends_there, refused_there, first_of_two, none_of_two}
 use Rattle.gpl_source_defs.specs.declared.causes.GplCause.{GplCause}
@@ -111,6 +111,3 @@ module _ (text : List ℕ) (before : List Line) (line : TextLine) (next : List T
       → ReadsLines {A = B} (line_texts text) (Err error) new
   read_refused A B Memory new reads = tt
   read_refused A B (At number cause) new reads = (passed_refused number cause reads.0 reads.1, before, front_is number reads.0, reads.2)
-
-pub passed_all : (text : List ℕ) (before : List Line) → Passed text before [] → laid check (line_texts text) ≡ Ok before
-passed_all text before passed = sym passed.rest

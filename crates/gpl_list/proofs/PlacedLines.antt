@@ -1,5 +1,5 @@
 -- A line that is placed behind others.
-use Rattle.std.proofs.Common.{◌≡◌, ℕ, ◌+◌, ◌≤◌, Bool, true, false, List, ◌∷◌, Option, None, Ok, Err, length, refl, sym, ap, ◌∙◌, subst, arith}
+use Rattle.std.proofs.Common.{◌≡◌, ℕ, ◌+◌, ◌≤◌, Bool, true, false, List, ◌∷◌, Option, None, Ok, Err, length, refl, sym, ap, ◌∙◌, arith}
 use Rattle.std.specs.Prelude.{Result, if◌then◌else◌}
 use Rattle.source_defs.specs.Refusals.{◌>>=◌}
 use Rattle.expression_defs.specs.Symbols.{Names, look_up}
@@ -11,10 +11,9 @@ use Rattle.gpl_source_defs.specs.Statements.{Statement, declared_size}
 use Rattle.gpl_source_defs.specs.SecondChecks.{Outcome, outcome}
 use Rattle.gpl_source_defs.specs.Programs.{AssembledLine, assembled_at, with_room, overlaps, image, bytes_in, entry_by}
 use Rattle.gpl_source_defs.proofs.Sizes.{outcome_size}
-use Rattle.gpl_lines.specs.Answers.{Fails, NoMemory}
 use Rattle.gpl_lines.specs.declared.failure.Failure.{Failure}
 use Rattle.gpl_lines.specs.declared.failure.Failure.TheVariants as failure
-use Rattle.gpl_asm.specs.Replay.{Built, put, Puts}
+use Rattle.gpl_asm.specs.Replay.{Built, put}
 use Rattle.gpl_list_defs.specs.Rows as spec
 
 module _ (known : Names) (at : Location) (statement : Statement) (earlier : List AssembledLine) (found : Outcome)
@@ -72,10 +71,3 @@ module _ (known : Names) (at : Location) (statement : Statement) (earlier : List
 
   pub bytes_there : spec.placed_bytes known at statement ≡ bytes_in found
   bytes_there = ap spec.outcome_bytes came
-
--- a line that fails before it is placed
-pub fails_before : (known : Names) (at : Location) (statement : Statement) (earlier : List AssembledLine) (failed : Failure)
-    → Fails failed (outcome (look_up known) at statement) → Fails failed (assembled_at known at statement earlier)
-fails_before known at statement earlier failure.Memory fails = tt
-fails_before known at statement earlier (failure.Refused cause) fails =
-    (ap (λ answer. answer >>= λ found. with_room earlier (record { at = at.number; outcome = found })) fails.0, fails.1)

@@ -2,7 +2,6 @@
 use Rattle.std.proofs.Common.{◌≡◌, ℕ, ◌+◌, List, [], ◌∷◌, ◌++◌, length, map, refl, sym, ap, subst, ◌∙◌}
 use Rattle.std.specs.Prelude.{Ok}
 use Rattle.expression_defs.specs.Expression.{Value}
-use Rattle.expression_defs.specs.Symbols.{Names}
 use Rattle.expression_defs.specs.Growing.{Grows}
 use Rattle.expression_defs.proofs.DefinedNames.{grown_on}
 use Rattle.gpl_source_defs.specs.Locations.{Line, location}

@@ -13,9 +13,7 @@ use Rattle.gpl_source_defs.specs.Locations.{Line, place}
 use Rattle.gpl_source_defs.specs.Programs.{AssembledLine, assembled_line, assembled_at, image}
 use Rattle.gpl_lines.specs.declared.failure.Failure.{Failure}
 use Rattle.gpl_lines.specs.declared.failure.Failure.TheVariants as failure
-use Rattle.gpl_lines.specs.Answers.{Fails}
 use Rattle.gpl_asm.specs.Errors.{refusal_at}
-use Rattle.gpl_asm.specs.declared.error.GplError.{GplError}
 use Rattle.gpl_list_defs.specs.Rows as spec
 use Rattle.gpl_list.specs.declared.rows.Row.{Row}
 use Rattle.gpl_list.specs.Reading.{model_of_row, RowOf, Describes, onto}
@@ -88,20 +86,6 @@ module _ (texts : List (ℕ × List ℕ)) (known : Names) where
     pub assembled_is : assembled_lines (assembled_line known) done ≡ Ok earlier
     pub made_is : made ≡ image earlier
     pub rows_are : map model_of_row rows ≡ shown done
-
-  pub going_start : (rest : List Line) (left : List Row) (made : Image) (rows : List Row) → Describes texts known [] rest left → made ≡ image [] → rows ≡ []
-      → Going (onto rest []) left made rows
-  going_start rest left made rows describes none empty = record {
-    done = [];
-    rest = rest;
-    are = refl;
-    describes = describes;
-    numbered = tt;
-    earlier = [];
-    assembled_is = refl;
-    made_is = none;
-    rows_are = ap (map model_of_row) empty;
-  }
 
   pub going_end : {A : Type 0} (value : A) (lines : List Line) (made : Image) (rows : List Row) → Going lines [] made rows
       → AssemblesRows texts known lines (Ok value) rows

@@ -1,7 +1,6 @@
 -- What is kept of the lines that were read.
 use Rattle.std.specs.Prelude.{◌≡◌, ⊤, ℕ, ◌+◌, ◌-◌, ◌≤◌, List, [], ◌∷◌, ◌++◌, length, map, take, Option, Some, None}
 use Rattle.std.specs.Prelude.{Result, Ok, Err}
-use Rattle.source_defs.specs.Refusals.{Refusal}
 use Rattle.expression_defs.specs.Expression.{Absolute}
 use Rattle.expression_defs.specs.Symbols.{Names}
 use Rattle.expression_defs.specs.Growing.{Grows}

@@ -1,6 +1,5 @@
 -- What lines come to by all names.
 use Rattle.std.specs.Prelude.{◌≡◌, ⊤, ℕ, ◌+◌, ◌≤◌, List, ◌∷◌, map, Result, Ok, Err}
-use Rattle.source_defs.specs.Refusals.{Refusal}
 use Rattle.expression_defs.specs.Symbols.{Names, look_up}
 use Rattle.expression_defs.specs.Layout.{assembled_lines}
 use Rattle.gpl_defs.specs.Image.{Image}

@@ -32,9 +32,3 @@ module _ (area : Area) (before now : List ℕ) where
         within = le;
         size = let long = ap (λ (l : List ℕ). length l) grown ∙ length-append line text in omega (arith, long, so.size);
       }
-
-  pub append_all : (begun line : List ℕ) (at : ℕ) → Appending area before now begun line at → left_from before now at ≡ []
-      → line ≡ begun ++ area_text area (changes before now)
-  append_all begun line at so nothing =
-      so.text
-      ∙ ap (λ text. begun ++ text) (sym (so.is ∙ ap (λ cs. so.done ++ change_texts area at cs) nothing ∙ append-nil so.done))

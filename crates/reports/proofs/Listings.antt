@@ -4,7 +4,7 @@ use Rattle.std.proofs.Common.{ap, ◌∙◌, append_assoc, append-nil, drop-drop
 use Rattle.std.specs.Prelude.{codes}
 use Rattle.bench_io.specs.Stream.{SinkState}
 use Rattle.bench_io.specs.Written.{Wrote, Missed}
-use Rattle.bench_io.proofs.Writes.{wrote_none, wrote_more, missed_more, missed_early}
+use Rattle.bench_io.proofs.Writes.{wrote_more, missed_more, missed_early}
 use Rattle.source_defs.specs.Digits.{hex_byte}
 use Rattle.tms_defs.specs.Words.{join, words_of_bytes}
 use Rattle.instruction_defs.specs.Printed.{printed}
@@ -107,13 +107,6 @@ pub record Listed (at : ℕ) (bytes : List ℕ) (place : ℕ) (before after : Si
   pub lines : List (List ℕ)
   pub wrote : Wrote before after lines
   pub rest : word_lines at (words_of_bytes bytes) ≡ lines ++ word_lines (at + place) (words_of_bytes (drop place bytes))
-
-pub listed_none : (at : ℕ) (bytes : List ℕ) (state : SinkState) → Listed at bytes 0 state state
-listed_none at bytes state = record {
-  lines = [];
-  wrote = wrote_none state;
-  rest = ap (λ a. word_lines a (words_of_bytes bytes)) (omega arith);
-}
 
 -- the rest of the lines begin with the line of the instruction at the place
 next_line : (at place : ℕ) (bytes : List ℕ) → place + 1 < length bytes → let front = printed (words_of_bytes (drop place bytes)) (at + place) in word_lines (at + place) (words_of_bytes (drop place bytes)) ≡ listing_line front.text ∷ word_lines (at + (place + 2 * front.count)) (words_of_bytes (drop (place + 2 * front.count) bytes))

@@ -1,5 +1,5 @@
 -- How a run of `steps` ends.
-use Rattle.std.proofs.Common.{◌≡◌, ◌⊎◌, ℕ, List, ◌++◌, None, Result, Ok, Err, refl, sym, ap, ◌∙◌, subst, inl, inr}
+use Rattle.std.proofs.Common.{◌≡◌, ◌⊎◌, ℕ, List, ◌++◌, Result, Ok, Err, refl, sym, ◌∙◌, subst, inl, inr}
 use Rattle.console_defs.specs.Machine.{MachineState}
 use Rattle.console_defs.specs.declared.run_end.RunEnd.{RunEnd}
 use Rattle.console_defs.specs.declared.run_end.RunEnd.TheVariants as ending
@@ -15,7 +15,7 @@ use Rattle.reports.specs.Outputs.{Outputs, WroteReport, EndsWith}
 use Rattle.reports.specs.Answers.{WantsMemory, Reported, Ends}
 use Rattle.bench_commands.specs.LinkedInput.{RejectsAs}
 use Rattle.machine_steps.specs.Shown.{BreaksOff}
-use Rattle.steps_command.specs.Written.{run_lines, Writes, WritesWhole, MissesSome}
+use Rattle.steps_command.specs.Written.{run_lines, WritesWhole, MissesSome}
 use Rattle.steps_command.specs.Ends.{EndsInstructions}
 
 -- a report that was written ends by its own status

@@ -1,9 +1,6 @@
-use Rattle.std.proofs.Common.{◌≡◌, ℕ, ◌+◌, List, [], ◌∷◌, ◌++◌, take, drop, refl, sym, ap, ◌∙◌, subst, arith}
+use Rattle.std.proofs.Common.{◌≡◌, ℕ, ◌+◌, List, [], ◌∷◌, ◌++◌, take, drop, refl, sym, ap, ◌∙◌, arith}
 use Rattle.std.proofs.lemmas.List.{take_all, take_more}
-use Rattle.shelf_defs.specs.Questions.{Bytes}
-use Rattle.bench_shelf.specs.Causes.{AsksOne}
 use Rattle.bench_shelf.proofs.LoopLaws.{later_then}
-use Rattle.report_defs.specs.Report.{largest_input}
 use Rattle.file_commands.specs.Reading.{model_of_texts}
 use Rattle.file_commands.proofs.ReadingLaws.{names_in, names_more, next_name, memory_ran_out, read_more, reads_kept, reads_stopped, reads_all, causes_since}
 use Rattle.file_commands.proofs.reading.read_files.Goals as goal
