@@ -4,7 +4,6 @@ import typing
 
 import tms_operands
 import tms_text
-from tms_object import Module
 from tms_text import ABSOLUTE, EXTERNAL, RELOCATABLE, Refused
 
 MOST_NAMES = 256

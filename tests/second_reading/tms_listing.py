@@ -4,8 +4,6 @@ import functools
 
 import tms_table
 
-LAST_ADDRESS = 0xFFFF
-
 
 def general(field, more):
     """A general operand by its six bits; a symbolic or indexed one takes its word from those that follow."""

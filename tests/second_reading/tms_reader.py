@@ -3,7 +3,7 @@ compressed form with binary fields, whose rules are the profile's."""
 import re
 
 from tms_object import DEF_TAGS, ENTRY_TAGS, PLACE_TAGS, REF_TAGS, WORD_TAGS, Module
-from tms_text import ABSOLUTE, RELOCATABLE, lines
+from tms_text import RELOCATABLE, lines
 
 RECORD = 80
 MOST_MODULES = 64

@@ -21,8 +21,10 @@ class Archive(Calling):
         self.file('README', b'')
         status, rows = self.rows()
         self.assertEqual(status, 0)
-        self.assertEqual(rows, ['alone.a     linked     entry >A000', 'bad.gpl     refused    line 1: unknown operation',
-                                'image.Bin   same       6 bytes', 'main.asm    assembled  unresolved TABLE',
+        self.assertEqual(rows, ['alone.a     linked     entry >A000',
+                                'bad.gpl     refused    line 1: unknown operation',
+                                'image.Bin   same       6 bytes',
+                                'main.asm    assembled  unresolved TABLE',
                                 'source.gpl  same       4 bytes',
                                 '5 files: 2 same, 1 linked, 1 assembled, 1 refused, 0 different; passed over: 1'])
 
@@ -51,6 +53,18 @@ class Archive(Calling):
         self.file('pr\u00fcfung.bin', IMAGE)
         self.assertEqual(self.rows(LC_ALL='C')[0], 0)
         self.assertEqual(self.rows(LC_ALL='POSIX', PYTHONUTF8='0', PYTHONCOERCECLOCALE='0')[0], 0)
+
+    def test_a_file_that_cannot_be_read_has_failed(self):
+        # its first byte is no one's memory
+        (self.folder / 'broken.a99').symlink_to('/proc/self/mem')
+        self.file('image.bin', IMAGE)
+        status, rows = self.rows()
+        self.assertEqual((status, rows[0]), (1, 'broken.a99  failed     Input/output error'))
+        self.assertEqual(rows[1], 'image.bin   same       6 bytes')
+
+    def test_a_name_cannot_make_a_row(self):
+        self.file('a\tb\nc\\.bin', IMAGE)
+        self.assertEqual(self.rows('--tsv')[1][1:], ['a\\tb\\nc\\\\.bin\tsame\t6 bytes\t'])
 
     def test_a_wrong_program_makes_files_different_and_the_status_1(self):
         liar = self.file('liar', b'#!/bin/sh\necho " END"\n')

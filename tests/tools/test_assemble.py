@@ -21,6 +21,9 @@ NOTES = [
      'what begins in column 1 is a label, so the operation of this line is 1,2'),
     ('a', b'MOV R1,R2', 'unknown operation',
      'what begins in column 1 is a label, so the operation of this line is R1,R2'),
+    ('gpl', b' scan', 'unknown operation', 'SCAN is an operation of GPL that is left out here'),
+    ('gpl', b' BYTE 1,256', 'bad operand', 'a byte is at most 255, or >FF'),
+    ('gpl', b' BYTE >100', 'bad operand', 'a byte is at most 255, or >FF'),
     ('gpl', b' ST @>8300, 5', 'bad operand', 'a blank ends the operands; write none after a comma'),
     ('a', b' DATA 1,\t2', 'bad operand', 'a blank ends the operands; write none after a comma'),
     ('a', b' MOV R1 ,R2', 'operand count', 'a blank ends the operands; write none before a comma'),
@@ -37,10 +40,11 @@ NOTES = [
      'MOVE takes length, target and source, in this order, and G@ is no target'),
     ('a', b' REF SORT\n BL SORT', 'bad relocation', 'an operand without @ or * is a register; the address is @SORT'),
     ('a', b' COPY "sub/A.SRC"', 'bad directive', 'COPY takes the name of a file beside the source, and no path'),
+    ('a', b' COPY A.SRC', 'bad directive', 'COPY takes the name of a file between two "'),
 ]
 # Lines that are refused, and whose text does not say for certain why.
 NO_NOTES = [
-    ('gpl', b' ST COUNT,5'), ('gpl', b' BYTE 256'), ('a', b'A MOVV R1,R2'), ('a', b'LOOP ST@X'),
+    ('gpl', b' ST COUNT,5'), ('gpl', b' BYTE 1,R@2'), ('a', b'A MOVV R1,R2'), ('a', b'LOOP ST@X'),
     ('a', b' TEXT COUNTER'), ('a', b' CLR R1,R2 ,x'), ('a', b' CLR R1,COUNTER'), ('gpl', b' DCLR COUNTER'),
     ('a', b' IDT COUNTER'), ('a', b' JMP COUNT'), ('a', b' LI 16,>12345678'),
     ('gpl', b" DATA 'A_B',1,'LONGNAME','\"'"), ('gpl', b' EQU 1'), ('a', b'LABEL COPY "MY_LONGNAME.SRC"'),
@@ -122,7 +126,8 @@ class Refused(Calling):
     def test_a_cause_without_a_line(self):
         self.assertEqual(self.refusal('a.gpl', b'*' * (1 << 20) + b'\n'), (1, b'a.gpl: too large\n'))
         self.file('A.SRC', b'*\n' * 131_073)
-        self.assertEqual(self.refusal('b.a', b' COPY "A.SRC"\n'), (1, b'b.a: too large\n'))
+        self.assertEqual(self.refusal('b.a', b' COPY "A.SRC"\n'), 
+                         (1, b'b.a: too large\nb.a: note: a file that it copies has more than 262,144 bytes\n'))
 
     def test_a_run_that_ends_otherwise(self):
         for exits, status, reason in (('exit 3', 3, b'a file that it copies cannot be read'),
@@ -184,12 +189,28 @@ class Unreadable(Calling):
                 (['sub', '--gpl'], 3, 'sub: Is a directory'),
                 (['a.gpl', '-o', 'sub'], 3, 'sub: Is a directory'),
                 (['a.gpl', '-o', 'none/out'], 3, 'none/out: No such file or directory'),
-                (['a.gpl', '-o', 'a.gpl'], 2, 'a.gpl: this is the source itself'),
+                (['a.gpl', '-o', 'a.gpl'], 2, 'a.gpl: the output would replace a file that is read'),
                 (['a.gpl', '--program', './none'], 3, 'no program ./none')):
             with self.subTest(words):
                 ended = self.call('assemble', *words)
                 self.assertEqual((ended.returncode, ended.stderr.decode()), (status, f'tools/assemble: {text}\n'))
         self.assertEqual((self.folder / 'a.gpl').read_bytes(), ACCEPTED)
+
+    def test_an_empty_name_of_an_output_is_a_wrong_word(self):
+        self.file('a.gpl', ACCEPTED)
+        ended = self.call('assemble', 'a.gpl', '-o', '')
+        self.assertEqual((ended.returncode, ended.stdout), (2, b''))
+        self.assertIn(b'the name of a file is empty', ended.stderr)
+
+    def test_streams_that_are_closed(self):
+        self.file('a.gpl', ACCEPTED)
+        for words, status in (('a.gpl >&-', 3), ('a.gpl -o out <&- >&-', 0), ('a.gpl -o none/out 2>&-', 3),
+                              ('a.gpl <&-', 0)):
+            ended = subprocess.run(['bash', '-c', f'"$0" {words}', TOOLS / 'assemble'], capture_output=True,
+                                   cwd=self.folder)
+            self.assertEqual(ended.returncode, status, words)
+            self.assertEqual(ended.stderr.count(b'\n'), words == 'a.gpl >&-', words)
+        self.assertEqual((self.folder / 'out').read_bytes(), IMAGE)
 
 
 class AllRefusals(Calling):

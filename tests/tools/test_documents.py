@@ -34,6 +34,11 @@ class Documents(Calling):
         self.assertEqual((ended.returncode, ended.stdout.splitlines()[-1]), (1, b'3 commands, 2 bad'))
         self.assertEqual((self.folder / 'page.md').read_text(), DOCUMENT)
 
+    def test_a_text_without_its_end_is_named(self):
+        self.file('page.md', b"    $ cat <<'END'\n    one\n\nText.\n")
+        ended = self.documents()
+        self.assertEqual((ended.returncode, ended.stderr), (1, b"tests/documents: no line END after: $ cat <<'END'\n"))
+
     def test_what_a_command_writes_is_written(self):
         self.file('page.md', DOCUMENT.encode())
         ended = self.documents('--write')

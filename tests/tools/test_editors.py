@@ -7,7 +7,7 @@ import shutil
 import subprocess
 import unittest
 
-from calling import TOOLS, TOP, Calling
+from calling import TOP, Calling
 from editing import names
 from lib.program import program
 from lib.repository import read_text

@@ -156,6 +156,16 @@ class Wished(Labelling):
         self.assertIn('46 bytes, 19 of them code', said[-1])
         self.assertIn('       BR   L6020                       * >602B', lines)
 
+    def test_a_file_without_steps_covers_nothing(self):
+        self.file('trace', self.program.run('run', '100', given=HELLO).out)
+        ended = self.call('label', '--covered', 'trace', 'gdis', '6000', given=b'\x0B')
+        self.assertEqual((ended.returncode, ended.stderr),
+                         (2, b'tools/label: trace: no line of a step, so this is no report of trace\n'))
+
+    def test_an_entry_outside_of_the_image_is_said(self):
+        _, said = self.label('--entry', '6000', '--entry', '6002', 'gdis', '6000', given=b'\x0B\x0B')
+        self.assertEqual(said[0], '>6002: this entry is outside of the image')
+
     def test_entries_may_be_ranges(self):
         data = self.image(b' EXIT\n ST @>8300,1\n EXIT\n ALL 32\n RTN\n BYTE >0B\n')
         lines, _ = self.label('--entry', '6001-6004', '--entry', '6007', 'gdis', '6000', given=data)

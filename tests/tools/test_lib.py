@@ -5,7 +5,7 @@ import pathlib
 import tempfile
 import unittest
 
-from lib import command, generated, program, repository
+from lib import command, dump, elf, generated, program, repository
 
 LISTED = """# a repository
 
@@ -45,6 +45,31 @@ class Crates(unittest.TestCase):
             self.assertEqual(path.read_bytes(), b'\xc3\xa9\n')
             self.assertEqual(generated.settle({path: 'é\n'}, check=True), 0)
         self.assertEqual(said.getvalue().count(str(path)), 2)
+
+
+class Dumps(unittest.TestCase):
+    REGISTERS = 'regs 00 01 02 03 04 05 06 07'
+
+    def report(self, cell, registers=REGISTERS):
+        """A dump whose cells all have a byte."""
+        rows = [f'>8300{f" {cell}" * 16}', '*', 'vdp', f'>0000{" 00" * 16}', '*', registers]
+        return '\n'.join(['pad', *rows, 'grom >0000'])
+
+    def test_the_last_dump_of_a_report_is_taken(self):
+        found = dump.dump(f'{self.report("11")}\n{self.report("22")}\n')
+        self.assertEqual((found.pad, found.vdp, found.registers), (b'\x22' * 256, bytes(0x4000), bytes(range(8))))
+
+    def test_what_is_cut_off_is_no_dump(self):
+        for report in ('', 'pad\nvdp', self.report('11', 'regs 00'), self.report('11').replace('pad', ''),
+                       f'regs\n{self.report("11", "")}', f'pad\nvdp\n{self.REGISTERS}'):
+            self.assertIsNone(dump.dump(report), report)
+
+
+class Elf(unittest.TestCase):
+    def test_a_file_that_is_no_program_is_named(self):
+        for data in (b'', b'\x7fELF\x02\x01', bytes(64), b'\x7fELF\x02\x01' + bytes(58)):
+            with self.assertRaisesRegex(command.Stopped, 'x is no program for Linux on x86-64'):
+                elf.Program(data, 'x')
 
 
 class Programs(unittest.TestCase):

@@ -18,6 +18,10 @@ class Raw(Calling):
         self.assertEqual(self.raw('--range', 'A002-A009', '--fill', 'ff'),
                          (0, 'A00E FFFF FFFF 10FF', 'tools/raw: 2 bytes are outside of >A002-A009\n'))
 
+    def test_one_byte_is_counted_as_one(self):
+        self.assertEqual(self.raw('--range', 'A000-A008'),
+                         (0, 'C0 60A0 0E00 0000 0010', 'tools/raw: 1 byte is outside of >A000-A008\n'))
+
     def test_names_are_no_words(self):
         self.assertEqual(self.raw(given=b'entry >A000\nTABLE >A012\n'), (1, '', 'tools/raw: no words are listed\n'))
 

@@ -108,7 +108,8 @@ class Screen(Calling):
         self.assertEqual((ended.returncode, ended.stderr), (0, b''))
         names = sorted(path.name for path in (self.folder / 'frames').iterdir())
         self.assertEqual(names, ['step-000001.png', 'step-000003.png', 'step-000005.png'])
-        self.assertEqual(self.frames_of((self.folder / 'film.png').read_bytes()), [(200, 1000), (200, 1000), (100, 1000)])
+        film = (self.folder / 'film.png').read_bytes()
+        self.assertEqual(self.frames_of(film), [(200, 1000), (200, 1000), (100, 1000)])
         self.call('screen', '-o', 'last.png', given=given)
         self.assertEqual((self.folder / 'frames/step-000005.png').read_bytes(), (self.folder / 'last.png').read_bytes())
 
@@ -124,6 +125,22 @@ class Screen(Calling):
         ended = self.call('screen', '--film', 'film.png', given=self.run_report(' W1=E0', ' W7=08'))
         self.assertEqual((ended.returncode, (self.folder / 'film.png').exists()), (1, False))
         self.assertIn(b'the changes do not lead to the last screen', ended.stderr)
+
+    def test_a_run_that_ends_in_another_mode_has_the_film_up_to_there(self):
+        self.registers = [0, 0xF0, 0, 0, 0, 0, 0, 0x02]
+        given = self.run_report(' W1=E0 W7=02', ' W1=F0')
+        ended = self.call('screen', '--frames', 'frames', given=given)
+        self.assertEqual((ended.returncode, ended.stderr),
+                         (0, b'tools/screen: text mode, in which the run ends, is not drawn\n'))
+        self.assertEqual([path.name for path in (self.folder / 'frames').iterdir()], ['step-000001.png'])
+        ended = self.call('screen', '--frames', 'frames', '--every', '2', given=given)
+        self.assertEqual((ended.returncode, ended.stderr), (1, b'tools/screen: text mode is not drawn\n'))
+
+    def test_words_that_do_not_go_together(self):
+        for words in (['-p', '-o', 'a.png'], ['-p', '--film', 'a.png'], ['--every', '2'], ['-p', '--delay', '9'],
+                      ['-o', ''], ['--film', 'a.png', '--every', '0']):
+            ended = self.call('screen', *words, given=self.run_report(' W1=E0'))
+            self.assertEqual((ended.returncode, ended.stdout), (2, b''), words)
 
     def test_without_a_dump_the_status_is_1(self):
         ended = self.call('screen', given=b'line 1: unknown operation\n')

@@ -198,6 +198,8 @@ class Steps(Calling):
         self.file('a.gpl', b' EXIT\n END >6000\n')
         for words in ([], ['a.gpl', '100001'], ['a.gpl', '-1'], ['a.gpl', 'x'], ['a.gpl', '1', '2']):
             self.assertEqual(self.call('steps', *words).returncode, 2)
+        for seconds in ('-1', 'nan', 'inf', '1e3', '١', ''):
+            self.assertEqual(self.call('steps', '--seconds', seconds, 'a.gpl').returncode, 2)
         self.assertEqual(self.call('steps', 'missing.gpl').returncode, 3)
 
     def test_an_output_file(self):
@@ -205,6 +207,9 @@ class Steps(Calling):
         ended = self.call('steps', '-o', 'page.html', 'a.gpl')
         self.assertEqual((ended.returncode, ended.stdout), (0, b''))
         self.assertTrue((self.folder / 'page.html').read_bytes().startswith(b'<!DOCTYPE html>'))
+        ended = self.call('steps', '-o', './a.gpl', 'a.gpl')
+        self.assertEqual((ended.returncode, (self.folder / 'a.gpl').read_bytes()), (2, b' EXIT\n END >6000\n'))
+        self.assertIn(b'./a.gpl: the output would replace a file that is read', ended.stderr)
 
     def test_another_program_makes_no_page(self):
         self.file('a.gpl', b' EXIT\n END >6000\n')

@@ -50,10 +50,20 @@ class Watch(Calling):
         for word, text in (('pad:NOSUCH', b'pad:NOSUCH: the source has no name NOSUCH'),
                            ('cell:SUM', b'cell:SUM: no item; it is pad:AT+LEN, vdp:AT+LEN or pc:AT'),
                            ('pc:SHOW+1', b'pc:SHOW+1: pc: has no length'),
-                           ('pad:83C1+2', b'an item is out of range')):
+                           ('pad:83C1+2', b'pad:83C1+2: not within >8300 to >83C1'),
+                           ('pad:82FF', b'pad:82FF: not within >8300 to >83C1'),
+                           ('vdp:3FFF.1', b'vdp:3FFF.1: not within >0000 to >3FFF'),
+                           ('vdp:0000+0', b'vdp:0000+0: not within >0000 to >3FFF'),
+                           ('pc:FFFF.1', b'pc:FFFF.1: not within >0000 to >FFFF')):
             ended = self.watch('show.gpl', '100', word)
             self.assertEqual((ended.returncode, ended.stdout), (2, b''))
             self.assertIn(text, ended.stderr)
+
+    def test_at_most_eight_items_are_given(self):
+        self.assertEqual(self.watch('show.gpl', '1', *8 * ['vdp:3FFF']).returncode, 1)
+        ended = self.watch('show.gpl', '1', *9 * ['vdp:3FFF'])
+        self.assertEqual((ended.returncode, ended.stdout), (2, b''))
+        self.assertIn(b'at most 8 items can be given', ended.stderr)
 
     def test_no_hit_has_a_status(self):
         for words in ([], ['--all']):

@@ -116,7 +116,9 @@ class Labelling:
         text, lowered = checked(source, wanted)
         if text is None:
             return None
-        return Labelled(text, doubts.found(addresses, self.listing.known, source.rows, odd),
+        outside = [f'>{at:04X}: this entry is outside of the image'
+                   for at in self.wishes.entries if not self.image.holds(at, 1)]
+        return Labelled(text, [*outside, *doubts.found(addresses, self.listing.known, source.rows, odd)],
                         self._summary(addresses, source, lowered))
 
     def _descent(self):

@@ -36,18 +36,21 @@ def input_text():
     return sys.stdin.buffer.read().decode('latin-1')
 
 
-def write_bytes(path, data):
-    """Makes a file of bytes."""
-    try:
-        pathlib.Path(path).write_bytes(data)
-    except OSError as error:
-        raise Stopped(f'{path}: {error.strerror}', UNREADABLE) from None
+def open_streams():
+    """Opens the standard streams that the script was called without. A read and a write of standard input and output
+    then fails as one of a closed stream does, and messages go nowhere."""
+    for number, (stream, kind, mode) in enumerate((('stdin', os.O_WRONLY, 'r'), ('stdout', os.O_RDONLY, 'w'),
+                                                   ('stderr', os.O_WRONLY, 'w'))):
+        if getattr(sys, stream) is None:
+            os.dup2(os.open(os.devnull, kind), number)
+            setattr(sys, stream, open(number, mode, closefd=False))
 
 
 def run(main):
     """Ends the process with the status that `main` returns, 0 for None. A reader of its output that has gone ends it
     quietly, as it ends other programs; a file that cannot be read or written is named; text that the locale cannot show
     is written as escapes."""
+    open_streams()
     for stream in (sys.stdout, sys.stderr):
         stream.reconfigure(errors='backslashreplace')
     try:

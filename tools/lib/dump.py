@@ -3,6 +3,7 @@ words that `link` and `interp` list."""
 import re
 
 ROW = re.compile(r'>([0-9A-F]{4})((?: [0-9A-F]{2}){16})')
+REGISTERS = 'regs(?: [0-9A-F]{2}){8}'
 WORDS = re.compile(r'>([0-9A-F]{4})((?: [0-9A-F]{4}){1,8})')
 SIZES = {'pad': 256, 'vdp': 16384, 'low': 8192, 'high': 24576}
 ORIGINS = {'pad': 0x8300, 'vdp': 0, 'low': 0x2000, 'high': 0xA000}
@@ -29,17 +30,23 @@ def memory(rows, part):
     return bytes(held + last * ((SIZES[part] - len(held)) // 16))
 
 
+def last_of(pattern, lines, end):
+    """The number of the last line of a form that stands before line `end`, -1 if there is none."""
+    return next((number for number in reversed(range(end)) if re.fullmatch(pattern, lines[number])), -1)
+
+
 def dump(text):
     """The last dump of a report, or None if it has none."""
     lines = text.splitlines()
-    heads = [number for number, line in enumerate(lines) if line.startswith('regs ')]
-    if not heads or 'vdp' not in lines or 'pad' not in lines:
+    end = last_of(REGISTERS, lines, len(lines))
+    middle = last_of('vdp', lines, end)
+    begin = last_of('pad', lines, middle)
+    if begin < 0:
         return None
-    end = heads[-1]
-    middle = max(number for number in range(end) if lines[number] == 'vdp')
-    begin = max(number for number in range(middle) if lines[number] == 'pad')
-    return Dump(memory(lines[begin + 1:middle], 'pad'), memory(lines[middle + 1:end], 'vdp'),
-                bytes.fromhex(lines[end].partition(' ')[2]))
+    pad, video = memory(lines[begin + 1:middle], 'pad'), memory(lines[middle + 1:end], 'vdp')
+    if (len(pad), len(video)) != (SIZES['pad'], SIZES['vdp']):
+        return None
+    return Dump(pad, video, bytes.fromhex(lines[end].partition(' ')[2]))
 
 
 def expansion(text):

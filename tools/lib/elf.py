@@ -3,6 +3,8 @@ import struct
 
 from lib.command import UNREADABLE, Stopped
 
+# the bytes of the header of a file
+HEADER = 64
 LOAD, DYNAMIC, INTERPRETER = 1, 2, 3
 NEEDED, STRINGS, VERSIONS_NEEDED, VERSIONS_COUNT = 1, 5, 0x6ffffffe, 0x6fffffff
 
@@ -12,7 +14,7 @@ class Program:
 
     def __init__(self, data, path):
         self.data = data
-        if data[:6] != b'\x7fELF\x02\x01' or struct.unpack_from('<H', data, 18)[0] != 62:
+        if len(data) < HEADER or data[:6] != b'\x7fELF\x02\x01' or struct.unpack_from('<H', data, 18)[0] != 62:
             raise Stopped(f'{path} is no program for Linux on x86-64', UNREADABLE)
         offset, = struct.unpack_from('<Q', data, 32)
         size, count = struct.unpack_from('<HH', data, 54)

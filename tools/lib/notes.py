@@ -13,6 +13,9 @@ OPERAND = re.compile(r"[-0-9@*>'$].*|[VGRvgr]@.*|[Vv]\*.*|[Rr](?:1[0-5]|[0-9]),.
 NAME = re.compile(r'[A-Za-z][0-9A-Za-z]{0,5}')
 WORD = re.compile(r'(?<![0-9A-Za-z>])[A-Za-z][0-9A-Za-z]*')
 LINE_MAXIMUM = 256
+NUMBER = re.compile(r'([0-9]+)|>([0-9A-Fa-f]+)')
+# the operations of GPL that the assembler does not have
+LEFT_OUT = {'FMT', 'COINC', 'IO', 'XML', 'PARSE', 'CONT', 'EXEC', 'RTNB', 'RTGR', 'SWGR', 'SCAN'}
 
 ALPHANUMERIC = 'a name has letters and digits alone, and no _'
 
@@ -52,12 +55,16 @@ def label_note(found):
 def operation_note(found):
     if found.label and OPERAND.fullmatch(found.operation):
         return f'what begins in column 1 is a label, so the operation of this line is {found.operation}'
+    if found.operation.upper() in LEFT_OUT:
+        return f'{found.operation.upper()} is an operation of GPL that is left out here'
     return None
 
 
 def copy_note(found):
     if re.search(r'[/\\]', found.operands):
         return 'COPY takes the name of a file beside the source, and no path'
+    if not re.match('["\']', found.operands):
+        return 'COPY takes the name of a file between two "'
     return None
 
 
@@ -93,6 +100,12 @@ def token_note(found):
     return ALPHANUMERIC if UNDERSCORE.search(bare) else None
 
 
+def is_above_a_byte(operand):
+    """Whether an operand is a number that no byte holds."""
+    found = NUMBER.fullmatch(operand)
+    return bool(found) and (int(found[1]) if found[1] else int(found[2], 16)) > 255
+
+
 def form_note(found):
     """Of operands whose form their operation does not take."""
     if found.operation.upper() in ('DEF', 'REF'):
@@ -100,6 +113,8 @@ def form_note(found):
     operands = QUOTED.sub("''", found.operands).split(',')
     if found.operation.upper() == 'MOVE' and len(operands) == 3 and operands[1].upper().startswith('G@'):
         return 'MOVE takes length, target and source, in this order, and G@ is no target'
+    if found.operation.upper() == 'BYTE' and any(is_above_a_byte(operand) for operand in operands):
+        return 'a byte is at most 255, or >FF'
     return None
 
 

@@ -16,6 +16,11 @@ class Run(typing.NamedTuple):
     err: bytes
 
     @property
+    def code(self):
+        """The status that a script ends with after it: 128 and the number of the signal, if one ended the run."""
+        return self.status if self.status >= 0 else 128 - self.status
+
+    @property
     def fault(self):
         """The first line of standard error."""
         return self.err.decode('latin-1').partition('\n')[0]

@@ -6,6 +6,8 @@ from lib import notes
 from lib.command import UNREADABLE, Stopped
 
 PLACE = re.compile(r'(?:([A-Za-z0-9._-]{1,60}) )?line ([0-9]+): (.*)')
+# the most bytes of a source
+MOST_BYTES = 1_048_576
 REASONS = {3: 'a file that it copies cannot be read', 5: 'out of memory'}
 
 
@@ -50,5 +52,8 @@ def refusal(file, source, ended):
             return explanation(file, source, int(number), cause)
         path = os.path.join(os.path.dirname(file), name)
         return explanation(path, read(path), int(number), cause)
+    if ended.fault == 'too large' and len(source) <= MOST_BYTES:
+        return [os.fsencode(file) + b': too large',
+                os.fsencode(file) + b': note: a file that it copies has more than 262,144 bytes']
     reason = ended.fault or REASONS.get(ended.status, f'the program ended with status {ended.status}')
     return [os.fsencode(file) + b': ' + reason.encode('latin-1')]

@@ -80,7 +80,8 @@ def filled(items):
 def all_words_file(listing):
     """The parts with their addresses, and all words."""
     parts = [part for part in listing.parts if part.list != '-']
-    lines = [f'-- {WRITTEN}', '-- The words of the interpreter from >2000 up, part by part in the order of its source.',
+    lines = [f'-- {WRITTEN}',
+             '-- The words of the interpreter from >2000 up, part by part in the order of its source.',
              'use Rattle.std.specs.Prelude.{ℕ, ◌-◌, ◌/◌, List, [], ◌∷◌, ◌++◌, flat_map, slice_index}',
              'use Rattle.native_interp.specs.declared.addresses.TheConstants.{']
     lines += [f'  {part.label},' for part in parts] + ['}']

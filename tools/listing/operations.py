@@ -5,8 +5,8 @@ from lib.repository import TOP, read_text
 
 
 STEP, ARITHMETIC = (f'crates/gpl_step_defs/specs/{it}.antt' for it in ('Step', 'Arithmetic'))
-ROUTINES = ['WHERE', 'SEEK', 'FETCH', 'ADDR', 'ASHORT', 'APTR', 'INDEX', 'ASPACE', 'LOAD', 'LDATA', 'STREAM', 'STORE', 'SDATA',
-            'SREG', 'COUNT']
+ROUTINES = ['WHERE', 'SEEK', 'FETCH', 'ADDR', 'ASHORT', 'APTR', 'INDEX', 'ASPACE', 'LOAD', 'LDATA', 'STREAM', 'STORE',
+            'SDATA', 'SREG', 'COUNT']
 TAILS = ['STO', 'SHOW', 'GOTO', 'TAKE', 'RESUME', 'CTRUE', 'CFALSE', 'GSTEP', 'GSTOP', 'GEXIT']
 ROWS = ['ROW', 'OPSDST', 'OPSVAL', 'WIDE', 'WIDDST', 'WIDVAL', 'STROW', 'STDST', 'OPSTWO', 'OPVAL', 'GO']
 STEPS = ['GBOOT', 'GSTEP', 'UNKN']
@@ -197,8 +197,8 @@ def section(listing, found, kind, name, code, count, every):
     lines = ['', f'## {"MOVE " + MOVES[name] if moves else name}', '', f'- Code bytes: {bytes_of(code, count)}.']
     lines += definition(kind, name)
     if row:
-        lines.append(f'- Entry: TABLE leads to {entry_table}, which finds the operands and loads what the row reads of them, and OPTAB to {entry} at '
-                     f'`>{found[entry].place:04X}`.')
+        lines.append(f'- Entry: TABLE leads to {entry_table}, which finds the operands and loads what the row reads of '
+                     f'them, and OPTAB to {entry} at `>{found[entry].place:04X}`.')
     else:
         lines.append(f'- Entry: TABLE leads to {entry} at `>{found[entry].place:04X}`.')
     if tails:

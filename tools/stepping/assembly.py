@@ -31,8 +31,8 @@ class Value(typing.NamedTuple):
 
 
 class Line(typing.NamedTuple):
-    """A line: the copied file that it is in, or None; its number there; its place, and the mark of the part that has this
-    place; the values that it places; and its text."""
+    """A line: the copied file that it is in, or None; its number there; its place, and the mark of the part that has
+    this place; the values that it places; and its text."""
     file: str
     number: int
     place: int

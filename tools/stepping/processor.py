@@ -17,7 +17,6 @@ GROM = re.compile(r'^grom >([0-9A-F]{4})$', re.M)
 ENTRY = re.compile(r'entry >([0-9A-F]{4})')
 NAME = re.compile(r'^([A-Z][A-Z0-9]*) +>([0-9A-F]{4})$', re.M)
 END_LINE = re.compile(r'end ([a-z ]+?)(?: (>[0-9A-F]{4}))?$', re.M)
-FIRST_WORKSPACE = 0x83E0
 ENDS = {'self jump': 'Ended at JMP $', 'refused': 'Stopped at a word that is not executed, at',
         'port': 'Stopped at a word access to the port'}
 

@@ -10,7 +10,9 @@ from lib.dump import dump
 from stepping.places import CELLS, CELLS_END, END, REGISTERS, VIDEO, changes_of, make
 from stepping.reports import counted, reported
 
-STEP = re.compile(r' *[0-9]+ >([0-9A-F]{4}) S.. D.. R.. ([^=\n]*?)((?: \S+=\S+)*)')
+BYTES = r'[0-9A-F]{2}(?:\*[0-9]{1,5})?'
+CHANGE = rf'(?:V?>[0-9A-F]{{4}}|W[0-7])={BYTES}(?:,{BYTES})*'
+STEP = re.compile(rf' *[0-9]+ >([0-9A-F]{{4}}) S.. D.. R.. ([^=\n]*?)((?: {CHANGE})*)')
 STATE = re.compile(r'^gpl >([0-9A-F]{4}) ', re.M)
 END_LINE = re.compile(r'^(exit|stop) ?([0-9]?) ?at >([0-9A-F]{4})$', re.M)
 REASONS = {
