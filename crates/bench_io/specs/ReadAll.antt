@@ -17,7 +17,7 @@ pub record Took (before after : SourceState) (bytes : List ℕ) (empty : ℕ) : 
   pub later : before.largest ≤ after.largest
   pub largest : after.largest ≤ max before.largest after.given
 
--- a source that was read up to its end: the last call alone gave no byte
+-- a source that was read up to its end: one call gave no byte, and if the bytes are shown none is left
 pub record ReadWhole (limit : ℕ) (before after : SourceState) (bytes : List ℕ) : Type 0 where
   pub took : Took before after bytes 1
   pub within : length bytes ≤ limit

@@ -23,7 +23,8 @@ pub trait Source {
     /// `buffer` after them, and after a failure in all of it, is left open.
     ///
     /// # Errors
-    /// `Failed` comes only where the count of faults rose in this call. It takes no bytes.
+    /// `Failed` comes only where the count of faults rose in this call, and it rises in no other call. It takes no
+    /// bytes.
     fn take(&mut self, buffer: &mut [u8]) -> Result<usize, Failed>
         requires { 0 < length buffer.old }
 
@@ -46,5 +47,6 @@ pub trait Source {
 
         ensures faults { (state self.old).faults ≤ (state self.new).faults }
         ensures cause { OnErr result (Rose (state self.old).faults (state self.new).faults) }
+        ensures no_fault { IfOk result (λ _. (state self.new).faults ≡ (state self.old).faults) }
         ensures kept { kept self.new ≡ kept self.old };
 }

@@ -21,6 +21,11 @@ abbrev pub Refuses : OpenError → ShelfState → ShelfState → List ℕ → Ty
 Refuses Failed before after name = Rose before.source.faults after.source.faults
 Refuses Missing before after name = Rose before.misses after.misses × IsMissing before.files name
 
+-- the count of what was not the reason stands as before
+abbrev pub KeepsOther : OpenError → ShelfState → ShelfState → Type 0
+KeepsOther Failed before after = after.misses ≡ before.misses
+KeepsOther Missing before after = after.source.faults ≡ before.source.faults
+
 -- the call is counted and its name kept after the others, and of the file that was opened no bytes were given yet, nor
 -- were any of one that was refused
 pub record StartsAnew (before after : ShelfState) (name : List ℕ) : Type 0 where

@@ -3,7 +3,7 @@
 ghost use Rattle.std.specs.Prelude.{◌≡◌, ◌≤◌, IfErr, OnOk, OnErr};
 ghost use Rattle.bench_io.specs.Stream.{IsAtEnd};
 ghost use Rattle.bench_shelf.specs.States.{ShelfState, SameFiles};
-ghost use Rattle.bench_shelf.specs.Opening.{Opens, Refuses, SameCounts, StartsAnew};
+ghost use Rattle.bench_shelf.specs.Opening.{Opens, Refuses, KeepsOther, SameCounts, StartsAnew};
 
 use crate::error::OpenError;
 use crate::file_name::FileName;
@@ -22,7 +22,8 @@ pub trait Shelf: Source {
     ///
     /// # Errors
     /// `Failed` comes only where the count of faults rose in this call, and `Missing` only where the count of misses
-    /// rose, and exactly where the call did not fail and no file has the name. Nothing is left then.
+    /// rose, and exactly where the call did not fail and no file has the name. Neither count rises with another answer.
+    /// Nothing is left then.
     fn open_file(&mut self, name: &FileName) -> Result<(), OpenError>
         ensures opened { OnOk result (Opens (shelf self.old).files name.now (shelf self.new).source.left) }
         ensures refused { IfErr result (λ error. Refuses error (shelf self.old) (shelf self.new) name.now) }
@@ -33,6 +34,9 @@ pub trait Shelf: Source {
         ensures anew { StartsAnew (shelf self.old) (shelf self.new) name.now }
         ensures faults { (shelf self.old).source.faults ≤ (shelf self.new).source.faults }
         ensures misses { (shelf self.old).misses ≤ (shelf self.new).misses }
+        ensures no_fault { OnOk result ((shelf self.new).source.faults ≡ (shelf self.old).source.faults) }
+        ensures no_miss { OnOk result ((shelf self.new).misses ≡ (shelf self.old).misses) }
+        ensures other { IfErr result (λ error. KeepsOther error (shelf self.old) (shelf self.new)) }
         ensures files { (shelf self.new).files ≡ (shelf self.old).files };
 
     /// The open file is the shelf as a source.

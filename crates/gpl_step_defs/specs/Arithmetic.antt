@@ -111,7 +111,8 @@ pub record Source : Type 0 where
   pub number : ℕ
   pub place : Option Place
 
--- GPL Programmer's Guide, "Exchange": the source's value is stored first, then the old destination.
+-- GPL Programmer's Guide, "Exchange".
+-- Profile: the source's value is stored first, then the old destination.
 abbrev pub exchanged : Width → Place → ℕ → Source → Option Place → Changes → Changes
 exchanged width at old source None c = with_value width at source.number c
 exchanged width at old source (Some place) c = with_value width place old (with_value width at source.number c)

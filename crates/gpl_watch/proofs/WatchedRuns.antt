@@ -19,7 +19,7 @@ use Rattle.watch_defs.specs.declared.item.Item.{Item}
 use Rattle.watch_defs.specs.declared.found.Found.{Found}
 use Rattle.watch_defs.specs.declared.found.Found.TheVariants as result
 use Rattle.watch_defs.specs.Items.{change_since}
-use Rattle.watch_defs.specs.Hits.{behind, change_at, hit_at, hits, found}
+use Rattle.watch_defs.specs.Hits.{state_after, change_at, hit_at, hits, found}
 use Rattle.watch_defs.proofs.Hits.{hit_is, none_more, first_found, none_found}
 use Rattle.gpl_watch.specs.Watches.{WatchedItem, watching, items_of, Keeps, at_address, first_kept}
 use Rattle.gpl_watch.specs.Watches.{bounds, RunsWithin, Watches}
@@ -96,7 +96,7 @@ first_told z watched e is = sym (is ∙ ap (λ (n : ℕ). first_kept (at_address
 module _ {items : List Item} {x y : SessionState} {t u made : ℕ} {watched : List WatchedItem} (z : SessionState)
     (v : ℕ) (p : Watching items x y t u made watched) where
   -- the state before the step
-  before_is : gpl_state_of y ≡ behind (gpl_state_of x) made
+  before_is : gpl_state_of y ≡ state_after (gpl_state_of x) made
   before_is =
       seen_running y p.running ∙ p.stepping.matches.shows
       ∙ sym (last_is made p.stepping z.machine v)
@@ -137,7 +137,7 @@ module _ {items : List Item} {x y : SessionState} {t u made : ℕ} {watched : Li
     runs_on : z.ended ≡ None
     runs_on = ended ∙ ap ended_by is
 
-    after_is : gpl_state_of z ≡ behind (gpl_state_of x) (made + 1)
+    after_is : gpl_state_of z ≡ state_after (gpl_state_of x) (made + 1)
     after_is =
         seen_running z runs_on ∙ more.matches.shows
         ∙ sym (last_is (made + 1) more z.machine v)

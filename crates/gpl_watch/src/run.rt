@@ -34,8 +34,8 @@ pub(crate) fn run_watched<L: Ledger>(
         if let Turn::Stopped(_) = session.next(steps) {
             return Found::None;
         }
-        let behind = session.pc();
-        if let Some(place) = first_that_holds(watched, session, behind) {
+        let reached = session.pc();
+        if let Some(place) = first_that_holds(watched, session, reached) {
             let found = hit(made + 1, from, place, watched[place].change(session));
             keep_all(watched, session);
             return found;
@@ -45,12 +45,12 @@ pub(crate) fn run_watched<L: Ledger>(
 }
 
 /// The place in the list of the first item that holds at the step that the program has just made, and that led to
-/// `behind`.
-fn first_that_holds(watched: &[Watched], session: &Session, behind: u16) -> Option<usize>
-    ensures first { result ≡ first_kept (at_address behind (gpl_state_of session.now)) watched.now }
+/// `reached`.
+fn first_that_holds(watched: &[Watched], session: &Session, reached: u16) -> Option<usize>
+    ensures first { result ≡ first_kept (at_address reached (gpl_state_of session.now)) watched.now }
     ensures within { IfSome result (λ place. place < length watched.now) }
 {
-    watched.iter().position(|one| one.holds(session, behind))
+    watched.iter().position(|one| one.holds(session, reached))
 }
 
 /// The hit of a step: its number, the address of its instruction, the place of the item, and its change.

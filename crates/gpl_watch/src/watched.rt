@@ -39,16 +39,16 @@ impl Watched {
         Ok(Watched { item, kept })
     }
 
-    /// Whether the item holds at the step that the program has just made, and that led to `behind`.
-    pub(crate) fn holds(&self, session: &Session, behind: u16) -> bool
-        ensures { result ≡ holds_since self.now.item self.now.kept (at_address behind (gpl_state_of session.now)) }
+    /// Whether the item holds at the step that the program has just made, and that led to `reached`.
+    pub(crate) fn holds(&self, session: &Session, reached: u16) -> bool
+        ensures { result ≡ holds_since self.now.item self.now.kept (at_address reached (gpl_state_of session.now)) }
     {
         match self.item {
             Item::Range { space, at, len } => first_difference(
                 &self.kept,
                 range_bytes(session, space, at, len),
             ).is_some(),
-            Item::Pc(at) => behind == at,
+            Item::Pc(at) => reached == at,
         }
     }
 

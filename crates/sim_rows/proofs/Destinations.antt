@@ -1,7 +1,7 @@
 -- The destination of a row, from the dispatch until it is kept.
 use Rattle.std.proofs.Common.{ℕ, ◌+◌, ◌<◌, ◌∙◌, ◌≡◌, ◌≤◌, ap, arith, Bool, Err, false, nat_lt, not, Ok, Option, refl, Result, Some, subst, sym, true}
 use Rattle.std.proofs.lemmas.Bool.{not-true}
-use Rattle.sim_rows.specs.Prelude.{ADDR, Asking, AtDispatch, after_code, after_destination, after_first, bytes_by, code_byte, ReachesWithin, destination_bytes}
+use Rattle.sim_rows.specs.Prelude.{ADDR, Asking, AtDispatch, after_code, return_of_destination, after_first, bytes_by, code_byte, ReachesWithin, destination_bytes}
 use Rattle.sim_rows.specs.Prelude.{destination_size, DIV, even, Exits, Finds, FindsOperand, first_of, gone_on, GplOperation, GplState, GSTOP, is_turn_end, is_row}
 use Rattle.sim_rows.specs.Prelude.{IsVisible, KeepsDestination, LOAD, LoadsDestination, LoadsValue, MachineState, MUL, next_at, number_of_space, operand_at}
 use Rattle.sim_rows.specs.Prelude.{operation_in, Place, place_of, PortsAreIdle, reads_destination, Reason, return_of, ROW, row_width, size_of, Stands}
@@ -81,7 +81,7 @@ module _ {x : MachineState} (at : AtDispatch is_row x) where
   s = state_at_dispatch (view x)
 
   abbrev label : ℕ
-  label = after_destination (operation_in s)
+  label = return_of_destination (operation_in s)
 
   abbrev bytes : ℕ
   bytes = destination_bytes s

@@ -1,6 +1,6 @@
 -- The kinds of rows, by the entry that the first table has for them.
 use Rattle.std.proofs.Common.{ℕ, ◌*◌, ◌∙◌, ◌≡◌, ◌⊎◌, ap, arith, inl, inr, Option, refl, Some, sym, true}
-use Rattle.sim_rows.specs.Prelude.{after_destination, bytes_by, DIV, even, GplOperation, GSTOP, is_row, MUL, operation_entry, ROW, size_of, ST, TwoName}
+use Rattle.sim_rows.specs.Prelude.{return_of_destination, bytes_by, DIV, even, GplOperation, GSTOP, is_row, MUL, operation_entry, ROW, size_of, ST, TwoName}
 use Rattle.sim_rows.specs.Prelude.{WIDE, Width}
 use Rattle.sim_view.specs.gpl_defs.declared.instruction.GplOperation.TheVariants as operation
 use Rattle.sim_view.specs.native_interp.declared.addresses.TheConstants.{OPSDST, STDST, STROW, WIDDST}
@@ -8,7 +8,7 @@ use Rattle.sim_view.specs.native_interp.declared.addresses.TheConstants.{OPSDST,
 -- Where the row begins, where ADDR returns to with its destination, and how many values that takes.
 pub record Kind (o : Option GplOperation) (entry label values : ℕ) : Type 0 where
   pub starts : operation_entry o ≡ entry
-  pub label_is : after_destination o ≡ label
+  pub label_is : return_of_destination o ≡ label
   pub bytes : (w : Width) → bytes_by o w ≡ values * size_of w
 
 pub record Wide (o : Option GplOperation) : Type 0 where
@@ -54,14 +54,14 @@ module _ (o : Option GplOperation) (row : is_row o ≡ true) where
       by (inr (inr k)) = k
 
   -- ADDR returns there, which is not the stop
-  pub returns_there : (even (after_destination o) ≡ after_destination o) × (after_destination o ≡ GSTOP → ⊥)
+  pub returns_there : (even (return_of_destination o) ≡ return_of_destination o) × (return_of_destination o ≡ GSTOP → ⊥)
   returns_there = by (kind_of o row)
     where
       away : {entry label values : ℕ} → Kind o entry label values → even label ≡ label → (label ≡ GSTOP → ⊥) →
-          (even (after_destination o) ≡ after_destination o) × (after_destination o ≡ GSTOP → ⊥)
+          (even (return_of_destination o) ≡ return_of_destination o) × (return_of_destination o ≡ GSTOP → ⊥)
       away k e n = (ap even k.label_is ∙ e ∙ sym k.label_is, λ stop. n (sym k.label_is ∙ stop))
 
-      by : Kind o ROW OPSDST 1 ⊎ (Wide o ⊎ Storer o) → (even (after_destination o) ≡ after_destination o) × (after_destination o ≡ GSTOP → ⊥)
+      by : Kind o ROW OPSDST 1 ⊎ (Wide o ⊎ Storer o) → (even (return_of_destination o) ≡ return_of_destination o) × (return_of_destination o ≡ GSTOP → ⊥)
       by (inl k) = away k refl (λ e. absurd (omega arith))
       by (inr (inl k)) = away k.kind refl (λ e. absurd (omega arith))
       by (inr (inr k)) = away k.kind refl (λ e. absurd (omega arith))

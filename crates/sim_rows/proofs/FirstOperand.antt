@@ -3,7 +3,7 @@ use Rattle.std.proofs.Common.{ℕ, ◌%◌, ◌*◌, ◌+◌, ◌<◌, ◌==◌,
 use Rattle.std.proofs.lemmas.Nat.{and_mask}
 use Rattle.std.proofs.lemmas.Bool.Decides.{nat_tests}
 use Rattle.sim_view.proofs.Common.{comes, comes_as, comes_on, Goes, is_view, previous-next, pick}
-use Rattle.sim_rows.specs.Prelude.{ADDR, Addressed, Asking, AtDispatch, OperandStop, after_code, after_destination, code_byte, ReachesWithin, conjunction_of, Cpu}
+use Rattle.sim_rows.specs.Prelude.{ADDR, Addressed, Asking, AtDispatch, OperandStop, after_code, return_of_destination, code_byte, ReachesWithin, conjunction_of, Cpu}
 use Rattle.sim_rows.specs.Prelude.{destination_bytes}
 use Rattle.sim_rows.specs.Prelude.{Dispatched, even, Exits, Finds, FindsOperand, GplState, grom_at, GromState, GSTOP, Holds, is_row, Loaded, LoadsFrom}
 use Rattle.sim_rows.specs.Prelude.{MachineState, next_at, number_of_space, operand_at, operation_in, Place, place_in, place_of, Placed, previous_in_grom}
@@ -157,9 +157,9 @@ module _ {x : MachineState} (at : AtDispatch is_row x) where
   fits = (is_view x at.stands.machine).grom.image.fits s.pc
 
   abbrev Asks : MachineState → ℕ → ℕ → Type 0
-  Asks y t u = ReachesWithin 6 x y t u ADDR (Asking s (destination_bytes s) (after_code s) (after_destination (operation_in s)))
+  Asks y t u = ReachesWithin 6 x y t u ADDR (Asking s (destination_bytes s) (after_code s) (return_of_destination (operation_in s)))
 
-  asks_at : {y : MachineState} {t u : ℕ} (count bytes link : ℕ) → count ≤ 6 → bytes ≡ destination_bytes s → after_destination (operation_in s) ≡ link →
+  asks_at : {y : MachineState} {t u : ℕ} (count bytes link : ℕ) → count ≤ 6 → bytes ≡ destination_bytes s → return_of_destination (operation_in s) ≡ link →
       Exits x y t u (pieces.ask_place count bytes link (view x)) → Asks y t u
   asks_at {y = y} {t = t} {u = u} count bytes link within size is e =
       subst (λ (n : ℕ). ReachesWithin 6 x y t u ADDR (Asking s (destination_bytes s) (after_code s) n)) (sym is)

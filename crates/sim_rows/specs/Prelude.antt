@@ -61,7 +61,7 @@ pub use Rattle.sim_operands.specs.Subroutines.{StoresRegister, StoresValue, stre
 pub use Rattle.sim_operands.specs.Values.{in_register, IsVisible, number_of_space, of_register, width_in}
 pub use Rattle.sim_rows.specs.Results.{ShowsChanges, EndsRow, HasStarted, result_of, row_result, RunsRow, SeesFinished}
 pub use Rattle.sim_rows.specs.Results.{SeesResult, StartsRow, StoresResult, Storing}
-pub use Rattle.sim_rows.specs.Rows.{Asking, AtEntry, AtRow, after_destination, after_first, bytes_by}
+pub use Rattle.sim_rows.specs.Rows.{Asking, AtEntry, AtRow, return_of_destination, after_first, bytes_by}
 pub use Rattle.sim_rows.specs.Rows.{destination_bytes, first_of, gone_on, has_source, Holds, is_immediate, is_row}
 pub use Rattle.sim_rows.specs.Rows.{KeepsDestination, Kept, loaded_of, LoadsBy, LoadsDestination, LoadsFrom}
 pub use Rattle.sim_rows.specs.Rows.{LoadsFromSource, LoadsOperands, LoadsSource, next_of, operands_of}

@@ -107,11 +107,11 @@ pub record Asking (s : GplState) (bytes at to : ℕ) (w : View) : Type 0 where
   pub link : w.r.r11 ≡ to
 
 -- where it returns to with the place of the destination
-abbrev pub after_destination : Option GplOperation → ℕ
-after_destination (Some (Two MUL)) = WIDDST
-after_destination (Some (Two DIV)) = WIDDST
-after_destination (Some (Two ST)) = STDST
-after_destination _ = OPSDST
+abbrev pub return_of_destination : Option GplOperation → ℕ
+return_of_destination (Some (Two MUL)) = WIDDST
+return_of_destination (Some (Two DIV)) = WIDDST
+return_of_destination (Some (Two ST)) = STDST
+return_of_destination _ = OPSDST
 
 -- ST alone asks nothing of its destination's value.
 abbrev pub reads_destination : Option GplOperation → Bool

@@ -1,7 +1,7 @@
 //! The operands of a row.
 
 ghost use Rattle.std.specs.Prelude.{◌+◌, ◌<◌, ◌≡◌, ◌≤◌};
-ghost use Rattle.sim_rows.specs.Prelude.{after_code, after_destination, Asking, AtDispatch, destination_bytes, Exits};
+ghost use Rattle.sim_rows.specs.Prelude.{after_code, return_of_destination, Asking, AtDispatch, destination_bytes, Exits};
 ghost use Rattle.sim_rows.specs.Prelude.{first_of, HasStarted, is_row, IsFetched, IsVisible, LoadsDestination};
 ghost use Rattle.sim_rows.specs.Prelude.{LoadsOperands, LoadsSource, operands_of, operation_in, PortsAreIdle};
 ghost use Rattle.sim_rows.specs.Prelude.{ReachesWithin, Stands, state_at_dispatch, view};
@@ -110,7 +110,7 @@ fn ask_destination<L: Ledger>(machine: &mut Machine, steps: &mut Steps<L>)
     requires { AtDispatch is_row machine.old }
     ensures { let s = state_at_dispatch (view machine.old) in
         ReachesWithin 6 machine.old machine.new steps.old steps.new address.ADDR
-        (Asking s (destination_bytes s) (after_code s) (after_destination (operation_in s))) }
+        (Asking s (destination_bytes s) (after_code s) (return_of_destination (operation_in s))) }
 {
     if machine.pc() == WIDE {
         ask_wide(machine, steps);

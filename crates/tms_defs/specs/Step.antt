@@ -103,7 +103,8 @@ module _ (M : Type 0) (access : Accesses M) where
   abbrev pub index_of : Cpu M → ℕ → Answer ℕ
   index_of x number = if number == 0 then Gives 0 else word_at (register number x) x
 
-  -- The address of an operand, and the state after the growth of its register: by the bytes of the operand.
+  -- The address of an operand, and the state after the growth of its register: by the bytes of the operand. A register
+  -- stands at the address of its word, so an operand of a byte in it is the high byte.
   -- TMS9900 data manual, "Addressing modes".
   -- Profile: the following word is read before the index register.
   abbrev pub operand : Mode → Width → ℕ → Cpu M → Answer (ℕ × Cpu M)
@@ -121,6 +122,7 @@ module _ (M : Type 0) (access : Accesses M) where
     Gives (address, grown)
 
   -- The value at an address. A byte that is read may change a port.
+  -- Profile: it does so too as an operand in a register whose place is a port.
   abbrev pub value_at : Width → ℕ → Cpu M → Answer (ℕ × Cpu M)
   value_at Byte address x = do
     (byte, memory) ← access.byte x.memory address
@@ -361,9 +363,9 @@ module _ (M : Type 0) (access : Accesses M) where
   imm CI number x = do
     (word, found, next) ← immediate number x
     Gives (record next { status = with_order Word found word next.status })
-  -- Store workspace pointer: no status bit is set.
+  -- Store workspace pointer: no status bit is set. Profile: the register is written without being read.
   imm STWP number x = with_word x (register number x) x.wp
-  -- Store status: no status bit is set.
+  -- Store status: no status bit is set. Profile: the register is written without being read.
   imm STST number x = with_word x (register number x) (status_word x.status)
 
   -- No operand but a word that may follow the instruction.

@@ -15,8 +15,8 @@ pub record PlaysWhole (shows : ShowsChanges) (limit : ℕ) (x y : SessionState) 
   pub wrote : Wrote out out' (step_lines shows (gpl_state_of x) done)
 
 -- the line of the step after a number of steps
-abbrev pub line_behind : ShowsChanges → GplState → ℕ → List ℕ
-line_behind shows s made = step_line shows (made + 1) (run made s).last (run (made + 1) s).last
+abbrev pub line_after : ShowsChanges → GplState → ℕ → List ℕ
+line_after shows s made = step_line shows (made + 1) (run made s).last (run (made + 1) s).last
 
 -- A line could not be written: the lines of the steps before it were, each by one call, and a front of it. Its step is
 -- the last that was made, and the program is running.
@@ -28,7 +28,7 @@ pub record BreaksOff (shows : ShowsChanges) (limit : ℕ) (x y : SessionState) (
   pub running : y.ended ≡ None
   pub between : SinkState
   pub wrote : Wrote out between (step_lines shows (gpl_state_of x) shown)
-  pub missed : Missed between out' (line_behind shows (gpl_state_of x) shown ∷ [])
+  pub missed : Missed between out' (line_after shows (gpl_state_of x) shown ∷ [])
 
 -- A program was run for up to a number of steps, and a counter shows its instructions; by the answer.
 abbrev pub Plays : {E : Type 0} → ShowsChanges → ℕ → SessionState → SessionState → ℕ → ℕ → SinkState → SinkState

@@ -13,7 +13,7 @@ use Rattle.watch_defs.specs.declared.item.Item.TheVariants.{Pc}
 use Rattle.watch_defs.specs.declared.found.Found.{Found}
 use Rattle.watch_defs.specs.declared.found.Found.TheVariants as result
 use Rattle.watch_defs.specs.Items.{holds, change}
-use Rattle.watch_defs.specs.Hits.{behind, first_item, change_at, hit_between, hit_at, hits}
+use Rattle.watch_defs.specs.Hits.{state_after, first_item, change_at, hit_between, hit_at, hits}
 use Rattle.watch_defs.specs.Laws.{NoneHolds, IsFound, HitsAreFirst}
 use Rattle.watch_defs.proofs.Places.{nowhere, fails_there}
 
@@ -86,16 +86,16 @@ module _ (list : List Item) (number : ℕ) (before next : GplState) where
 
 -- What is found by the first of the hits.
 module _ (list : List Item) (limit : ℕ) (s : GplState) where
-  none_at : (step : ℕ) → hit_at list s step ≡ None → NoneHolds list (behind s (step - 1)) (behind s step)
-  none_at step none = none_holds list step (behind s (step - 1)) (behind s step) none
+  none_at : (step : ℕ) → hit_at list s step ≡ None → NoneHolds list (state_after s (step - 1)) (state_after s step)
+  none_at step none = none_holds list step (state_after s (step - 1)) (state_after s step) none
 
   module _ (step : ℕ) (some : 1 ≤ step) (within : step < 1 + (run limit s).done)
       (earlier : (j : ℕ) → 1 ≤ j → j < step → hit_at list s j ≡ None) where
     abbrev before : GplState
-    before = behind s (step - 1)
+    before = state_after s (step - 1)
 
     abbrev next : GplState
-    next = behind s step
+    next = state_after s step
 
     abbrev hit_of : ℕ → Found
     hit_of place = of_place list step before next place
@@ -132,7 +132,7 @@ module _ (list : List Item) (limit : ℕ) (s : GplState) where
   by_hit None none = λ step ge le. none_at step (none step ge (omega arith))
   by_hit (Some hit) first =
       let step = first.0 in
-      by_item step first.1 first.2 first.4 hit (first_item list (behind s (step - 1)) (behind s step)) refl first.3
+      by_item step first.1 first.2 first.4 hit (first_item list (state_after s (step - 1)) (state_after s step)) refl first.3
 
 pub hits_are_first : HitsAreFirst
 hits_are_first list limit s =

@@ -9,7 +9,7 @@ use Rattle.gpl_step_defs.specs.Run.{run}
 use Rattle.watch_defs.specs.declared.item.Item.{Item}
 use Rattle.watch_defs.specs.declared.found.Found.{Found}
 use Rattle.watch_defs.specs.declared.found.Found.TheVariants as result
-use Rattle.watch_defs.specs.Hits.{behind, hit_between, hit_at, hits, found}
+use Rattle.watch_defs.specs.Hits.{state_after, hit_between, hit_at, hits, found}
 
 range_split : (from n m : ℕ) → range_with_len from (n + m) ≡ range_with_len from n ++ range_with_len (from + n) m
 range_split from zero m = ap (λ k. range_with_len from k) (zero-add m) ∙ ap (λ k. range_with_len k m) (omega arith)
@@ -34,12 +34,12 @@ module _ (items : List Item) (s : GplState) where
       → hits items s (made + 1) ≡ cons_option o []
   one_more made o none here = split made 1 ∙ ap₂ (λ a b. a ++ b) none (one made o here)
 
-  -- the hit of a step by the states before it and behind it
-  pub hit_is : (made : ℕ) (before next : GplState) → before ≡ behind s made → next ≡ behind s (made + 1)
+  -- the hit of a step by the states before and after it
+  pub hit_is : (made : ℕ) (before next : GplState) → before ≡ state_after s made → next ≡ state_after s (made + 1)
       → hit_at items s (made + 1) ≡ hit_between items (made + 1) before next
   hit_is made before next b n =
       let less : made + 1 - 1 ≡ made = omega arith in
-      ap (λ k. hit_between items (made + 1) (behind s k) (behind s (made + 1))) less
+      ap (λ k. hit_between items (made + 1) (state_after s k) (state_after s (made + 1))) less
       ∙ ap₂ (λ p q. hit_between items (made + 1) p q) (sym b) (sym n)
 
   -- one step more without a hit

@@ -10,8 +10,8 @@ use Rattle.watch_defs.specs.declared.found.Found.TheVariants as result
 use Rattle.watch_defs.specs.Items.{holds, change}
 
 -- The state after a number of steps of a run.
-abbrev pub behind : GplState → ℕ → GplState
-behind s made = (run made s).last
+abbrev pub state_after : GplState → ℕ → GplState
+state_after s made = (run made s).last
 
 -- Profile: of the items that hold at the step from one state to the next, the first, by its place in the list.
 abbrev pub first_item : List Item → GplState → GplState → Option ℕ
@@ -29,7 +29,7 @@ hit_between items number before next =
     (first_item items before next)
 
 abbrev pub hit_at : List Item → GplState → ℕ → Option Found
-hit_at items s number = hit_between items number (behind s (number - 1)) (behind s number)
+hit_at items s number = hit_between items number (state_after s (number - 1)) (state_after s number)
 
 -- the hits of a number of first steps
 abbrev pub hits : List Item → GplState → ℕ → List Found

@@ -1,6 +1,6 @@
 //! The lines of boot, the stops, the routines, the operands of a row, and EXIT.
 
-/// The second lines of the interpreter's source: boot, the stops, the routines, the operands of a row, and EXIT.
+/// The second part of the interpreter's source: boot, the stops, the routines, the operands of a row, and EXIT.
 pub const ROUTINE_LINES: [&str; 195] = [
     "* GBOOT: R0 holds the entry of the GPL program. The stacks are",
     "* made empty and the GROM is set to the entry. At most 7, then",
