@@ -1,9 +1,9 @@
 -- What opening a file of the current folder tells, as of any shelf.
-use Rattle.std.proofs.Common.{◌≤◌, ℕ, List, Result, Ok, Err, refl, ap, arith}
+use Rattle.std.proofs.Common.{◌≡◌, ◌≤◌, ℕ, List, Result, Ok, Err, refl, ap, arith}
 use Rattle.std.specs.Prelude.{⊤, IfErr, OnErr, OnOk}
 use Rattle.bench_shelf.specs.declared.error.OpenError.{OpenError}
 use Rattle.bench_shelf.specs.declared.error.OpenError.TheVariants.{Failed, Missing}
-use Rattle.bench_shelf.specs.Opening.{Refuses, SameCounts, StartsAnew}
+use Rattle.bench_shelf.specs.Opening.{Refuses, KeepsOther, SameCounts, StartsAnew}
 use Rattle.bench_shelf.specs.FolderShelf.{Folder, hidden_state, OpensFrom}
 
 pub nothing_told : {A E : Type 0} (r : Result A E) → OnOk r ⊤
@@ -41,3 +41,17 @@ module _ {A : Type 0} (before after : Folder) where
   tells_misses (Ok value) opens = let same = ap (λ (f : Folder). f.misses) opens in omega (arith, same)
   tells_misses (Err Failed) opens = let same = ap (λ (f : Folder). f.misses) opens.1 in omega (arith, same)
   tells_misses (Err Missing) opens = let same = ap (λ (f : Folder). f.misses) opens.1 in omega (arith, same)
+
+  pub tells_no_fault : (r : Result A OpenError) → OpensFrom before r after → OnOk r (after.faults ≡ before.faults)
+  tells_no_fault (Ok value) opens = ap (λ (f : Folder). f.faults) opens
+  tells_no_fault (Err error) opens = tt
+
+  pub tells_no_miss : (r : Result A OpenError) → OpensFrom before r after → OnOk r (after.misses ≡ before.misses)
+  tells_no_miss (Ok value) opens = ap (λ (f : Folder). f.misses) opens
+  tells_no_miss (Err error) opens = tt
+
+  pub tells_other : (r : Result A OpenError) → OpensFrom before r after
+      → IfErr r (λ error. KeepsOther error (hidden_state before) (hidden_state after))
+  tells_other (Ok value) opens = tt
+  tells_other (Err Failed) opens = ap (λ (f : Folder). f.misses) opens.1
+  tells_other (Err Missing) opens = ap (λ (f : Folder). f.faults) opens.1

@@ -1,5 +1,16 @@
 use Rattle.std.proofs.Common.{refl}
-use Rattle.bench_shelf.proofs.FolderLaws.{nothing_told, nothing_left, tells_refused, tells_counts, tells_anew, tells_faults, tells_misses}
+use Rattle.bench_shelf.proofs.FolderLaws.{
+  nothing_told,
+  nothing_left,
+  tells_refused,
+  tells_counts,
+  tells_anew,
+  tells_faults,
+  tells_misses,
+  tells_no_fault,
+  tells_no_miss,
+  tells_other,
+}
 use Rattle.bench_shelf.proofs.directory.DirShelfShelf.TheImpl.Goals as goal
 
 pub open_file-tells : goal.open_file-tells
@@ -14,5 +25,8 @@ open_file-tells g c =
       anew = tells_anew before after c.args.name.now c.result c.ensures;
       faults = tells_faults before after c.result c.ensures;
       misses = tells_misses before after c.result c.ensures;
+      no_fault = tells_no_fault before after c.result c.ensures;
+      no_miss = tells_no_miss before after c.result c.ensures;
+      other = tells_other before after c.result c.ensures;
       files = refl;
     }
