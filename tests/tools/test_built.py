@@ -1,4 +1,5 @@
-"""Tests of ./ti_bench in a repository (tools/launcher, tools/built, tools/version), with an rt that proves nothing."""
+"""Tests of ./ti_bench and ./ti_debug in a repository (tools/launcher, tools/built, tools/version), with an rt that
+proves nothing."""
 import os
 import pathlib
 import pty
@@ -7,29 +8,31 @@ import shutil
 import subprocess
 import time
 
-from calling import TOOLS, Calling
+from calling import TOOLS, TOP, Calling
 
 RT = """#!/bin/sh
 echo $$ >>"$CALLS"
 mkdir -p ../low/out/rlib/low.rlib
 [ -z "$SECONDS_LONG" ] || sleep "$SECONDS_LONG"
 [ -z "$FAILS" ] || exit 1
-printf '#!/bin/sh\\necho built "$@"\\n' >out/ti_bench
-chmod +x out/ti_bench
+name=${PWD##*/}
+printf '#!/bin/sh\\necho built "$@"\\n' >"out/$name"
+chmod +x "out/$name"
 """
 OLD = 1_000_000_000
 
 
 class Repository(Calling):
-    """A repository of three crates, of which the program uses one, in a folder whose name has a blank."""
+    """A repository of four crates, of which each program uses one, in a folder whose name has a blank."""
 
     def setUp(self):
         super().setUp()
         self.top = self.folder / 'a repository'
         shutil.copytree(TOOLS, self.top / 'tools', symlinks=True)
-        (self.top / 'ti_bench').symlink_to('tools/launcher')
-        self.file(self.top / 'crates.txt', b'# crates\nlow:\nti_bench: low\nother: low\n')
-        for name in ('low', 'ti_bench', 'other'):
+        for name in ('ti_bench', 'ti_debug'):
+            shutil.copy(TOP / name, self.top / name)
+        self.file(self.top / 'crates.txt', b'# crates\nlow:\nti_bench: low\nti_debug: low\nother: low\n')
+        for name in ('low', 'ti_bench', 'ti_debug', 'other'):
             self.file(self.top / 'crates' / name / 'src/lib.rt', b'//! A crate.\n')
         self.file('bin/rt', RT.encode()).chmod(0o755)
         self.calls = self.folder / 'calls'
@@ -92,10 +95,22 @@ class Built(Repository):
         link.symlink_to(self.top / 'ti_bench')
         self.assertEqual(self.ti_bench('demo', command=link).stdout, 'built demo\n')
         copy.parent.mkdir()
-        shutil.copy(self.top / 'ti_bench', copy)
-        ended = self.ti_bench('demo', command=copy)
-        self.assertEqual((ended.returncode, ended.stdout, ended.stderr.count('\n')), (70, '', 1))
-        self.assertEqual(os.listdir(copy.parent), ['ti_bench'])
+        for copied in ('ti_bench', 'ti_debug', 'tools/launcher'):
+            shutil.copy(self.top / copied, copy)
+            ended = self.ti_bench('demo', command=copy)
+            self.assertEqual((ended.returncode, ended.stdout, ended.stderr.count('\n')), (70, '', 1))
+            self.assertEqual(os.listdir(copy.parent), ['ti_bench'])
+
+    def test_the_second_program_is_built_by_its_own_name(self):
+        debug, link = self.top / 'ti_debug', self.folder / 'a link'
+        link.symlink_to(debug)
+        self.file(self.top / 'CHANGELOG.md', b'# Changes\n\n## 1.2\n')
+        self.assertEqual(self.ti_bench('--version', command=link).stdout, 'ti_debug 1.2\n')
+        self.assertIn('gsteps N', self.ti_bench('--help', command=debug).stdout)
+        self.assertEqual(self.builds(), 0)
+        for command in (debug, link):
+            self.assertEqual(self.ti_bench('list', command=command).stdout, 'built list\n')
+        self.assertEqual((self.builds(), self.program.exists()), (1, False))
 
     def test_help_and_version_build_nothing(self):
         self.file(self.top / 'CHANGELOG.md', b'# Changes\n\n## 1.2\n\n- All.\n')

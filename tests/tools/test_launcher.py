@@ -1,17 +1,23 @@
-"""Tests of tools/launcher as the command of an installation: statuses, what it says of them, streams and signals."""
+"""Tests of tools/launcher as the commands of an installation: statuses, what it says of them, streams and signals."""
 import os
+import pathlib
 import shutil
 import signal
 import subprocess
+import time
 
 from calling import TOOLS, Calling
+from lib import distribution
 
-# a program that ends with a status, or by a signal
+# a program that ends with a status, or by a signal, or only by one from elsewhere
 ENDS = b"""#!/bin/sh
 case $1 in
     status) exit "$2" ;;
     signal) kill -"$2" "$$" ;;
     words) shift; printf '<%s>' "$@" ;;
+    name) echo "${0##*/}" ;;
+    input) exec cat ;;
+    wait) echo "$$"; exec sleep 60 ;;
 esac
 """
 SHELLS = [shell for shell in (['sh'], ['dash'], ['bash', '--posix'], ['busybox', 'sh']) if shutil.which(shell[0])]
@@ -24,16 +30,16 @@ class Installed(Calling):
         super().setUp()
         self.command = self.folder / 'bin/ti_bench'
         self.file('lib/ti_bench/VERSION', b'1.2\n')
-        self.file('lib/ti_bench/ti_bench', ENDS).chmod(0o755)
         (self.folder / 'lib/ti_bench/tools').mkdir()
         shutil.copy(TOOLS / 'launcher', self.folder / 'lib/ti_bench/tools/launcher')
         self.command.parent.mkdir()
-        self.command.symlink_to('../lib/ti_bench/tools/launcher')
+        for name in distribution.PROGRAMS:
+            self.file(f'lib/ti_bench/{name}', ENDS).chmod(0o755)
+            (self.folder / 'bin' / name).symlink_to('../lib/ti_bench/tools/launcher')
 
-    def started(self, *words, shell=(), out=subprocess.PIPE, **more):
+    def started(self, *words, name='ti_bench', shell=(), out=subprocess.PIPE, **more):
         """How a call ends."""
-        return subprocess.run([*shell, self.command, *words], stdout=out, stderr=subprocess.PIPE, **more)
-
+        return subprocess.run([*shell, self.folder / 'bin' / name, *words], stdout=out, stderr=subprocess.PIPE, **more)
 
 
 class Launcher(Installed):
@@ -51,7 +57,7 @@ class Launcher(Installed):
 
     def test_it_ends_by_the_signal_that_ended_the_program(self):
         for shell in SHELLS:
-            for number in (signal.SIGPIPE, signal.SIGINT, signal.SIGTERM, signal.SIGKILL):
+            for number in (signal.SIGPIPE, signal.SIGHUP, signal.SIGTERM, signal.SIGKILL):
                 with self.subTest(shell=shell, number=number):
                     ended = self.started('signal', str(int(number)), shell=shell)
                     self.assertIn(ended.returncode, (-number, 128 + number))
@@ -60,10 +66,55 @@ class Launcher(Installed):
         words = ['words', '', 'a b', '*', '--help', "it's", '-h', 'x\ny']
         self.assertEqual(self.started(*words).stdout, ''.join(f'<{word}>' for word in words[1:]).encode())
 
+    def test_standard_input_is_handed_on(self):
+        for shell in SHELLS:
+            with self.subTest(shell=shell):
+                self.assertEqual(self.started('input', shell=shell, input=b'one\ntwo').stdout, b'one\ntwo')
+
+    def test_a_signal_to_the_command_alone_ends_the_program_too(self):
+        for shell in SHELLS:
+            for number in (signal.SIGHUP, signal.SIGINT, signal.SIGTERM):
+                with self.subTest(shell=shell, number=number):
+                    self.assert_ends_both(shell, number)
+
+    def assert_ends_both(self, shell, number):
+        """A signal to the command ends it and its program."""
+        with subprocess.Popen([*shell, self.command, 'wait'], stdout=subprocess.PIPE) as running:
+            program = pathlib.Path('/proc', running.stdout.readline().decode().strip())
+            time.sleep(0.05)
+            running.send_signal(number)
+            self.assertIn(running.wait(10), (-number, 128 + number))
+            self.assertFalse(program.exists())
+
+    def test_the_program_is_the_one_of_the_name_also_through_links(self):
+        for name in distribution.PROGRAMS:
+            (self.folder / 'bin' / f'my {name}').symlink_to(name)
+            (self.folder / f'{name} of mine').symlink_to(self.folder / 'bin' / f'my {name}')
+            for called in (name, f'my {name}', f'../{name} of mine'):
+                with self.subTest(called=called):
+                    self.assertEqual(self.started('name', name=called).stdout, f'{name}\n'.encode())
+
     def test_help_and_version_are_whole_words_alone(self):
-        self.assertEqual(self.started('--version').stdout, b'ti_bench 1.2\n')
-        self.assertTrue(self.started('--help').stdout.startswith(b'ti_bench '))
-        self.assertEqual(self.started('--version', 'x').stdout, b'')
+        for name in distribution.PROGRAMS:
+            self.assertEqual(self.started('--version', name=name).stdout, f'{name} 1.2\n'.encode())
+            self.assertEqual(self.started('--help', name=name).stdout, self.started('-h', name=name).stdout)
+            self.assertTrue(self.started('--help', name=name).stdout.startswith(f'{name} '.encode()))
+            self.assertEqual(self.started('--version', 'x', name=name).stdout, b'')
+
+    def test_the_help_names_the_other_program_and_all_tools(self):
+        bench, debug = (self.started('--help', name=name).stdout.decode() for name in distribution.PROGRAMS)
+        self.assertEqual([tool for tool in distribution.TOOLS if f'-{tool}' not in bench], [])
+        self.assertTrue('ti_debug --help' in bench and '--version' in bench and 'ti_bench --help' in debug)
+
+    def test_a_help_that_cannot_be_written_is_said_in_one_line(self):
+        for shell in SHELLS:
+            for word, what in (('--help', 'help'), ('--version', 'version')):
+                for out in ('>/dev/full', '>&-'):
+                    with self.subTest(shell=shell, word=word, out=out):
+                        ended = subprocess.run(['sh', '-c', f'"$@" {out}', 'sh', *shell, self.command, word],
+                                               capture_output=True)
+                        self.assertEqual((ended.returncode, ended.stdout, ended.stderr),
+                                         (4, b'', f'ti_bench: the {what} could not be written\n'.encode()))
 
     def test_without_the_program_it_says_where_it_looked(self):
         os.remove(self.folder / 'lib/ti_bench/ti_bench')
@@ -99,4 +150,3 @@ class OverTheProgram(Installed):
         ended = subprocess.run(['bash', '-c', '"$C" trace 100000 <input | head -n 1'], capture_output=True,
                                cwd=self.folder, env={'PATH': '/usr/bin:/bin', 'C': str(self.command)})
         self.assertEqual((ended.stdout.count(b'\n'), ended.stderr), (1, b''))
-
