@@ -96,9 +96,9 @@ class HandedOut(Calling):
     def test_each_tool_has_a_command_and_all_that_documents_name_is_there(self):
         found = distribution.files(os.environ['TI_BENCH'])
         placed = distribution.installed(found)
-        for tool in distribution.TOOLS:
-            self.assertIn(placed[f'bin/ti_bench-{tool}'].target, placed)
-        self.assertTrue(placed['lib/ti_bench/tools/launcher'].executable)
+        commands = [*distribution.PROGRAMS, *(f'ti_bench-{tool}' for tool in distribution.TOOLS)]
+        for name in commands:
+            self.assertTrue(placed[placed[f'bin/{name}'].target].executable)
         listed = re.search(r'^## Documents\n(.*?)\n\n', (TOP / 'README.md').read_text('utf-8'), re.M | re.S)
         links = re.findall(r'\]\(([^)]+)\)', listed[1] if listed else '')
         self.assertEqual([link for link in links if link not in found], [])
@@ -106,6 +106,19 @@ class HandedOut(Calling):
     def test_a_file_that_is_missing_is_named(self):
         with self.assertRaisesRegex(command.Stopped, 'tools/install is missing'):
             distribution.files(os.environ['TI_BENCH'], self.folder)
+
+    def test_an_empty_name_of_a_folder_is_refused(self):
+        for words in ([''], ['--remove', '']):
+            ended = self.call('install', *words)
+            self.assertEqual((ended.returncode, ended.stderr), (2, b'tools/install: the name of the folder is empty\n'))
+        self.assertEqual(list(self.folder.iterdir()), [])
+
+    def test_no_release_is_made_if_the_readme_names_another_kit(self):
+        self.file('bin/rt', b'#!/bin/sh\necho rattle-kit-0x more\n').chmod(0o755)
+        ended = self.call('release', 'made', PATH=f'{self.folder}/bin:/usr/bin:/bin', SOURCE_DATE_EPOCH='0')
+        self.assertEqual((ended.returncode, ended.stdout), (1, b''))
+        self.assertRegex(ended.stderr.decode(), r'the toolchain is of rattle-kit-0x, but README\.md .* rattle-kit-\w+$')
+        self.assertFalse((self.folder / 'made').exists())
 
 
 class Libraries(Calling):

@@ -55,14 +55,24 @@ def below(top, path):
     return [str(path)]
 
 
+def commands():
+    """The commands of users, each with the script of tools/ that it is."""
+    return {**dict.fromkeys(PROGRAMS, 'launcher'), **{f'ti_bench-{tool}': tool for tool in TOOLS}}
+
+
+def kits_named(top=TOP):
+    """The kits that README.md names: the one that the release is proved with."""
+    return re.findall(r'`(rattle-kit-[^`\s]+)`', read_text(top / 'README.md'))
+
+
 def kit(top=TOP):
-    """The line of the kit that the program is proved with."""
+    """The line of the kit that the program is proved with: the file KIT, what rt says, or the name in README.md."""
     if (top / 'KIT').is_file():
         return read_text(top / 'KIT').strip()
     try:
         return subprocess.run(['rt', 'version'], capture_output=True, check=True).stdout.decode('utf-8').strip()
     except (OSError, subprocess.CalledProcessError):
-        return re.search(r'`(rattle-kit-\S+)`', read_text(top / 'README.md'))[1]
+        return kits_named(top)[0]
 
 
 def files(program, top=TOP):
@@ -81,9 +91,7 @@ def files(program, top=TOP):
 def installed(found, name='ti_bench'):
     """Where an installation has the files that are handed out, with the links to its commands. Its folder of documents
     has a name."""
-    commands = {'ti_bench': 'tools/launcher', **{f'ti_bench-{tool}': f'tools/{tool}' for tool in TOOLS},
-                'ti_debug': 'ti_debug'}
-    placed = {f'bin/{command}': Link(f'lib/ti_bench/{script}') for command, script in commands.items()}
+    placed = {f'bin/{command}': Link(f'lib/ti_bench/tools/{script}') for command, script in commands().items()}
     for path, file in found.items():
         if path.startswith(f'{MANUALS}/'):
             placed[f'share/man/man1/{pathlib.PurePath(path).name}'] = file
