@@ -107,6 +107,15 @@ class HandedOut(Calling):
         with self.assertRaisesRegex(command.Stopped, 'tools/install is missing'):
             distribution.files(os.environ['TI_BENCH'], self.folder)
 
+    def test_each_command_has_a_page_and_each_page_of_a_tool_all_its_options(self):
+        dates = set()
+        for name, script in distribution.commands().items():
+            page = (TOP / f'man/{name}.1').read_text('utf-8').replace('\\-', '-')
+            dates.add(re.match(rf'\.TH {name.upper()} 1 (\S+) ti_bench "User Commands"\n', page)[1])
+            options = re.findall(r'--[a-z]+', self.call(script, '--help').stdout.decode())
+            self.assertEqual({option for option in options if option not in page} - {'--help'}, set(), name)
+        self.assertEqual(len(dates), 1)
+
     def test_an_empty_name_of_a_folder_is_refused(self):
         for words in ([''], ['--remove', '']):
             ended = self.call('install', *words)
