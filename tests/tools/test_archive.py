@@ -66,6 +66,28 @@ class Archive(Calling):
         self.file('a\tb\nc\\.bin', IMAGE)
         self.assertEqual(self.rows('--tsv')[1][1:], ['a\\tb\\nc\\\\.bin\tsame\t6 bytes\t'])
 
+    def test_one_file_is_counted_as_one(self):
+        self.file('image.bin', IMAGE)
+        self.assertEqual(self.rows()[1][-1], '1 file: 1 same, 0 different')
+
+    def test_jobs_are_from_1_to_64(self):
+        self.file('image.bin', IMAGE)
+        for jobs in ('0', '-1', '65', 'x', '1000000000'):
+            self.assertEqual(self.rows(f'--jobs={jobs}'), (2, []))
+        for jobs in ('1', '64'):
+            self.assertEqual(self.rows('-j', jobs)[0], 0)
+
+    def test_a_file_is_no_folder(self):
+        self.file('image.bin', IMAGE)
+        for name, text in (('image.bin', b'image.bin is no folder'), ('none', b'no folder none')):
+            ended = self.call('archive', name)
+            self.assertEqual((ended.returncode, ended.stderr), (3, b'tools/archive: ' + text + b'\n'))
+
+    def test_a_file_that_is_copied_with_its_device_is_one(self):
+        self.file('main.a', b' COPY "DSK1.part.a"\n END\n')
+        self.file('part.a', b' DATA MISSNG\n')
+        self.assertIn('part.a  copied     by main.a', self.rows()[1])
+
     def test_a_wrong_program_makes_files_different_and_the_status_1(self):
         liar = self.file('liar', b'#!/bin/sh\necho " END"\n')
         liar.chmod(0o755)

@@ -196,6 +196,27 @@ class Unreadable(Calling):
                 self.assertEqual((ended.returncode, ended.stderr.decode()), (status, f'tools/assemble: {text}\n'))
         self.assertEqual((self.folder / 'a.gpl').read_bytes(), ACCEPTED)
 
+    def test_a_file_that_is_copied_is_no_output(self):
+        texts = {'main.a': b' copy "B.SRC"\n', 'B.SRC': b' COPY \'C.SRC\'\n', 'C.SRC': b' COPY "D.SRC"\n',
+                 'D.SRC': b' COPY "E.SRC"\n', 'E.SRC': b'* the end\n'}
+        for name, text in texts.items():
+            self.file(f'sub/{name}', text)
+        for name in texts:
+            ended = self.call('assemble', 'sub/main.a', '-o', f'./sub/{name}')
+            self.assertEqual((ended.returncode, ended.stderr.decode()), (
+                2, f'tools/assemble: ./sub/{name}: the output would replace a file that is read\n'))
+            self.assertEqual((self.folder / 'sub' / name).read_bytes(), texts[name])
+        self.file('a.gpl', b'* COPY "OLD"\n' + ACCEPTED)
+        self.file('OLD', b'')
+        self.assertEqual(self.call('assemble', 'a.gpl', '-o', 'OLD').returncode, 0)
+
+    def test_a_file_that_is_no_program_is_said_to_be_none(self):
+        self.file('a.gpl', ACCEPTED)
+        self.file('text', b'').chmod(0o644)
+        for words, environment in ((['--program', './text'], {}), ([], {'TI_BENCH': './text'})):
+            ended = self.call('assemble', 'a.gpl', *words, **environment)
+            self.assertEqual((ended.returncode, ended.stderr), (3, b'tools/assemble: ./text: not executable\n'))
+
     def test_an_empty_name_of_an_output_is_a_wrong_word(self):
         self.file('a.gpl', ACCEPTED)
         ended = self.call('assemble', 'a.gpl', '-o', '')

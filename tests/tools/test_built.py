@@ -124,7 +124,8 @@ class Built(Repository):
         self.file(self.top / 'CHANGELOG.md', b'## 1.2\n')
         with open('/dev/full', 'wb') as full:
             ended = subprocess.run([self.top / 'tools/version'], stdout=full, stderr=subprocess.PIPE)
-        self.assertEqual((ended.returncode, ended.stderr), (3, b'tools/version: No space left on device\n'))
+        self.assertEqual((ended.returncode, ended.stderr),
+                         (3, b'tools/version: standard output: No space left on device\n'))
 
     def test_a_version_after_a_number_has_the_commit(self):
         self.file(self.top / 'CHANGELOG.md', b'# Changes\n\n## Unreleased\n\n## 1.2\n')
@@ -155,6 +156,16 @@ class Stopped(Repository):
             time.sleep(0.1)
         running.terminate()
         self.assertEqual(running.wait(), 70)
+        self.assert_ended()
+
+    def test_a_signal_to_a_tool_stops_the_build(self):
+        self.file('a.gpl', b'')
+        running = subprocess.Popen([self.top / 'tools/assemble', 'a.gpl'], cwd=self.folder, stderr=subprocess.DEVNULL,
+                                   env=self.environment(SECONDS_LONG='60'))
+        while not self.calls.exists() or not self.calls.read_text():
+            time.sleep(0.1)
+        running.terminate()
+        self.assertEqual(running.wait(), 143)
         self.assert_ended()
 
     def test_on_a_terminal_it_shows_how_far_it_is_and_ctrl_c_stops_it(self):

@@ -1,7 +1,8 @@
 """Tests of tools/raw."""
+import subprocess
 import unittest
 
-from calling import Calling
+from calling import TOOLS, Calling
 
 LISTING = b'entry >A000\nTABLE >A012\n>A000 C060 A00E\n>A008 10FF\n'
 
@@ -24,6 +25,13 @@ class Raw(Calling):
 
     def test_names_are_no_words(self):
         self.assertEqual(self.raw(given=b'entry >A000\nTABLE >A012\n'), (1, '', 'tools/raw: no words are listed\n'))
+
+    def test_a_stream_that_fails_is_named(self):
+        for words, name in (('<&-', 'standard input: Bad file descriptor'),
+                            ('>/dev/full', 'standard output: No space left on device'),
+                            ('>&-', 'standard output: Bad file descriptor')):
+            ended = subprocess.run(['bash', '-c', f'"$0" {words}', TOOLS / 'raw'], input=LISTING, capture_output=True)
+            self.assertEqual((ended.returncode, ended.stderr.decode()), (3, f'tools/raw: {name}\n'))
 
     def test_wrong_words_have_status_2(self):
         for words in (['--range', 'A00-B00'], ['--range', 'A002-A000'], ['--fill', '100']):

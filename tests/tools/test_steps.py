@@ -211,6 +211,14 @@ class Steps(Calling):
         self.assertEqual((ended.returncode, (self.folder / 'a.gpl').read_bytes()), (2, b' EXIT\n END >6000\n'))
         self.assertIn(b'./a.gpl: the output would replace a file that is read', ended.stderr)
 
+    def test_a_file_that_a_source_copies_is_no_output(self):
+        self.file('a.asm', b' COPY "PART.SRC"\n END S\n')
+        part = self.file('PART.SRC', b'S LI R1,5\n JMP $\n')
+        self.call('assemble', '-o', 'a.obj', 'a.asm')
+        ended = self.call('steps', '--exec', '--source', 'a.asm', '-o', 'PART.SRC', 'a.obj')
+        self.assertEqual((ended.returncode, part.read_bytes()), (2, b'S LI R1,5\n JMP $\n'))
+        self.assertIn(b'PART.SRC: the output would replace a file that is read', ended.stderr)
+
     def test_another_program_makes_no_page(self):
         self.file('a.gpl', b' EXIT\n END >6000\n')
         ended = self.call('steps', 'a.gpl', TI_DEBUG='/bin/true')

@@ -1,5 +1,6 @@
 """The command line of a script: its words, its help, its errors and its status."""
 import argparse
+import errno
 import os
 import pathlib
 import signal
@@ -8,6 +9,10 @@ import sys
 from lib.repository import TOP
 
 FAILED, USAGE, UNREADABLE = 1, 2, 3
+# the signals that end a script, beside that of Ctrl-C
+ENDS = (signal.SIGTERM, signal.SIGHUP)
+# the errors of a process that cannot be begun; another one without the name of a file is of standard output
+NO_PROCESS = (errno.EAGAIN, errno.ENOMEM)
 
 
 class Stopped(Exception):
@@ -16,6 +21,10 @@ class Stopped(Exception):
     def __init__(self, text, status=FAILED):
         super().__init__(text)
         self.text, self.status = text, status
+
+
+class Ended(KeyboardInterrupt):
+    """A signal ends the script, as Ctrl-C does: its number."""
 
 
 def name():
@@ -31,9 +40,26 @@ def parser(document, **more):
                                    formatter_class=argparse.RawDescriptionHelpFormatter, **more)
 
 
+def number(least, most):
+    """What takes a word that is a number in a range, and rejects every other."""
+    def taken(word):
+        if not word.isascii() or not word.isdecimal() or not least <= int(word) <= most:
+            raise argparse.ArgumentTypeError(f'{word}: no number from {least:,} to {most:,}')
+        return int(word)
+    return taken
+
+
+def input_bytes():
+    """Standard input."""
+    try:
+        return sys.stdin.buffer.read()
+    except OSError as error:
+        raise Stopped(f'standard input: {error.strerror}', UNREADABLE) from None
+
+
 def input_text():
     """Standard input as text, each byte a character."""
-    return sys.stdin.buffer.read().decode('latin-1')
+    return input_bytes().decode('latin-1')
 
 
 def open_streams():
@@ -46,10 +72,26 @@ def open_streams():
             setattr(sys, stream, open(number, mode, closefd=False))
 
 
+def end(number, frame):
+    """What a signal to end does: it stops the script where it is, so that what it has begun is ended too. The end is
+    not stopped by another one."""
+    for other in ENDS:
+        signal.signal(other, signal.SIG_IGN)
+    raise Ended(number)
+
+
+def hear_signals():
+    """Lets the signals to end stop the script, but for those that it was called without."""
+    for number in (signal.SIGINT, *ENDS):
+        if signal.getsignal(number) != signal.SIG_IGN:
+            signal.signal(number, end)
+
+
 def run(main):
-    """Ends the process with the status that `main` returns, 0 for None. A reader of its output that has gone ends it
-    quietly, as it ends other programs; a file that cannot be read or written is named; text that the locale cannot show
-    is written as escapes."""
+    """Ends the process with the status that `main` returns, 0 for None; after a signal it is 128 and its number. A
+    reader of its output that has gone ends it quietly, as it ends other programs; a file or a stream that cannot be
+    read or written is named; text that the locale cannot show is written as escapes."""
+    hear_signals()
     open_streams()
     for stream in (sys.stdout, sys.stderr):
         stream.reconfigure(errors='backslashreplace')
@@ -62,13 +104,13 @@ def run(main):
         drop_output()
         status = 128 + signal.SIGPIPE
     except OSError as error:
-        # one without a name is a stream, and may be standard output
-        if error.filename is None:
+        named = error.filename
+        if named is None and error.errno not in NO_PROCESS:
             drop_output()
-        named = '' if error.filename is None else f'{error.filename}: '
-        status = report(Stopped(f'{named}{error.strerror or error}', UNREADABLE))
-    except KeyboardInterrupt:
-        status = 128 + signal.SIGINT
+            named = 'standard output'
+        status = report(Stopped(f'{"" if named is None else f"{named}: "}{error.strerror or error}', UNREADABLE))
+    except Ended as ended:
+        status = 128 + ended.args[0]
     sys.exit(status)
 
 

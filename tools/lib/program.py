@@ -5,7 +5,7 @@ import shutil
 import subprocess
 import typing
 
-from lib.command import UNREADABLE, Stopped
+from lib.command import UNREADABLE, Ended, Stopped
 from lib.repository import TOP
 
 
@@ -71,7 +71,8 @@ def program(path=None):
     if path:
         found = shutil.which(path)
         if not found:
-            raise Stopped(f'no program {path}', UNREADABLE)
+            is_there = os.path.isfile(path) and not os.access(path, os.X_OK)
+            raise Stopped(f'{path}: not executable' if is_there else f'no program {path}', UNREADABLE)
         return Program(str(pathlib.Path(found).absolute()))
     if not (TOP / 'crates.txt').is_file():
         return Program(str(TOP / 'ti_bench'))
@@ -80,7 +81,14 @@ def program(path=None):
 
 def of_repository(name):
     """The path of a program of the repository, which is built first if it is missing or old."""
-    built = subprocess.run([TOP / 'tools/built', name], stdout=subprocess.PIPE)
-    if built.returncode:
+    with subprocess.Popen([TOP / 'tools/built', name], stdout=subprocess.PIPE) as building:
+        try:
+            path = building.stdout.read()
+        except Ended:
+            # it ends what it has begun
+            building.terminate()
+            building.wait()
+            raise
+    if building.returncode:
         raise Stopped(f'the program {name} could not be built', UNREADABLE)
-    return os.fsdecode(built.stdout).rstrip('\n')
+    return os.fsdecode(path).rstrip('\n')

@@ -36,11 +36,12 @@ def reported(debugger, words, given, step_of, seconds):
     try:
         with subprocess.Popen([debugger, *words], stdin=subprocess.PIPE, stdout=subprocess.PIPE,
                               stderr=subprocess.DEVNULL) as running:
-            # the whole input is read before the first byte is written
-            running.stdin.write(given)
-            running.stdin.close()
-            steps, rest, cut = steps_of(running.stdout, step_of, seconds)
-            if cut:
+            try:
+                # the whole input is read before the first byte is written
+                running.stdin.write(given)
+                running.stdin.close()
+                steps, rest, cut = steps_of(running.stdout, step_of, seconds)
+            finally:
                 running.kill()
     except BrokenPipeError:
         return [], '', ''
