@@ -164,6 +164,10 @@ class Refused(Calling):
     def test_a_line_is_shown_without_control_codes_and_not_longer_than_it_may_be(self):
         self.assertEqual(self.refusal('a.gpl', b' FOO \x1b[2J\t\xc3\xa9\r')[1],
                          b'a.gpl:1: unknown operation\n     FOO \\x1b[2J\t\xc3\xa9\\x0d\n')
+        self.assertEqual(self.refusal('a.gpl', b' FOO \x9b2J \xe9 \xc2\x9b \xe2\x82\xac \xe2\x82\n')[1],
+                         b'a.gpl:1: unknown operation\n     FOO \\x9b2J \xe9 \\xc2\\x9b \xe2\x82\xac \xe2\\x82\n')
+        self.assertEqual(self.refusal('a.gpl', b'ST @\x9b2J\n')[1].split(b'\n')[2],
+                         b'a.gpl:1: note: what begins in column 1 is a label, so the operation of this line is @\\x9b2J')
         self.assertEqual(self.refusal('a.gpl', b' FOO' + 300 * b'x')[1],
                          b'a.gpl:1: line too long\n     FOO' + 252 * b'x' + b' ..\n')
 

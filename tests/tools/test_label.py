@@ -93,6 +93,18 @@ class CommandLine(Labelling):
         self.assertEqual(lines, LABELLED.splitlines())
         self.assertEqual(said, ['46 bytes, 19 of them code; 4 labels; 4 addresses by labels; the same bytes'])
 
+    def test_an_output_file_is_replaced_only_by_a_source(self):
+        old, names = self.file('out', b'old'), self.file('names', b'')
+        self.label('-o', 'out', 'gdis', 'FFFF', given=b'\0\0', status=1)
+        self.assertEqual(old.read_bytes(), b'old')
+        lines, said = self.label('-o', 'out', 'gdis', '6000', given=self.image(HELLO))
+        self.assertEqual((lines, old.read_bytes().decode(), len(said)), ([], LABELLED, 1))
+        for option in ('--names', '--covered'):
+            self.file('names', b'     1 >6000 S00 D9F R7E RTN\n' if option == '--covered' else b'')
+            said = self.label(option, 'names', '-o', './names', 'gdis', '6000', given=b'\0', status=2)[1]
+            self.assertEqual(said, ['./names: the output would replace a file that is read'])
+        self.assertEqual(names.read_bytes(), b'     1 >6000 S00 D9F R7E RTN\n')
+
     def test_wrong_words_have_status_2(self):
         for words in ([], ['gdis'], ['gdis', '600'], ['dis', '6001'], ['link', '6000'], ['asm', '6000'],
                       ['--entry', '60', 'gdis', '6000'], ['--data', '6001', 'gdis', '6000'],
@@ -146,8 +158,22 @@ class Wished(Labelling):
                            ('>6000 X\n>6001 x', 'x: stands twice'), ('@>8302 A\n@>8302 B', 'B: @>8302 has a name')):
             with self.subTest(text):
                 self.file('names', text.encode())
-                said = f'names line {len(text.splitlines())}: {said}'
-                self.assertEqual(self.label('--names', 'names', 'gdis', '6000', given=b'\0', status=1)[1], [said])
+                ended = self.call('label', '--names', 'names', 'gdis', '6000', given=b'\0')
+                said = f'names:{len(text.splitlines())}: {said}\n'
+                self.assertEqual((ended.returncode, ended.stdout, ended.stderr.decode()), (1, b'', said))
+
+    def test_a_mark_before_names_is_said(self):
+        for mark, note in ((b'\xef\xbb\xbf', b'a byte order mark; save the file without one'),
+                           (b'\xff\xfe', b'the mark of UTF-16; save the file as plain text')):
+            self.file('names', mark + b'* cells\n@>8302 COUNT\n')
+            ended = self.call('label', '--names', 'names', 'gdis', '6000', given=b'\0')
+            self.assertEqual((ended.returncode, ended.stderr), (
+                1, b'names:1: not an address and a name\nnames:1: note: the line begins with ' + note + b'\n'))
+
+    def test_names_of_other_letters_are_rejected_as_they_are_written(self):
+        self.file('names', b'>6000 \xb5\xff\x9b\n')
+        ended = self.call('label', '--names', 'names', 'gdis', '6000', given=b'\0')
+        self.assertEqual((ended.returncode, ended.stderr), (1, b'names:1: \xb5\xff\\x9b: bad label\n'))
 
     def test_what_a_trace_executed_is_code(self):
         source = HELLO.replace(b'BYTE >AA', b'BYTE >AB')
@@ -160,7 +186,14 @@ class Wished(Labelling):
         self.file('trace', self.program.run('run', '100', given=HELLO).out)
         ended = self.call('label', '--covered', 'trace', 'gdis', '6000', given=b'\x0B')
         self.assertEqual((ended.returncode, ended.stderr),
-                         (2, b'tools/label: trace: no line of a step, so this is no report of trace\n'))
+                         (1, b'tools/label: trace: no line of a step, so this is no report of trace\n'))
+
+    def test_a_range_outside_of_the_image_is_said(self):
+        for option in ('--data', '--pointer', '--table'):
+            _, said = self.label('--entry', '6000', option, '5FFF-6000', option, '6010-6011', option, '6000-6000',
+                                 'gdis', '6000', given=b'\x0B')
+            self.assertEqual(said[:-1], ['>5FFF-6000: a part of this range is outside of the image',
+                                         '>6010-6011: this range is outside of the image'], option)
 
     def test_an_entry_outside_of_the_image_is_said(self):
         _, said = self.label('--entry', '6000', '--entry', '6002', 'gdis', '6000', given=b'\x0B\x0B')
@@ -273,7 +306,7 @@ E MOVB *R14+,R1
         self.file('names', b'>A002 A\n')
         text = self.program.run('asm', given=b' DEF A\nA B @A\n END A\n').out
         said = self.label('--names', 'names', 'link', given=text, status=1)[1]
-        self.assertEqual(said, ['names line 1: A: stands twice'])
+        self.assertEqual(said, ['A: stands twice'])
 
     def test_free_places_of_an_object_are_kept(self):
         source = b' DEF B,C\nA MOV @B,@C-2\n B @A\nB BSS 6\n DATA C+8\nC BSS 2\n END A\n'

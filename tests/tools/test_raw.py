@@ -26,6 +26,14 @@ class Raw(Calling):
     def test_names_are_no_words(self):
         self.assertEqual(self.raw(given=b'entry >A000\nTABLE >A012\n'), (1, '', 'tools/raw: no words are listed\n'))
 
+    def test_an_output_file_is_replaced_only_by_words(self):
+        old = self.file('out', b'old')
+        self.assertEqual(self.raw('-o', 'out', given=b'entry >A000\n')[0], 1)
+        self.assertEqual(old.read_bytes(), b'old')
+        self.assertEqual(self.raw('-o', 'out', '--range', 'A000-A003'),
+                         (0, '', 'tools/raw: 2 bytes are outside of >A000-A003\n'))
+        self.assertEqual(old.read_bytes().hex(' ', 2).upper(), 'C060 A00E')
+
     def test_a_stream_that_fails_is_named(self):
         for words, name in (('<&-', 'standard input: Bad file descriptor'),
                             ('>/dev/full', 'standard output: No space left on device'),

@@ -3,7 +3,8 @@ import struct
 import unittest
 import zlib
 
-from calling import Calling
+from calling import TOP, Calling
+from lib import program
 
 
 def rows(data, origin):
@@ -133,8 +134,33 @@ class Screen(Calling):
         self.assertEqual((ended.returncode, ended.stderr),
                          (0, b'tools/screen: text mode, in which the run ends, is not drawn\n'))
         self.assertEqual([path.name for path in (self.folder / 'frames').iterdir()], ['step-000001.png'])
-        ended = self.call('screen', '--frames', 'frames', '--every', '2', given=given)
+        ended = self.call('screen', '--frames', 'others', '--every', '2', given=given)
         self.assertEqual((ended.returncode, ended.stderr), (1, b'tools/screen: text mode is not drawn\n'))
+
+    def test_a_folder_that_has_frames_is_rejected(self):
+        self.registers = [0, 0xE0, 0, 0, 0, 0, 0, 0x07]
+        old = self.file('frames/step-000009.png', b'old')
+        ended = self.call('screen', '--frames', 'frames', '--film', 'film.png', given=self.run_report(' W1=E0 W7=07'))
+        self.assertEqual((ended.returncode, ended.stderr),
+                         (1, b'tools/screen: frames: the folder has frames already, as step-000009.png\n'))
+        self.assertEqual(sorted(path.name for path in self.folder.rglob('*')), ['frames', 'step-000009.png'])
+        self.assertEqual(old.read_bytes(), b'old')
+        old.rename(self.folder / 'frames/other.png')
+        self.assertEqual(self.call('screen', '--frames', 'frames', given=self.run_report(' W1=E0 W7=07')).returncode, 0)
+
+    def test_a_report_of_another_command_is_no_film(self):
+        source = (TOP / 'examples/picture/input').read_bytes()
+        for words in (['run', '50'], ['trace', '50'], ['watch', '50', 'vdp:3FFF+1']):
+            given = program.program().run(*words, given=source).out
+            ended = self.call('screen', '--film', 'film.png', given=given)
+            self.assertEqual((ended.returncode, ended.stderr), (
+                1, b'tools/screen: this is no report of ti_debug gsteps, which --film and --frames read\n'))
+
+    def test_a_run_of_no_step_has_a_film_of_one_frame(self):
+        debugger = program.Program(program.other(program.program().path, 'ti_debug'))
+        given = debugger.run('gsteps', '9', given=b'S EXIT\n END S\n').out
+        self.assertEqual(self.call('screen', '--frames', 'frames', given=given).returncode, 0)
+        self.assertEqual([path.name for path in (self.folder / 'frames').iterdir()], ['step-000000.png'])
 
     def test_words_that_do_not_go_together(self):
         for words in (['-p', '-o', 'a.png'], ['-p', '--film', 'a.png'], ['--every', '2'], ['-p', '--delay', '9'],

@@ -13,6 +13,17 @@ def found(addresses, known, rows, odd):
     return [line for lines in kinds for line in _few(lines)]
 
 
+def outside(image, wishes):
+    """The lines of entries and ranges that are outside of an image, of a range also if a part of it is."""
+    lines = [f'>{at:04X}: this entry is outside of the image' for at in wishes.entries if not image.holds(at, 1)]
+    for low, high in dict.fromkeys(wishes.data + wishes.pointers + wishes.tables):
+        held = sum(image.places[low:high])
+        if held < high - low:
+            what = 'a part of this range' if held else 'this range'
+            lines.append(f'>{low:04X}-{high - 1:04X}: {what} is outside of the image')
+    return lines
+
+
 def _few(lines):
     return lines if len(lines) <= MOST else [*lines[:MOST - 1], f'and {len(lines) - MOST + 1} more of this kind']
 

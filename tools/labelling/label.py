@@ -116,8 +116,7 @@ class Labelling:
         text, lowered = checked(source, wanted)
         if text is None:
             return None
-        outside = [f'>{at:04X}: this entry is outside of the image'
-                   for at in self.wishes.entries if not self.image.holds(at, 1)]
+        outside = doubts.outside(self.image, self.wishes)
         return Labelled(text, [*outside, *doubts.found(addresses, self.listing.known, source.rows, odd)],
                         self._summary(addresses, source, lowered))
 

@@ -2,7 +2,9 @@
 import re
 import string
 
-from .calls import Rejected, report
+from lib import notes
+
+from .calls import Rejected, RejectedLine, report
 
 PREFIXES = {'entry': 'P', 'call': 'S', 'branch': 'L', 'vector': 'V', 'data': 'D'}
 ORDER = {kind: number for number, kind in enumerate(PREFIXES)}
@@ -25,19 +27,19 @@ class Named:
         """Takes the lines of a file. The assembler says which names it takes."""
         new = []
         for number, line in enumerate(text.split('\n'), 1):
-            line = line.partition('*')[0].strip()
-            found = re.fullmatch(r'(V?@)?>([0-9A-Fa-f]{4})\s+(\S+)', line)
-            if line and found is None:
-                raise Rejected(f'{name} line {number}: not an address and a name')
-            if line:
-                new.append((number, found[3].upper()))
+            bare = line.partition('*')[0].strip()
+            found = re.fullmatch(r'(V?@)?>([0-9A-Fa-f]{4})\s+(\S+)', bare)
+            if bare and found is None:
+                raise RejectedLine(name, number, 'not an address and a name', notes.mark_note(line))
+            if bare:
+                new.append((number, found[3]))
                 why = self._added(found[1] or '', int(found[2], 16), found[3].upper())
                 if why:
-                    raise Rejected(f'{name} line {number}: {found[3]}: {why}')
-        first = self._first_fault([it for _, it in new])
+                    raise RejectedLine(name, number, f'{found[3]}: {why}')
+        first = self._first_fault([it.upper() for _, it in new])
         if first:
             number, fault = first
-            raise Rejected(f'{name} line {new[number][0]}: {new[number][1]}: {fault}')
+            raise RejectedLine(name, new[number][0], f'{new[number][1]}: {fault}')
 
     def define(self, names, fixed):
         """Takes names of an object, and returns those that a source may have. The `fixed` ones are plain numbers."""

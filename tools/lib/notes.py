@@ -35,12 +35,19 @@ def too_long(name):
     return f'a name has at most six letters and digits, and {name} has {len(name)}'
 
 
+def mark_note(line):
+    """Of a mark that an editor puts before a text, as latin-1."""
+    if line.startswith('\xef\xbb\xbf'):
+        return 'the line begins with a byte order mark; save the file without one'
+    if line.startswith('\xff\xfe'):
+        return 'the line begins with the mark of UTF-16; save the file as plain text'
+    return None
+
+
 def label_note(found):
     label = found.label
-    if label.startswith('\xef\xbb\xbf'):
-        return 'the line begins with a byte order mark; save the file without one'
-    if label.startswith('\xff\xfe'):
-        return 'the line begins with the mark of UTF-16; save the file as plain text'
+    if mark_note(label):
+        return mark_note(label)
     if label.startswith(';'):
         return 'a comment line begins with *'
     if label.endswith(':') and NAME.fullmatch(label[:-1]):
