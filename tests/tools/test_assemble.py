@@ -41,6 +41,8 @@ NOTES = [
     ('a', b' REF SORT\n BL SORT', 'bad relocation', 'an operand without @ or * is a register; the address is @SORT'),
     ('a', b' COPY "sub/A.SRC"', 'bad directive', 'COPY takes the name of a file beside the source, and no path'),
     ('a', b' COPY A.SRC', 'bad directive', 'COPY takes the name of a file between two "'),
+    ('a', b" copy 'DSK1.LOOP' x", 'missing DSK1.LOOP',
+     'a file is named without its device: "LOOP", beside the source'),
 ]
 # Lines that are refused, and whose text does not say for certain why.
 NO_NOTES = [
@@ -167,7 +169,8 @@ class Refused(Calling):
         self.assertEqual(self.refusal('a.gpl', b' FOO \x9b2J \xe9 \xc2\x9b \xe2\x82\xac \xe2\x82\n')[1],
                          b'a.gpl:1: unknown operation\n     FOO \\x9b2J \xe9 \\xc2\\x9b \xe2\x82\xac \xe2\\x82\n')
         self.assertEqual(self.refusal('a.gpl', b'ST @\x9b2J\n')[1].split(b'\n')[2],
-                         b'a.gpl:1: note: what begins in column 1 is a label, so the operation of this line is @\\x9b2J')
+                         b'a.gpl:1: note: what begins in column 1 is a label, '
+                         b'so the operation of this line is @\\x9b2J')
         self.assertEqual(self.refusal('a.gpl', b' FOO' + 300 * b'x')[1],
                          b'a.gpl:1: line too long\n     FOO' + 252 * b'x' + b' ..\n')
 

@@ -127,7 +127,7 @@ class Steps(Calling):
         self.call('assemble', '-o', 'a.obj', 'a.asm')
         ended = self.call('steps', '--exec', '--source', 'b.asm', 'a.obj')
         self.assertEqual((ended.returncode, ended.stdout), (1, b''))
-        self.assertIn(b'b.asm: the object has the words of this source nowhere\n', ended.stderr)
+        self.assertIn(b'b.asm: the words of this source are not in the object text\n', ended.stderr)
         self.assertEqual(self.call('steps', '--source', 'a.asm', 'a.obj').returncode, 2)
 
     def test_a_refused_source_of_an_object_is_reported(self):
@@ -145,6 +145,25 @@ class Steps(Calling):
             self.file('a.obj', b'00004        A0000' + words + b'20000F\n:\n')
             data = data_of(self.call('steps', '--exec', 'a.obj').stdout)
             self.assertEqual((data['end'], data['stopped']), (end, stopped))
+
+    def test_an_input_of_the_other_kind_has_a_note(self):
+        source = b'S LI R1,5\n JMP $\n END S\n'
+        self.file('a.asm', source)
+        self.call('assemble', '-o', 'a.obj', 'a.asm')
+        objects = (self.folder / 'a.obj').read_bytes()
+        looks = b'this looks like object text; --exec takes it'
+        no = b'this is no object text; assemble the source first'
+        for words, name, data, note in (
+                ([], 'a.obj', objects, looks), ([], 'a.gpl', b'\x01\0\4        A\0\0B\x10\xff', looks),
+                ([], 'a.obj', b'00004 NO OBJECT\n', None), ([], 'a.obj', source, None), ([], 'a.gpl', b' FOO\n', None),
+                (['--exec'], 'a.asm', source, no), (['--exec'], 'A.GPL', b' EXIT\n END >6000\n', no),
+                (['--exec'], 'a.txt', source, None), (['--exec'], 'a.asm', b'00004        A0000\n', None)):
+            with self.subTest(words=words, name=name, data=data):
+                self.file(name, data)
+                ended = self.call('steps', *words, name)
+                lines = [line for line in ended.stderr.split(b'\n') if b': note: this ' in line]
+                wanted = [b'%s: note: %s' % (name.encode(), note)] if note else []
+                self.assertEqual((ended.returncode, lines), (1, wanted))
 
     def test_refused_object_text_is_reported(self):
         self.file('a.obj', b'0')
@@ -180,7 +199,7 @@ class Steps(Calling):
         ended = self.call('steps', '--seconds', '0', 'a.gpl', '100000')
         self.assertEqual(ended.returncode, 0)
         data = data_of(ended.stdout)
-        self.assertRegex(data['end'], 'Only the first [0-9,]+ steps are shown: more would take longer than 0 seconds')
+        self.assertEqual(data['end'], 'Only the first step is shown: more would take longer than 0 seconds.')
         self.assertIn(data['end'], ended.stderr.decode())
         *_, last = states(data)
         self.assertEqual(last[VIDEO:REGISTERS], self.shown(source, len(data['steps'])).vdp)

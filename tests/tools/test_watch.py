@@ -53,7 +53,8 @@ class Watch(Calling):
                            ('pad:83C1+2', b'pad:83C1+2: not within >8300 to >83C1'),
                            ('pad:82FF', b'pad:82FF: not within >8300 to >83C1'),
                            ('vdp:3FFF.1', b'vdp:3FFF.1: not within >0000 to >3FFF'),
-                           ('vdp:0000+0', b'vdp:0000+0: not within >0000 to >3FFF'),
+                           ('vdp:0000+0', b'vdp:0000+0: LEN is at least 1'),
+                           ('pad:COUNT+0', b'pad:COUNT+0: LEN is at least 1'),
                            ('pc:FFFF.1', b'pc:FFFF.1: not within >0000 to >FFFF')):
             ended = self.watch('show.gpl', '100', word)
             self.assertEqual((ended.returncode, ended.stdout), (2, b''))
@@ -65,10 +66,17 @@ class Watch(Calling):
         self.assertEqual((ended.returncode, ended.stdout), (2, b''))
         self.assertIn(b'at most 8 items can be given', ended.stderr)
 
-    def test_no_hit_has_a_status(self):
-        for words in ([], ['--all']):
-            ended = self.watch(*words, 'show.gpl', '3', 'pad:SUM')
-            self.assertEqual((ended.returncode, ended.stdout, ended.stderr), (1, b'', b'tools/watch: no hit\n'))
+    def test_no_hit_has_a_status_and_says_why(self):
+        exits = b'S INC @>8300\n INC @>8300\n EXIT\n END S\n'
+        stops = b'S INC @>8300\n INC @>8300\n ST @>83C2,@>8300\n END S\n'
+        for source, limit, text in ((SHOW, '3', b'no hit in 3 steps'), (SHOW, '1', b'no hit in 1 step'),
+                                    (exits, '2', b'no hit in 2 steps'),
+                                    (exits, '100', b'no hit; EXIT at >6004 after 2 steps'),
+                                    (b'S EXIT\n END S\n', '100', b'no hit; EXIT at >6000 after 0 steps'),
+                                    (stops, '100', b'no hit; stopped at >6004 by reason 2 after 2 steps')):
+            for words in ([], ['--all']):
+                ended = self.watch(*words, 'show.gpl', limit, 'pad:8310', source=source)
+                self.assertEqual((ended.returncode, ended.stdout, ended.stderr), (1, b'', b'tools/watch: %s\n' % text))
 
     def test_a_refused_source_is_reported(self):
         ended = self.watch('show.gpl', '3', 'pad:SUM', source=b' FOO\n')

@@ -14,6 +14,8 @@ NAME = re.compile(r'[A-Za-z][0-9A-Za-z]{0,5}')
 WORD = re.compile(r'(?<![0-9A-Za-z>])[A-Za-z][0-9A-Za-z]*')
 LINE_MAXIMUM = 256
 NUMBER = re.compile(r'([0-9]+)|>([0-9A-Fa-f]+)')
+# the name of a file with a device before it, as a COPY line has it
+DEVICE = re.compile(r'(["\'])DSK[0-9A-Z]\.(.+?)\1', re.I)
 # the operations of GPL that the assembler does not have
 LEFT_OUT = {'FMT', 'COINC', 'IO', 'XML', 'PARSE', 'CONT', 'EXEC', 'RTNB', 'RTGR', 'SWGR', 'SCAN'}
 
@@ -65,6 +67,11 @@ def operation_note(found):
     if found.operation.upper() in LEFT_OUT:
         return f'{found.operation.upper()} is an operation of GPL that is left out here'
     return None
+
+
+def missing_note(found):
+    name = DEVICE.match(found.operands)
+    return f'a file is named without its device: "{name[2]}", beside the source' if name else None
 
 
 def copy_note(found):
@@ -142,6 +149,8 @@ def note(line, cause):
         return operation_note(found)
     if cause == 'bad relocation':
         return register_note(found)
+    if cause.startswith('missing '):
+        return missing_note(found)
     if cause == 'bad directive':
         return copy_note(found) if found.operation.upper() == 'COPY' else quote_note(found)
     if cause in ('operand count', 'bad operand', 'bad token'):

@@ -117,8 +117,8 @@ def base_of(path, listing, linked, memory):
         found = [base for base in found
                  if any(linked.get(name) == (value.number + base) % 0x10000 for name, value in own)]
     if len(found) != 1:
-        where = 'at several places' if found else 'nowhere'
-        raise command.Stopped(f'{path}: the object has the words of this source {where}')
+        where = 'at several places of' if found else 'not in'
+        raise command.Stopped(f'{path}: the words of this source are {where} the object text')
     return found[0]
 
 

@@ -9,7 +9,7 @@ import typing
 from lib import command
 from lib.dump import dump, expansion, words
 from stepping.places import END, LATCHES, REGISTERS, VIDEO, changes_of, make
-from stepping.reports import counted, reported
+from stepping.reports import counted, only, reported
 
 STEP = re.compile(r' *[0-9]+ >([0-9A-F]{4}) WP([0-9A-F]{4}) ST([0-9A-F]{4}) ([^=\n]*?)((?: \S+=\S+)*)')
 PROCESSOR = re.compile(r'^count [0-9]+ PC >([0-9A-F]{4}) WP >([0-9A-F]{4}) ST >([0-9A-F]{4})$', re.M)
@@ -103,7 +103,7 @@ def ending(rest, steps, cut):
     """How a run ended, as a sentence; and whether with an error."""
     made = counted(steps, 'instruction')
     if cut:
-        return f'Only the first {made} are shown: {cut}.', False
+        return only(steps, cut, 'instruction'), False
     how, address = END_LINE.match(rest).groups()
     if how == 'limit':
         return f'Cut off after {made}, the limit.', False

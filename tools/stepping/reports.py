@@ -26,7 +26,7 @@ def steps_of(output, step_of, seconds):
         size += size_of(step.changes)
         if size > MOST_BYTES:
             return steps, b'', f'the changes are more than {MOST_BYTES // 1_000_000} MB'
-        if len(steps) % 64 == 0 and time.monotonic() > deadline:
+        if time.monotonic() > deadline:
             return steps, b'', f'more would take longer than {seconds:g} seconds'
     return steps, b'', ''
 
@@ -48,6 +48,12 @@ def reported(debugger, words, given, step_of, seconds):
     except OSError as error:
         raise command.Stopped(f'{debugger}: {error.strerror}', command.UNREADABLE) from None
     return steps, rest.decode('latin-1'), cut
+
+
+def only(number, cut, what='step'):
+    """That the first steps alone are shown, as a sentence, and why."""
+    shown = f'{what} is' if number == 1 else f'{counted(number, what)} are'
+    return f'Only the first {shown} shown: {cut}.'
 
 
 def counted(number, what='step'):

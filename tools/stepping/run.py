@@ -8,7 +8,7 @@ import typing
 from lib import command
 from lib.dump import dump
 from stepping.places import CELLS, CELLS_END, END, REGISTERS, VIDEO, changes_of, make
-from stepping.reports import counted, reported
+from stepping.reports import counted, only, reported
 
 BYTES = r'[0-9A-F]{2}(?:\*[0-9]{1,5})?'
 CHANGE = rf'(?:V?>[0-9A-F]{{4}}|W[0-7])={BYTES}(?:,{BYTES})*'
@@ -81,7 +81,7 @@ def state_made(run_first, steps):
 def ending(rest, steps, cut):
     """How a run ended, as a sentence; and whether with an error."""
     if cut:
-        return f'Only the first {counted(steps)} are shown: {cut}.', False
+        return only(steps, cut), False
     found = END_LINE.match(rest)
     if not found:
         return f'Cut off after {counted(steps)}, the limit.', False
