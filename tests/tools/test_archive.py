@@ -77,6 +77,18 @@ class Archive(Calling):
         for jobs in ('1', '64'):
             self.assertEqual(self.rows('-j', jobs)[0], 0)
 
+    def test_no_more_processes_are_begun_than_there_are_files(self):
+        # the children of the process whose child runs this program
+        script = self.file('counting', b'#!/bin/sh\nread -r number name state script others </proc/$PPID/stat\n'
+                                       b'read -r children </proc/$script/task/$script/children\n'
+                                       b'echo "$children" >>"$0.list"\n')
+        script.chmod(0o755)
+        for number in range(2):
+            self.file(f'images/{number}.bin', IMAGE)
+        self.call('archive', '-j', '64', '--program', script, 'images')
+        for line in (self.folder / 'counting.list').read_text().splitlines():
+            self.assertIn(len(line.split()), (1, 2))
+
     def test_a_file_is_no_folder(self):
         self.file('image.bin', IMAGE)
         for name, text in (('image.bin', b'image.bin is no folder'), ('none', b'no folder none')):

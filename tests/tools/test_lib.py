@@ -2,9 +2,11 @@
 import contextlib
 import io
 import pathlib
+import subprocess
 import tempfile
 import unittest
 
+from calling import TOOLS, Calling
 from lib import command, dump, elf, generated, program, repository
 
 LISTED = """# a repository
@@ -70,6 +72,19 @@ class Elf(unittest.TestCase):
         for data in (b'', b'\x7fELF\x02\x01', bytes(64), b'\x7fELF\x02\x01' + bytes(58)):
             with self.assertRaisesRegex(command.Stopped, 'x is no program for Linux on x86-64'):
                 elf.Program(data, 'x')
+
+
+class Outputs(Calling):
+    def test_what_comes_by_standard_input_is_no_output(self):
+        path = self.file('a', b'entry >A000\n>A000 10FF\n')
+        for words in (['raw', '-o', './a'], ['screen', '-o', './a'], ['screen', '--film', './a'],
+                      ['label', '-o', './a', 'gdis', '6000']):
+            with open(path, 'rb') as given:
+                ended = subprocess.run([TOOLS / words[0], *words[1:]], stdin=given, capture_output=True,
+                                       cwd=self.folder)
+            self.assertEqual((ended.returncode, ended.stderr.partition(b': ')[2]),
+                             (2, b'./a: the output would replace a file that is read\n'), words)
+        self.assertEqual(path.read_bytes(), b'entry >A000\n>A000 10FF\n')
 
 
 class Programs(unittest.TestCase):

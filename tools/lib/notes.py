@@ -2,6 +2,8 @@
 import collections
 import re
 
+from lib.sources import COPY
+
 Fields = collections.namedtuple('Fields', 'label operation operands rest')
 
 FIELDS = re.compile(r"([^ \t]*)[ \t]*([^ \t]*)[ \t]*((?:[^ \t']|'[^']*(?:'|\Z))*)(.*)", re.S)
@@ -14,8 +16,6 @@ NAME = re.compile(r'[A-Za-z][0-9A-Za-z]{0,5}')
 WORD = re.compile(r'(?<![0-9A-Za-z>])[A-Za-z][0-9A-Za-z]*')
 LINE_MAXIMUM = 256
 NUMBER = re.compile(r'([0-9]+)|>([0-9A-Fa-f]+)')
-# the name of a file with a device before it, as a COPY line has it
-DEVICE = re.compile(r'(["\'])DSK[0-9A-Z]\.(.+?)\1', re.I)
 # the operations of GPL that the assembler does not have
 LEFT_OUT = {'FMT', 'COINC', 'IO', 'XML', 'PARSE', 'CONT', 'EXEC', 'RTNB', 'RTGR', 'SWGR', 'SCAN'}
 
@@ -69,9 +69,11 @@ def operation_note(found):
     return None
 
 
-def missing_note(found):
-    name = DEVICE.match(found.operands)
-    return f'a file is named without its device: "{name[2]}", beside the source' if name else None
+def missing_note(line):
+    found = COPY.match(line.encode('latin-1'))
+    if not found or found[2] == found[3]:
+        return None
+    return f'a file is named without its device: "{found[3].decode("latin-1")}", beside the source'
 
 
 def copy_note(found):
@@ -150,7 +152,7 @@ def note(line, cause):
     if cause == 'bad relocation':
         return register_note(found)
     if cause.startswith('missing '):
-        return missing_note(found)
+        return missing_note(line)
     if cause == 'bad directive':
         return copy_note(found) if found.operation.upper() == 'COPY' else quote_note(found)
     if cause in ('operand count', 'bad operand', 'bad token'):

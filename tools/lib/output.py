@@ -7,6 +7,8 @@ import tempfile
 
 from lib.command import UNREADABLE, USAGE, Stopped
 
+STANDARD_INPUT = 0
+
 
 def file_name(word):
     """A word that names a file."""
@@ -16,8 +18,8 @@ def file_name(word):
 
 
 def keep_apart(path, inputs):
-    """Stops the script if the file to write is one of its inputs."""
-    if path is None or not os.path.exists(path):
+    """Stops the script if the file to write is one of its inputs. Each is a path, or STANDARD_INPUT."""
+    if path is None or not os.path.isfile(path):
         return
     if any(os.path.exists(name) and os.path.samefile(name, path) for name in inputs):
         raise Stopped(f'{path}: the output would replace a file that is read', USAGE)
