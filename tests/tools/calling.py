@@ -1,12 +1,19 @@
 """How the tests call a script: in a folder of their own, over bytes."""
 import os
 import pathlib
+import signal
 import subprocess
 import tempfile
 import unittest
 
 TOP = pathlib.Path(__file__).resolve().parent.parent.parent
 TOOLS = TOP / 'tools'
+
+
+def hearing():
+    """Lets a process hear the signals to end, which the tests may have been begun without, as under nohup."""
+    for number in (signal.SIGHUP, signal.SIGINT, signal.SIGQUIT, signal.SIGTERM):
+        signal.signal(number, signal.SIG_DFL)
 
 
 class Calling(unittest.TestCase):

@@ -6,7 +6,7 @@ import signal
 import subprocess
 import time
 
-from calling import TOOLS, Calling
+from calling import TOOLS, Calling, hearing
 from lib import distribution
 
 # a program that ends with a status, or by a signal, or only by one from elsewhere
@@ -39,7 +39,8 @@ class Installed(Calling):
 
     def started(self, *words, name='ti_bench', shell=(), out=subprocess.PIPE, **more):
         """How a call ends."""
-        return subprocess.run([*shell, self.folder / 'bin' / name, *words], stdout=out, stderr=subprocess.PIPE, **more)
+        return subprocess.run([*shell, self.folder / 'bin' / name, *words], stdout=out, stderr=subprocess.PIPE,
+                              preexec_fn=hearing, **more)
 
 
 class Launcher(Installed):
@@ -79,7 +80,7 @@ class Launcher(Installed):
 
     def assert_ends_both(self, shell, number):
         """A signal to the command ends it and its program."""
-        with subprocess.Popen([*shell, self.command, 'wait'], stdout=subprocess.PIPE) as running:
+        with subprocess.Popen([*shell, self.command, 'wait'], stdout=subprocess.PIPE, preexec_fn=hearing) as running:
             program = pathlib.Path('/proc', running.stdout.readline().decode().strip())
             time.sleep(0.05)
             running.send_signal(number)

@@ -6,14 +6,16 @@ import subprocess
 import time
 import unittest
 
-from calling import TOOLS, Calling
+from calling import TOOLS, Calling, hearing
 
-# A program that says that it has begun, and then waits; but it answers at once if it is to make no step.
+# A program that says that it has begun, and then waits; but it answers at once if it is to make no step. It waits before
+# that too, so that the script that has begun it knows of it.
 SLOW = b"""#!/bin/sh
 case "$1 $2" in
     'glist '* | *' 0') exit 0 ;;
     'link '*) echo 'entry >A000'; exit 0 ;;
 esac
+sleep 0.5
 echo $$ >>"$BEGUN"
 exec sleep 60
 """
@@ -36,7 +38,7 @@ class Signals(Calling):
         self.list.unlink(missing_ok=True)
         programs = {name: str(self.slow) for name in ('TI_BENCH', 'TI_DEBUG')}
         with subprocess.Popen([TOOLS / script, *words], cwd=self.folder, stdin=subprocess.DEVNULL,
-                              stdout=subprocess.DEVNULL, stderr=subprocess.PIPE,
+                              stdout=subprocess.DEVNULL, stderr=subprocess.PIPE, preexec_fn=hearing,
                               env={**os.environ, **programs, 'BEGUN': str(self.list)}) as running:
             latest = time.monotonic() + 20
             while len(self.begun()) < count and time.monotonic() < latest:
