@@ -2,6 +2,7 @@
 import importlib.machinery
 import importlib.util
 import pathlib
+import subprocess
 import sys
 import tempfile
 import unittest
@@ -56,6 +57,17 @@ class Shares(unittest.TestCase):
         shared = [name for share in run.shares(run.edits()) for name in share]
         self.assertEqual(sorted(shared), sorted(run.edits()))
         self.assertTrue(0 <= run.number_of_share() < run.SHARES)
+
+    def test_a_share_is_named_by_its_number_or_by_its_turn(self):
+        for words, status, said in ((['--share'], 3, r'more-edits: share \d+ of 12: '),
+                                    (['--share', '11', '--minutes', '1'], 3, 'more-edits: share 11 of 12: '),
+                                    (['--share', '12'], 2, ''), (['--share', '-1'], 2, ''), (['--share', 'x'], 2, ''),
+                                    (['lane_scan', '--share', '1'], 2, ''), (['no_crate'], 2, '')):
+            # without rt on the PATH nothing is tried
+            ended = subprocess.run([sys.executable, TOP / 'more-edits/run', *words], capture_output=True, text=True,
+                                   env={'PATH': '/nowhere'})
+            self.assertEqual(ended.returncode, status, (words, ended.stderr))
+            self.assertRegex(ended.stdout, f'^{said}')
 
     def test_shares_cost_about_the_same(self):
         run = script()
