@@ -1,3 +1,4 @@
 pub mod TakeCalls
 pub mod Writes
 pub mod Progress
+pub mod Shown

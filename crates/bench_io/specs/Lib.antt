@@ -1,4 +1,5 @@
 pub mod Stream
+pub mod Shown
 pub mod Memory
 pub mod ReadAll
 pub mod Written

@@ -12,7 +12,8 @@ pub record GromState : Type 0 where
   pub fetched : ℕ
   pub half_written : Bool
 
--- What is true of every state: 65,536 bytes, a counter of 16 bits, and bytes.
+-- What is true of every state: 65,536 bytes, a counter of 16 bits, and bytes. Profile: a GROM has bytes at all of its
+-- 8,192 addresses.
 pub record IsGrom (grom : GromState) : Type 0 where
   pub image : HoldsBytes 65536 grom.image
   pub counter : grom.counter < 65536

@@ -36,6 +36,7 @@ is_vdp_idle vdp = is_none vdp.held
 
 -- The address after an address; the address has 14 bits.
 -- TMS9918A data manual, "CPU read from VRAM" and "CPU write to VRAM".
+-- Profile: 16,384 bytes in order from the start on, whatever register 1 says of the size of the memory.
 abbrev pub next_in_vdp : ℕ → ℕ
 next_in_vdp address = (address + 1) % 16384
 
@@ -68,7 +69,8 @@ pair_address first second = join (second % 64) first
 
 -- A pair is complete; the video processor is idle again.
 -- TMS9918A data manual: "CPU read from VRAM", "CPU write to VRAM", "CPU write to VDP register".
--- Profile: a register write leaves the address, and the top bits 11 change nothing.
+-- Profile: a register write takes the register's number from the low three bits and leaves the address, and the top
+-- bits 11 change nothing.
 abbrev pub pair_done : PairKind → VdpState → ℕ → ℕ → VdpState
 pair_done ReadSetup vdp first second =
     vdp_fetched_ahead (record vdp { address = pair_address first second; held = None })
@@ -88,7 +90,7 @@ vdp_address_written vdp byte = address_byte_taken vdp.held vdp byte
 
 -- The data port is written: the byte is stored at the address, and the address counts up.
 -- TMS9918A data manual, "CPU write to VRAM".
--- Profile: the byte becomes the fetched byte, and the pair is idle again.
+-- Profile: the byte becomes the fetched byte, and the pair is idle again; a byte of it that was held is lost.
 abbrev pub vdp_data_written : VdpState → ℕ → VdpState
 vdp_data_written vdp byte =
     record vdp {
@@ -100,12 +102,12 @@ vdp_data_written vdp byte =
 
 -- The data port is read: it gives the fetched byte, and the next one is fetched ahead.
 -- TMS9918A data manual, "CPU read from VRAM".
--- Profile: the pair is idle again.
+-- Profile: the pair is idle again; a byte of it that was held is lost.
 abbrev pub vdp_data_read : VdpState → ℕ × VdpState
 vdp_data_read vdp = (vdp.fetched, vdp_fetched_ahead (record vdp { held = None }))
 
 -- The status port is read: the pair is idle again.
 -- TMS9918A data manual, "CPU read from VDP status register".
--- Profile: the status is always 0.
+-- Profile: the status is always 0; a byte of the pair that was held is lost.
 abbrev pub vdp_status_read : VdpState → ℕ × VdpState
 vdp_status_read vdp = (0, record vdp { held = None })

@@ -81,7 +81,7 @@ abbrev pub value_bytes : Bool → ℕ → List ℕ
 value_bytes true value = word_bytes value
 value_bytes false value = value ∷ []
 
--- an immediate value of bytes is a byte
+-- An immediate value of bytes is a byte. GPL Programmer's Guide, the statements with two operands.
 abbrev pub FitsSource : Bool → GplSource → Type 0
 FitsSource true src = Unit {0}
 FitsSource false (source.At operand) = Unit {0}

@@ -107,6 +107,7 @@ from_at GromIndexedToMemory = do
   give (from.GromIndexed address index)
 from_at _ = read_as from.Grom word_at
 
+-- GPL Programmer's Guide, MOVE: the length, then the target, then the source.
 abbrev pub move_at : MoveKind → Bool → Read GplInstr
 move_at kind immediate = do
   length ← length_at immediate

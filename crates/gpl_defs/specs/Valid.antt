@@ -37,7 +37,8 @@ is_valid_move (target.Register number) (from.Grom address) = true
 is_valid_move (target.Register number) (from.GromIndexed address index) = false
 is_valid_move (target.Register number) (from.At operand) = false
 
--- An instruction has bytes where its offset in the GROM has thirteen bits, and the table has its form.
+-- An instruction has bytes if its offset in the GROM has thirteen bits and the table has its form. GPL Programmer's
+-- Guide, BR and BS, and the statements.
 abbrev pub is_valid : GplInstr → Bool
 is_valid (Plain op) = true
 is_valid (Byte op value) = true

@@ -1,5 +1,4 @@
 //! Where the scratchpad begins.
 
-/// The address of the first cell of the scratchpad, from which operands in it count. GPL Programmer's Guide, on the
-/// addressing of operands.
+/// The address of the first cell of the scratchpad. Profile: the addresses of operands in it are offsets from here.
 pub const SCRATCHPAD: u16 = 0x8300;

@@ -36,6 +36,7 @@ with_cell offset byte c =
       shows = (offset == CHARACTER) || c.shows;
     }
 
+-- Profile: video addresses wrap at 16,384.
 abbrev pub with_video : ℕ → ℕ → Changes → Changes
 with_video address byte c = record c { state = record c.state { vdp = slice_set c.state.vdp (address % 16384) byte } }
 

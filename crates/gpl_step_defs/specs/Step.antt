@@ -64,7 +64,7 @@ word_or_byte false = Byte
 abbrev pub with_tested : ℕ → Changes → Changes
 with_tested bit c = with_condition (is_set (status_of c.state) bit) c
 
--- The operations without operand. Profile: RTN clears COND, and RTNC keeps it.
+-- The operations without operand. Profile: RTN clears COND, RTNC keeps it, and EXIT ends the program.
 abbrev pub plain : PlainOp → Changes → Result Changes Reason
 plain RTN c = returned c >>= λ c. Ok (with_condition false c)
 plain RTNC c = returned c
@@ -74,7 +74,8 @@ plain GT c = Ok (with_tested GREATER_BIT c)
 plain CARRY c = Ok (with_tested CARRY_BIT c)
 plain OVF c = Ok (with_tested OVERFLOW_BIT c)
 
--- ALL fills the screen, the first bytes of video memory. GPL Programmer's Guide, ALL.
+-- ALL fills the screen. GPL Programmer's Guide, ALL. Profile: the screen is the first bytes of video memory, whatever
+-- the video registers say.
 abbrev pub filled : ℕ → List ℕ → List ℕ
 filled byte vdp = replicate SCREEN_BYTES byte ++ drop SCREEN_BYTES vdp
 

@@ -128,7 +128,7 @@ backward bytes = if (bytes % 2 == 0) && nat_le bytes 256 then Some (neg_ℤ (pos
 abbrev pub displacement_to : ℕ → ℕ → Option ℤ
 displacement_to next target = if nat_le next target then forward (target - next) else backward (next - target)
 
--- A register or a count is below 16. TMS9900 data manual, "Instructions", the formats.
+-- A register or a count has four bits. TMS9900 data manual, "Registers and memory", and the formats of "Instructions".
 abbrev pub below_sixteen : ℕ → Result ℕ FormError
 below_sixteen number = if nat_lt number 16 then Ok number else Err BadOperand
 

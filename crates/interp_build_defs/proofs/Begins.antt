@@ -8,7 +8,6 @@ use Rattle.console_defs.specs.Memory.{Memory, IsNewMemory}
 use Rattle.console_defs.specs.Machine.{MachineState}
 use Rattle.link_defs.specs.LinkedMemory.{LinkedMemory}
 use Rattle.load_defs.specs.Loaded.{IsLoaded, IsLoadedMachine, with_words, with_first_word}
-use Rattle.native_interp.specs.Words.{words}
 use Rattle.native_interp.specs.declared.addresses.TheConstants.{GBOOT, WORKSPACE}
 use Rattle.native_interp.specs.declared.words.TheConstants.{INTERP}
 use Rattle.interp_build_defs.specs.Building.{HasShipped}
@@ -71,8 +70,8 @@ stands_loaded shipped image linked entry memory few has loaded =
     (all_belong shipped linked has)))
 
 -- the words, with nothing else said of them
-opaque_words : (shipped : List ℕ) × (shipped ≡ words) × (shipped ≡ INTERP) × (length shipped ≤ 4096)
-opaque_words = (INTERP, refl, refl, omega arith)
+opaque_words : (shipped : List ℕ) × (shipped ≡ INTERP) × (length shipped ≤ 4096)
+opaque_words = (INTERP, refl, omega arith)
 
 -- the words are the interpreter's
 holds_words : (shipped bytes : List ℕ) → shipped ≡ INTERP → Holds shipped bytes → HoldsWords bytes
@@ -101,4 +100,4 @@ boots shipped image linked entry x has few same loaded =
 pub interpreters_boot : LoadedInterpretersBoot
 interpreters_boot memory image entry x is loaded =
     boots opaque_words.0 image memory entry x
-    (has_words opaque_words.0 memory opaque_words.1 is) opaque_words.3 opaque_words.2 loaded
+    (has_words opaque_words.0 memory opaque_words.1 is) opaque_words.2 opaque_words.1 loaded

@@ -8,7 +8,7 @@ use Rattle.std.specs.FinMap.{get-entries, entries, entries_sorted, find}
 use Rattle.std.proofs.lemmas.Bool.Decides.{nat_tests}
 use Rattle.std.proofs.lemmas.Option.{get_or_from_slice_get, slice_get-get_or, slice_get_within}
 use Rattle.link_defs.specs.LinkedMemory.{LinkedMemory}
-use Rattle.native_interp.specs.Words.{words}
+use Rattle.native_interp.specs.declared.words.TheConstants.{INTERP}
 use Rattle.interp_build_defs.specs.Building.{shipped_at, HasShipped}
 use Rattle.interp_build_defs.specs.Interpreter.{IsInterpreter}
 use Rattle.interp_build_defs.proofs.Pairs.{Every, Occurs, every_found, occurs, none_is_not}
@@ -72,5 +72,5 @@ module _ (shipped : List ℕ) (memory : LinkedMemory) (has : HasShipped shipped 
       ∙ (has (ORIGIN + 2 * number) ∙ shipped_word shipped number inside))
 
 -- the interpreter's linked memory has the interpreter's words, of which nothing else is said here
-pub has_words : (shipped : List ℕ) (memory : LinkedMemory) → shipped ≡ words → IsInterpreter memory → HasShipped shipped memory
+pub has_words : (shipped : List ℕ) (memory : LinkedMemory) → shipped ≡ INTERP → IsInterpreter memory → HasShipped shipped memory
 has_words shipped memory same is = subst (λ (list : List ℕ). HasShipped list memory) (sym same) is.words

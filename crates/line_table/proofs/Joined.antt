@@ -19,6 +19,7 @@ use Rattle.line_laws.proofs.LinkedPieces.{are_words, memory_of, module_linked, w
 use Rattle.native_interp.specs.Source.{lines, source}
 use Rattle.native_interp.specs.Words.{words}
 use Rattle.native_interp.specs.declared.addresses.TheConstants.{GBOOT, ORIGIN, WORD_COUNT}
+use Rattle.native_interp.specs.declared.words.TheConstants.{INTERP}
 use Rattle.interp_build_defs.specs.Building.{Links, HasShipped}
 use Rattle.interp_build_defs.specs.Interpreter.{SourceGivesWords}
 use Rattle.line_table.specs.Table.{defined}
@@ -90,8 +91,12 @@ source_has =
 all_words_fit : are_words words ≡ true
 all_words_fit = refl
 
+-- the list of the parts is the constant of the program
+are_interp : words ≡ INTERP
+are_interp = refl
+
 -- The linked memory of the interpreter's source has the interpreter's words from >2000 up, and no others.
 pub source_gives_words : SourceGivesWords
 source_gives_words =
     let found = gives source lines words (spot.Absolute GBOOT) source_lines source_has all_words_fit (omega arith) in
-    (found.0, record { links = found.1; words = found.2 })
+    (found.0, record { links = found.1; words = subst (λ (list : List ℕ). HasShipped list found.0) are_interp found.2 })

@@ -28,6 +28,7 @@ abbrev pub is_set : ℕ → ℕ → Bool
 is_set word weight = word / weight % 2 == 1
 
 -- The status register of a word. TMS9900 data manual, "Status register".
+-- Profile: bits 7 to 11, which have no use there, are kept as the other bits are.
 abbrev pub status_at : ℕ → Status
 status_at word =
     record {

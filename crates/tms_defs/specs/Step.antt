@@ -234,19 +234,19 @@ module _ (M : Type 0) (access : Accesses M) where
     stored_by_result Word (register number x) (exclusive_or_of found value) x
   -- TMS9900 data manual, "Extended operation (XOP) instruction": a context switch by the vector of the number; the
   -- source's address goes to register 11 of the new workspace, and X is set.
-  -- Profile: the value of the source is not read, register 11 is written last, and the status that is kept is the one
-  -- before X was set.
+  -- Profile: the value of the source is not read, an odd address of it is handed on as it is, register 11 is written
+  -- last, and the status that is kept is the one before X was set.
   reg XOP number source x = do
     (wp, pc) ← vector_at (0x0040 + 4 * number) x
     left ← with_words x (kept_in wp x ++ ((register_in wp 11, source) ∷ []))
     Gives (record left { wp = wp; pc = pc; status = with_extension left.status })
   -- TMS9900 data manual, "Multiply": the product goes to the register and the word after it; no status bit is set.
-  -- Profile: the high word is written before the low one.
+  -- Profile: the high word is written before the low one, and the word after register 15 is the one after the workspace.
   reg MPY number source x = do
     (value, found) ← values_at source (register number x) x
     with_words x (in_row (register number x) (product_of found value))
   -- TMS9900 data manual, "Divide": the number of the register and of the word after it, divided by the source.
-  -- Profile: both words are read, whatever the source is.
+  -- Profile: both words are read, whatever the source is; the word after register 15 is the one after the workspace.
   reg DIV number source x = do
     (divisor, high) ← values_at source (register number x) x
     low ← word_at (plus (register number x) 2) x
