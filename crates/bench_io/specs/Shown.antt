@@ -4,7 +4,7 @@ use Rattle.std.specs.Io.KnownBytes.{append_known}
 use Rattle.count_defs.specs.Counts.{Rose}
 use Rattle.bench_io.specs.Stream.{SinkState}
 
--- 1 for bytes that are shown
+-- how many of a stream's bytes are shown: all as one list, or none
 abbrev pub shown_count : Option (List ℕ) → ℕ
 shown_count None = 0
 shown_count (Some bytes) = 1
@@ -22,8 +22,8 @@ shown_since (Some bytes) now = now
 abbrev pub Shows : Option (List ℕ) → Option (List ℕ) → Type 0
 Shows shown now = IfSome shown (λ bytes. now ≡ Some bytes)
 
--- A sink over a buffer, and the sink over the writer behind it, after the buffer was written out: all of it, or a rest
--- was not.
+-- A sink over a buffered writer, and the sink over the writer alone after the buffer was written out: all of it was, and
+-- the counts are the same; or a rest was not, and the count of faults rose.
 abbrev pub Unbuffered : SinkState → SinkState → Bool → Type 0
 Unbuffered before after true =
     Shows before.held after.held × (after.puts ≡ before.puts) × (after.faults ≡ before.faults)

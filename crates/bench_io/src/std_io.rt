@@ -7,6 +7,7 @@ ghost use Rattle.bench_io.specs.Shown.{Shows, Unbuffered};
 ghost use Rattle.std.specs.Io.KnownBytes.{Appends};
 
 use crate::{Failed, Sink, Source};
+use std::fmt::{self, Debug, Formatter};
 use std::io::{BufWriter, ErrorKind, Read, Write};
 use std::marker::Model;
 use std::snapshot::Snapshot;
@@ -57,6 +58,17 @@ impl<R: Read + Drop> StdSource<R> {
         ensures { Shows self.left (R.remaining result) }
     {
         self.reader
+    }
+}
+
+impl<R: Read + Drop> Debug for StdSource<R> {
+    fn fmt<F: fmt::Write>(&self, f: &mut Formatter<F>) -> fmt::Result {
+        f.debug_struct("StdSource")
+            .field("calls", &self.calls)
+            .field("taken", &self.taken)
+            .field("empty", &self.empty)
+            .field("faults", &self.faults)
+            .finish_non_exhaustive()
     }
 }
 
@@ -155,8 +167,8 @@ impl<W: Write + Drop> StdSink<W> {
 }
 
 impl<W: Write + Drop> StdSink<BufWriter<W>> {
-    /// The sink over the writer behind the buffer, which is written out first, and whether all of it was. If a rest was
-    /// not, the count of faults rises by one.
+    /// Writes the buffer out and takes it apart: whether all of it was written, and the sink over the writer alone. A
+    /// rest that was not written is a fault: the count of faults rises by one.
     pub fn unbuffered(self) -> (bool, StdSink<W>)
         ensures { Unbuffered self result.1 result.0 }
     {
@@ -181,6 +193,15 @@ impl<W: Write + Drop> StdSink<BufWriter<W>> {
             faults,
         };
         (is_written, sink)
+    }
+}
+
+impl<W: Write + Drop> Debug for StdSink<W> {
+    fn fmt<F: fmt::Write>(&self, f: &mut Formatter<F>) -> fmt::Result {
+        f.debug_struct("StdSink")
+            .field("puts", &self.puts)
+            .field("faults", &self.faults)
+            .finish_non_exhaustive()
     }
 }
 

@@ -5,6 +5,8 @@ mod glist;
 mod gsteps;
 mod list;
 mod running;
+mod streams;
 mod words;
 
 pub use crate::running::debug;
+pub use crate::streams::{debug_over, debug_through};

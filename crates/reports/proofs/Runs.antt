@@ -7,6 +7,7 @@ use Rattle.count_defs.specs.Counts.{Rose}
 use Rattle.reports.specs.Outputs.{Outputs, EndsWith, WroteReport, MissedReport}
 use Rattle.reports.specs.Answers.{EndsByLine}
 use Rattle.reports.specs.Run.{Program, Run, EndsByUsage, EndsSaid}
+use Rattle.reports.proofs.Streams.{streams_get_the_report}
 use Rattle.reports.specs.RunLaws.{OneReport, HasNoFault, WroteTheReport, Completeness, BeginAlike, OneAnswer, LawsOfProgram}
 
 -- What a program's definitions have to be for its laws: reports on what was read are reports on what was shown, of which
@@ -104,4 +105,9 @@ module _ {C W X : Type 0} (p : Program C W X) where
       alike is a b a.said s t refl begin none other ends same some some'
 
   pub laws_of : IsProgram p → LawsOfProgram p
-  laws_of is = record { one_report = is.one_report; completeness = completeness is; one_answer = one_answer is }
+  laws_of is = record {
+    one_report = is.one_report;
+    completeness = completeness is;
+    one_answer = one_answer is;
+    streams = streams_get_the_report p is.one_report is.shown;
+  }

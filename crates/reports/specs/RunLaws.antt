@@ -6,6 +6,7 @@ use Rattle.report_defs.specs.declared.status.Status.TheVariants.{Memory}
 use Rattle.report_defs.specs.Report.{Report, status_of}
 use Rattle.reports.specs.Outputs.{Outputs, WroteReport}
 use Rattle.reports.specs.Run.{Program, Run, EndsBy}
+use Rattle.reports.specs.Streams.{StreamsGetTheReport}
 
 -- there is at most one report of each command on what it reads
 abbrev pub OneReport : {C W X : Type 0} → Program C W X → Type 0
@@ -51,8 +52,9 @@ OneAnswer {C} {W} {X} p =
     → EndsBy p first one → EndsBy p second other → one ≢ Memory → other ≢ Memory
     → one ≡ other
 
--- The three laws of a program, which are proved of each.
+-- The laws of a program, which are proved of each.
 pub record LawsOfProgram {C W X : Type 0} (p : Program C W X) : Type 0 where
   pub one_report : OneReport p
   pub completeness : Completeness p
   pub one_answer : OneAnswer p
+  pub streams : StreamsGetTheReport p

@@ -4,37 +4,26 @@
 
 use bench_io::{StdSink, StdSource};
 use bench_shelf::DirShelf;
-use command_words::{Words, program_words};
-use debug_commands::debug;
+use command_words::program_words;
+use debug_commands::{debug_over, debug_through};
 use report_defs::Status;
-use std::io::{BufWriter, Write};
+use std::io::{BufWriter, Stderr, Stdin, Stdout};
 use std::process::ExitCode;
 
+/// How a run ends: its status, and the standard streams. Their types are different, so that they cannot be exchanged.
+type Ended = (Status, StdSource<Stdin>, StdSink<Stdout>, StdSink<Stderr>);
+
 /// Runs the command that the words of the command line say, over the standard streams and the files of the current
-/// folder. Standard output is buffered if there is memory for that, and else it is not: so `debug` is called in either
-/// case.
+/// folder. Standard output is buffered if there is memory for that, and else it is not.
 fn main(rt: HostRuntime) -> ExitCode {
     let Ok(words) = program_words(&rt) else {
         return ExitCode::from(Status::Memory as u8);
     };
-    let Ok(mut output) = BufWriter::new(rt.alloc(), rt.stdout()) else {
-        return ExitCode::from(run(&rt, &words, rt.stdout()) as u8);
+    let mut shelf = DirShelf::new(&rt);
+    let (alloc, input, errors) = (rt.alloc(), rt.stdin(), rt.stderr());
+    let ended: Ended = match BufWriter::new(alloc, rt.stdout()) {
+        Ok(output) => debug_through(alloc, &words, input, &mut shelf, output, errors),
+        Err(_) => debug_over(alloc, &words, input, &mut shelf, rt.stdout(), errors),
     };
-    let status = run(&rt, &words, &mut output);
-    match output.flush() {
-        Ok(()) => ExitCode::from(status as u8),
-        Err(_) => ExitCode::from(Status::WriteFault as u8),
-    }
-}
-
-/// Runs the command that the words say, with its report to `output`.
-fn run<W: Write + Drop>(rt: &HostRuntime, words: &Words, output: W) -> Status {
-    debug(
-        rt.alloc(),
-        words,
-        &mut StdSource::new(rt.stdin()),
-        &mut DirShelf::new(rt),
-        &mut StdSink::new(output),
-        &mut StdSink::new(rt.stderr()),
-    )
+    ExitCode::from(ended.0 as u8)
 }

@@ -6,7 +6,9 @@ mod command;
 mod names;
 mod over_files;
 mod running;
+mod streams;
 mod usage;
 mod watch;
 
 pub use crate::running::bench_with;
+pub use crate::streams::{bench_over, bench_through};

@@ -1,0 +1,49 @@
+//! Runs over a slice and two vectors of std: what they come to follows from the contracts alone.
+
+ghost use Rattle.std.specs.Prelude.{◌≡◌, IfSome, Some, []};
+ghost use Rattle.report_defs.specs.ProgramCommands.{ProgramCommand, program_command};
+ghost use Rattle.reports.specs.Streams.{StreamsHoldTheReport, new_sink, new_source};
+ghost use Rattle.workbench.specs.FileProgram.{Shown, Shows, file_program};
+
+use bench_shelf::{MemShelf, Shelf};
+use command_words::Words;
+use report_defs::Status;
+use std::alloc::{AllocError, Global};
+use std::io::BufWriter;
+use workbench::bench_through;
+
+/// What a run wrote, with its status.
+#[derive(Drop)]
+struct Written {
+    status: Status,
+    out: Vec<u8>,
+    err: Vec<u8>,
+}
+
+/// Runs a command over bytes, with vectors as its outputs, the first of them with a buffer. If the report was written
+/// whole, the vectors hold it: that is the one report on the bytes.
+fn written<F: Shelf>(
+    alloc: Global,
+    words: &Words,
+    bytes: &[u8],
+    shelf: &mut F,
+) -> Option<Written>
+    ensures { IfSome result (λ wrote.
+      (command : ProgramCommand) (read : Shown) → program_command words.now ≡ Some command
+      → Shows command (record { input = new_source (Some bytes.now); shelf = F.shelf shelf.old }) read
+      → StreamsHoldTheReport (file_program.ReportOn command read) [] []
+        (new_sink (Some wrote.out.items)) (new_sink (Some wrote.err.items)) wrote.status) }
+{
+    let Ok(output) = BufWriter::new(alloc, Vec::new(alloc)) else {
+        return None;
+    };
+    let (status, _, out, err) = bench_through(alloc, words, bytes, shelf, output, Vec::new(alloc));
+    match status {
+        Status::Done | Status::Refused | Status::Stopped => Some(Written {
+            status,
+            out: out.into_inner(),
+            err: err.into_inner(),
+        }),
+        _ => None,
+    }
+}
