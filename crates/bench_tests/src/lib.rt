@@ -10,3 +10,5 @@ mod failing_rows;
 mod run;
 #[cfg(test)]
 mod statuses;
+#[cfg(test)]
+mod streams;

@@ -22,7 +22,7 @@ pub(crate) struct Ended {
 }
 
 /// The words of a command line.
-fn words_of(alloc: Global, words: &[&[u8]]) -> Result<Words, AllocError> {
+pub(crate) fn words_of(alloc: Global, words: &[&[u8]]) -> Result<Words, AllocError> {
     let mut list = Words::new(alloc);
     for word in words {
         list.push(word)?;

@@ -5,11 +5,13 @@ ghost use Rattle.report_defs.specs.ProgramCommands.{ProgramCommand, program_comm
 ghost use Rattle.reports.specs.Streams.{StreamsHoldTheReport, new_sink, new_source};
 ghost use Rattle.workbench.specs.FileProgram.{Shown, Shows, file_program};
 
+use super::run::words_of;
 use bench_shelf::{MemShelf, Shelf};
 use command_words::Words;
 use report_defs::Status;
 use std::alloc::{AllocError, Global};
 use std::io::BufWriter;
+use std::test::Fail;
 use workbench::bench_through;
 
 /// What a run wrote, with its status.
@@ -46,4 +48,22 @@ fn written<F: Shelf>(
         }),
         _ => None,
     }
+}
+
+/// Whether `gasm` of a source in a slice is answered by these bytes in a vector and nothing in the other.
+fn assembles(alloc: Global, source: &[u8], image: &[u8]) -> Result<bool, AllocError> {
+    let words = words_of(alloc, &[b"gasm"])?;
+    let mut shelf = MemShelf::new(Vec::new(alloc), Vec::new(alloc));
+    Ok(match written(alloc, &words, source, &mut shelf) {
+        Some(wrote) => {
+            wrote.status == Status::Done && wrote.out.as_slice() == image && wrote.err.is_empty()
+        }
+        None => false,
+    })
+}
+
+#[test]
+fn bytes_of_a_slice_come_out_in_vectors(rt: HostRuntime) -> Result<(), Fail> {
+    assert!(rt; assembles(rt.alloc(), b"S EXIT\n END S\n", &[0x0B])?);
+    Ok(())
 }

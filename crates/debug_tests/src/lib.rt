@@ -6,3 +6,5 @@
 mod failing_calls;
 #[cfg(test)]
 mod run;
+#[cfg(test)]
+mod streams;
