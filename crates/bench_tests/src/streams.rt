@@ -24,16 +24,11 @@ struct Written {
 
 /// Runs a command over bytes, with vectors as its outputs, the first of them with a buffer. If the report was written
 /// whole, the vectors hold it: that is the one report on the bytes.
-fn written<F: Shelf>(
-    alloc: Global,
-    words: &Words,
-    bytes: &[u8],
-    shelf: &mut F,
-) -> Option<Written>
+fn written<F: Shelf>(alloc: Global, words: &Words, bytes: &[u8], shelf: &mut F) -> Option<Written>
     ensures { IfSome result (λ wrote.
-      (command : ProgramCommand) (read : Shown) → program_command words.now ≡ Some command
-      → Shows command (record { input = new_source (Some bytes.now); shelf = F.shelf shelf.old }) read
-      → StreamsHoldTheReport (file_program.ReportOn command read) [] []
+        (command : ProgramCommand) (read : Shown) → program_command words.now ≡ Some command
+        → Shows command (record { input = new_source (Some bytes.now); shelf = F.shelf shelf.old }) read
+        → StreamsHoldTheReport (file_program.ReportOn command read) [] []
         (new_sink (Some wrote.out.items)) (new_sink (Some wrote.err.items)) wrote.status) }
 {
     let Ok(output) = BufWriter::new(alloc, Vec::new(alloc)) else {

@@ -9,7 +9,7 @@ use Rattle.report_defs.specs.declared.status.Status.TheVariants as status
 use Rattle.report_defs.specs.FaultLine.{fault_line}
 use Rattle.report_defs.specs.Report.{Report, Whole, Faulty, Rejected, RejectedAfter, status_of}
 use Rattle.reports.specs.Outputs.{Outputs, WroteReport}
-use Rattle.reports.specs.Run.{Program}
+use Rattle.reports.specs.Run.{Program, EndsBy}
 use Rattle.reports.specs.Streams.{Ending, Streams, EndsOver, EndsThrough, IsWhole, StreamsHoldTheReport, StreamsGetTheReport}
 use Rattle.reports.specs.Streams.{new_source, new_sink, read_once, output_of, error_output_of, run_ending}
 use Rattle.reports.specs.RunLaws.{OneReport}
@@ -115,6 +115,35 @@ streams_get_the_report p one_report shown = record {
   over = λ command enter leave read bytes out_before err_before source out err end shows whole ends.
       over p one_report shown command enter leave read bytes out_before err_before shows source out err end whole ends;
   through = λ command enter leave read bytes out_before err_before source out err end shows whole ends.
-      through p one_report shown command enter leave read bytes out_before err_before shows source out err ends.wrote ends.end end ends.is_written whole
-      ends.ends ends.came ends.status_is;
+      through p one_report shown command enter leave read bytes out_before err_before shows source out err ends.wrote ends.end
+      end ends.is_written whole ends.ends ends.came ends.status_is;
 }
+
+-- the runs of a program under words that say a command, or none
+abbrev pub said_ending : {C W X : Type 0} → Program C W X → Option C → (SourceState → W) → (SourceState → W) → Ending
+said_ending p said enter leave before after outputs end =
+    EndsBy p (record { said = said; before = enter before; after = leave after; outputs = outputs }) end
+
+-- Runs over a slice and two vectors, which were empty. They hold the report, if it was written whole.
+pub vectors_hold_the_report : {C W X : Type 0} (p : Program C W X) → StreamsGetTheReport p
+    → (enter leave : SourceState → W) (said : Option C) (bytes out_bytes err_bytes : List ℕ) (held : Option (List ℕ))
+    (source : SourceState) (out err : SinkState) (end : Status) → held ≡ Some [] → IsWhole end
+    → EndsThrough (said_ending p said enter leave) (record { left = Some bytes; out = held; err = Some [] }) source out err end
+    → Shows out.held (Some out_bytes) → Shows err.held (Some err_bytes)
+    → (command : C) (read : X) → said ≡ Some command → p.Shows command (enter (new_source (Some bytes))) read
+    → StreamsHoldTheReport (p.ReportOn command read) [] [] (new_sink (Some out_bytes)) (new_sink (Some err_bytes)) end
+vectors_hold_the_report {C} p get enter leave said bytes out_bytes err_bytes held source out err end none whole ends shown
+    shown' command read is shows =
+    let Ends : Option C → Option (List ℕ) → Type 0 = λ s h.
+    EndsThrough (said_ending p s enter leave) (record { left = Some bytes; out = h; err = Some [] }) source out err end
+    in
+    let over = subst (λ s. Ends s (Some [])) is (subst (λ h. Ends said h) none ends) in
+    let had = get.through command enter leave read bytes [] [] source out err end shows whole over in
+    record {
+      report = had.report;
+      reported = had.reported;
+      only = had.only;
+      status_is = had.status_is;
+      out_holds = subst (λ (o : Option (List ℕ)). IfSome o (λ bytes. Some out_bytes ≡ Some bytes)) had.out_holds shown;
+      err_holds = subst (λ (o : Option (List ℕ)). IfSome o (λ bytes. Some err_bytes ≡ Some bytes)) had.err_holds shown';
+    }
