@@ -24,7 +24,12 @@ struct Written {
 
 /// Runs a command over bytes, with vectors as its outputs, the first of them with a buffer. If the report was written
 /// whole, the vectors hold it: that is the one report on the bytes.
-fn written<F: Shelf>(alloc: Global, words: &Words, bytes: &[u8], shelf: &mut F) -> Option<Written>
+fn over_bytes<F: Shelf>(
+    alloc: Global,
+    words: &Words,
+    bytes: &[u8],
+    shelf: &mut F,
+) -> Option<Written>
     ensures { IfSome result (λ wrote.
         (command : ProgramCommand) (read : Shown) → program_command words.now ≡ Some command
         → Shows command (record { input = new_source (Some bytes.now); shelf = F.shelf shelf.old }) read
@@ -49,7 +54,7 @@ fn written<F: Shelf>(alloc: Global, words: &Words, bytes: &[u8], shelf: &mut F) 
 fn assembles(alloc: Global, source: &[u8], image: &[u8]) -> Result<bool, AllocError> {
     let words = words_of(alloc, &[b"gasm"])?;
     let mut shelf = MemShelf::new(Vec::new(alloc), Vec::new(alloc));
-    Ok(match written(alloc, &words, source, &mut shelf) {
+    Ok(match over_bytes(alloc, &words, source, &mut shelf) {
         Some(wrote) => {
             wrote.status == Status::Done && wrote.out.as_slice() == image && wrote.err.is_empty()
         }

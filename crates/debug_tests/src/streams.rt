@@ -24,7 +24,12 @@ struct Written {
 
 /// Runs a command over bytes, with vectors as its outputs, the first of them with a buffer. If the report was written
 /// whole, the vectors hold it: that is the one report on the bytes.
-fn written<F: Shelf>(alloc: Global, words: &Words, bytes: &[u8], shelf: &mut F) -> Option<Written>
+fn over_bytes<F: Shelf>(
+    alloc: Global,
+    words: &Words,
+    bytes: &[u8],
+    shelf: &mut F,
+) -> Option<Written>
     ensures { IfSome result (λ wrote.
         (command : DebugCommand) (read : Shown) → debug_command words.now ≡ Some command
         → Shows command (record { input = new_source (Some bytes.now); shelf = F.shelf shelf.old }) read
@@ -53,7 +58,7 @@ fn lists(alloc: Global, source: &[u8], lines: &[u8]) -> Result<bool, AllocError>
     let mut words = Words::new(alloc);
     words.push(b"glist")?;
     let mut shelf = MemShelf::new(Vec::new(alloc), Vec::new(alloc));
-    Ok(match written(alloc, &words, source, &mut shelf) {
+    Ok(match over_bytes(alloc, &words, source, &mut shelf) {
         Some(wrote) => {
             wrote.status == Status::Done && wrote.out.as_slice() == lines && wrote.err.is_empty()
         }

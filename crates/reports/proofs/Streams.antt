@@ -1,7 +1,6 @@
 -- Runs over streams, by runs over the adapters, and what the streams hold after them.
-use Rattle.std.proofs.Common.{◌≡◌, ℕ, List, [], ◌++◌, Option, Some, None, Bool, true, false, refl, sym, ap, ◌∙◌, subst, append-nil}
+use Rattle.std.proofs.Common.{◌≡◌, ℕ, List, [], ◌++◌, Option, Some, Bool, true, false, sym, ap, ◌∙◌, subst, append-nil}
 use Rattle.std.specs.Prelude.{if◌then◌else◌, IfSome}
-use Rattle.std.specs.Io.KnownBytes.{append_known}
 use Rattle.bench_io.specs.Stream.{SourceState, SinkState}
 use Rattle.bench_io.specs.Shown.{Shows, Unbuffered}
 use Rattle.report_defs.specs.declared.status.Status.{Status}

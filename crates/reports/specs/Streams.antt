@@ -88,6 +88,10 @@ pub record StreamsHoldTheReport (Reports : Report → Type 0) (out_before err_be
   pub out_holds : out.held ≡ Some (out_before ++ output_of report)
   pub err_holds : err.held ≡ Some (err_before ++ error_output_of report)
 
+-- streams that show their bytes
+abbrev pub showing : (left out err : List ℕ) → Streams
+showing left out err = record { left = Some left; out = Some out; err = Some err }
+
 -- the runs of a command of a program over streams, by what the command reads before and after it
 abbrev pub run_ending : {C W X : Type 0} → Program C W X → C → (SourceState → W) → (SourceState → W) → Ending
 run_ending p command enter leave before after outputs end =
@@ -99,10 +103,10 @@ pub record StreamsGetTheReport {C W X : Type 0} (p : Program C W X) : Type 0 whe
   pub over : (command : C) (enter leave : SourceState → W) (read : X) (bytes out_before err_before : List ℕ)
       (source : SourceState) (out err : SinkState) (status : Status)
       → p.Shows command (enter (new_source (Some bytes))) read → IsWhole status
-      → EndsOver (run_ending p command enter leave) (record { left = Some bytes; out = Some out_before; err = Some err_before }) source out err status
+      → EndsOver (run_ending p command enter leave) (showing bytes out_before err_before) source out err status
       → StreamsHoldTheReport (p.ReportOn command read) out_before err_before out err status
   pub through : (command : C) (enter leave : SourceState → W) (read : X) (bytes out_before err_before : List ℕ)
       (source : SourceState) (out err : SinkState) (status : Status)
       → p.Shows command (enter (new_source (Some bytes))) read → IsWhole status
-      → EndsThrough (run_ending p command enter leave) (record { left = Some bytes; out = Some out_before; err = Some err_before }) source out err status
+      → EndsThrough (run_ending p command enter leave) (showing bytes out_before err_before) source out err status
       → StreamsHoldTheReport (p.ReportOn command read) out_before err_before out err status

@@ -1,0 +1,33 @@
+use Rattle.std.proofs.Common.{◌≡◌, ◌⊎◌, ℕ, List, ◌++◌, Some, refl, sym, subst, inl, inr}
+use Rattle.std.specs.Io.Buffered.{writer_buffer}
+use Rattle.bench_io.specs.Stream.{SourceState}
+use Rattle.report_defs.specs.ProgramCommands.{program_command}
+use Rattle.report_defs.specs.declared.status.Status.{Status}
+use Rattle.report_defs.specs.declared.status.Status.TheVariants.{Done, Refused, Stopped}
+use Rattle.reports.specs.Streams.{EndsThrough, IsWhole}
+use Rattle.reports.proofs.Streams.{said_ending, vectors_hold_the_report}
+use Rattle.workbench.specs.FileProgram.{Reading, file_program}
+use Rattle.bench_tests.proofs.streams.over_bytes.Goals as goal
+
+is_whole : (end : Status) → (end ≡ Done) ⊎ ((end ≡ Refused) ⊎ (end ≡ Stopped)) → IsWhole end
+is_whole end (inl is) = subst IsWhole (sym is) tt
+is_whole end (inr (inl is)) = subst IsWhole (sym is) tt
+is_whole end (inr (inr is)) = subst IsWhole (sym is) tt
+
+pub returns-in-Done : goal.returns-in-Done
+returns-in-Done g c =
+    let enter : SourceState → Reading = λ s. record { input = s; shelf = g.F.Shelf.shelf c.args.shelf.now } in
+    let leave : SourceState → Reading = λ s. record { input = s; shelf = g.F.Shelf.shelf c.bench_through-status.new.shelf }
+    in
+    let Ends : List ℕ → Type 0 = λ bytes. EndsThrough
+    (said_ending file_program (program_command c.args.words.now) enter leave)
+    (record {
+      left = Some c.args.bytes.now;
+      out = Some (c.in-Ok.output.inner.items ++ writer_buffer c.in-Ok.output);
+      err = Some bytes;
+    }) c.bench_through-status.result.1 c.bench_through-status.result.2 c.bench_through-status.result.3
+    c.bench_through-status.result.0 in
+    vectors_hold_the_report file_program c.bench_through-status.ensures.laws.runs.streams enter leave _ _ _ _ _ _ _ _ _
+    (rw (c.in-Ok.ensures.inner, c.in-Ok.ensures.empty, c.new.ensures.items) refl) (is_whole _ c.in-Done.is)
+    (subst Ends c.new-3.ensures.items c.bench_through-status.ensures.ends) c.into_inner.ensures
+    c.into_inner-in-Done.ensures
