@@ -8,8 +8,14 @@ import label_checks
 import label_images
 from calling import TOP, Calling
 from label_images import Case
+from labelling.addresses import Addresses
 from labelling.calls import Rejected
+from labelling.image import Image
+from labelling.label import Labelling as Labelling_
 from labelling.label import Wishes, comes_back, labelled
+from labelling.language import GPL
+from labelling.places import misplaced
+from labelling.source import Source
 from lib import command, program
 
 HELLO = b"""\
@@ -231,11 +237,17 @@ class Doubts(Labelling):
         _, said = self.label('gdis', '6000', given=data)
         self.assertEqual(said[0], '>6001: might be code')
 
+    def test_code_is_looked_for_from_a_label_on_that_is_inside_of_a_listed_line(self):
+        data = self.image(b' MOVE 1,V@0,G@T\n EXIT\n BYTE >90\nT BYTE 0\n' + b' INC @>8301\n' * 4 + b' RTN\n')
+        _, said = self.label('gdis', '6000', given=data)
+        self.assertEqual(said[:-1], ['>600A: might be code'])
+
     def test_a_subroutine_that_may_take_more_or_less_is_listed(self):
         data = self.image(b'L CALL S\n BYTE 1\n EXIT\nS FETCH @>8300\n CZ @>8300\n BR S\n RTN\n')
         lines, said = self.label('gdis', '6000', given=data)
-        self.assertEqual(said[0], '>6000: it is not known how many bytes >6005 takes after this call')
-        self.assertIn('       BYTE >01,>0B                     * >6003', lines)
+        self.assertEqual(said[0], '>6000: it is not known how many bytes >6005 takes after this call: it comes to '
+                         '>6005 after more bytes and after fewer; --takes 6005=N would say it')
+        self.assertIn('       BYTE >01,>0B                     * >6003 after a call?', lines)
 
     def test_what_was_executed_in_a_longer_spelling_is_listed(self):
         self.file('trace', b'     1 >6000 S00 D9F R7E INC @>8300 C1 >8300=01\n')
@@ -408,6 +420,17 @@ class Lies(Labelling):
                         continue        # what no report has is not read
         self.assertEqual({it for it in came if not it.startswith(('line 4: overlap', NONE))}, {''})
         self.assertGreater(came.count(''), 30)
+
+    def test_a_row_that_is_not_where_its_comment_says_is_named(self):
+        labelling = Labelling_(self.program, GPL, Image([(0x6000, self.image(HELLO))]), Wishes())
+        descent, _ = labelling._descent()
+        addresses = Addresses(labelling.image, GPL, descent, labelling.headers, labelling.named, labelling.wishes)
+        source = Source(addresses, labelling.named, [], None)
+        rows = [row for row in source.rows if not row.is_directive]
+        self.assertIsNone(misplaced(self.program, source))
+        for i in (0, 3, len(rows) - 1):
+            lie = lambda run: run._replace(out=run.out[:2 * i] + b'\xFF' + run.out[2 * i + 1:])
+            self.assertIs(misplaced(Lying(self.program.path, 1, lie), source), rows[i])
 
     def test_a_program_that_is_always_wrong_is_found_out(self):
         script = self.file('wrong', f'#!/bin/sh\n"{self.program.path}" "$@" | tr "\\014" "\\015"\n'.encode())

@@ -5,8 +5,11 @@ import re
 import unittest
 
 import label_programs
+import label_takers
 from calling import TOP
+from labelling import traced
 from labelling.label import Wishes, labelled
+from labelling.takes import takes
 from lib import program
 
 ADDED = {'gdis': b'       ST   @>83C0,>55', 'dis': b'       NOP', 'link': b'       NOP'}
@@ -138,6 +141,54 @@ class Edits(unittest.TestCase):
 
     def test_modules_that_are_joined(self):
         self.edited('link', None, (TOP / 'examples/joined_objects/input').read_bytes(), Wishes(), 8)
+
+
+class Takers(Edits):
+    """Subroutines that take bytes in other ways. What an edit would destroy is warned of; if an option or a run says
+    what they take, nothing is destroyed and there is no warning."""
+
+    def setUp(self):
+        super().setUp()
+        self.sources = set()
+
+    def wishes(self, source, said):
+        run = traced.steps(self.program.run('trace', '500', given=source).out.decode('ascii'))
+        listed = self.program.run('gasm', given=source).out
+        covered = Wishes(covered=traced.executed(run), returns=traced.returns(run))
+        places = {name: self.place(source, name) for name in said}
+        named = Wishes(takes=dict(takes(f'{places[name]:04X}={word}') for name, word in said.items()))
+        return listed, covered, named
+
+    def place(self, source, name):
+        """Where a label is."""
+        made = self.program.run('gasm', given=source.replace(b'       END', f'       DATA {name}\n       END'.encode()))
+        return int.from_bytes(made.out[-2:], 'big')
+
+    def edited_surely(self, image, wishes, least):
+        """The same without a doubt of what a call takes. One source is tried once."""
+        made = labelled(self.program, 'gdis', 0x6000, image, wishes)
+        self.assertEqual([line for line in made.doubts if 'how many bytes' in line], [])
+        if made.text not in self.sources:
+            self.sources.add(made.text)
+            self.edited('gdis', 0x6000, image, wishes, least)
+
+    def test_each_way(self):
+        for name, taker in label_takers.TAKERS.items():
+            with self.subTest(name):
+                image, covered, named = self.wishes(label_takers.source(taker), taker.takes)
+                made = labelled(self.program, 'gdis', 0x6000, image, Wishes())
+                self.assertEqual(any('how many bytes' in line for line in made.doubts), not taker.is_sure, made.doubts)
+                if taker.is_sure:
+                    self.edited_surely(image, Wishes(), 8)
+                if 'drops' not in name:
+                    self.edited_surely(image, covered, 8)
+                if taker.takes:
+                    self.edited_surely(image, named, 8)
+
+    def test_a_subroutine_that_never_comes_back(self):
+        image = self.image(label_takers.NEVER_BACK)
+        made = self.edited('gdis', 0x6000, image, Wishes(), 5)
+        self.assertEqual((made.doubts, b"TEXT 'GAME OVER'" in made.text), ([], True))
 
 
 if __name__ == '__main__':

@@ -62,7 +62,9 @@ class Addresses:
         vectors = {it.address + more for line in self.descent.code.values()
                    for it in line.leads if it.kind == 'vector' for more in (0, 2)}
         wished = {at for low, high in self.wishes.pointers for at in range(low, high - 1, 2)}
-        places = self.headers.words.keys() | wished | vectors if self.wishes.moved is None else self.wishes.moved
+        others = {at for it in self.descent.others.values() for at in it.words}
+        places = self.headers.words.keys() | wished | vectors | others
+        places = places if self.wishes.moved is None else self.wishes.moved
         found = set()
         for at in sorted(places):
             is_free = self.image.holds(at, 2) and self.owner[at] < 0 and self.owner[at + 1] < 0

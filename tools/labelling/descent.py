@@ -3,23 +3,29 @@ import array
 
 from lib.command import UNREADABLE, Stopped
 
+from . import other
 from .image import MEMORY
-from .taken import UNSURE, Taken
+from .taken import Number, Taken
+from .taken_gpl import Stacks
 
 
 class Descent:
-    """The instructions that are reached: `code` has their lines by address, `owner` for each byte the address of the
-    instruction that it belongs to, or -1, `taken` how many bytes after a call its subroutine takes, by their address,
-    and `unsure` the calls for which that is not certain."""
+    """The instructions that are reached: `code` has their lines by address, `others` the operations that are left out,
+    `owner` for each byte the address of the instruction that it belongs to, or -1. `taken` says how many bytes after a
+    call its subroutine takes, by their address, and `unsure` why that is not certain, by the address of the call.
+    `odd` has the addresses at which a path ends in bytes, and what they are."""
 
-    def __init__(self, listing, image, language, closed, moved):
-        """`closed` has the addresses that are data, `moved` the words of an object that move, which begin nothing."""
+    def __init__(self, listing, image, language, closed, said, stacks=Stacks()):
+        """`closed` has the addresses that are data. `said` has what is known beside: `moved`, the words of an object
+        that move, which begin nothing; and what calls take. `stacks` are those of another descent."""
         self.listing, self.image, self.language = listing, image, language
-        self.closed, self.moved = closed, moved
-        self.code, self.taken, self.unsure, self.walked = {}, {}, {}, set()
+        self.closed, self.moved = closed, said.moved or ()
+        self.code, self.others, self.taken, self.unsure, self.odd = {}, {}, {}, {}, {}
+        self.walked = set()
         self.owner = array.array('l', [-1]) * (MEMORY + 16)
         self.step = len(language.filler)
-        self.subroutines = Taken(language, image, listing.known)
+        listing.learn({at for at in said.returns if at not in listing.known and self._is_place(at)})
+        self.subroutines = Taken(language, image, listing, said, stacks)
 
     def executed(self, addresses):
         """Takes instructions that a run came to; returns those that are not listed as instructions."""
@@ -30,6 +36,13 @@ class Descent:
                 self._claim(at, self.listing.known[at])
         return [at for at in places if self.owner[at] < 0]
 
+    def stacks(self):
+        """Where the stacks of a GPL program are, by all its instructions."""
+        found = self.subroutines.stacks
+        for line in self.code.values():
+            found = found.after(line) if self.language.lister == 'gdis' else found
+        return found
+
     def sweep(self, low, high):
         """Takes the instructions that stand one after the other in a range, and what they lead to."""
         at, targets = low + low % self.step, []
@@ -39,7 +52,8 @@ class Descent:
         while at < high:
             if self.owner[at] < 0 and self._is_place(at):
                 targets += self._path(at)
-            at = at + self.code[at].length if at in self.code else at + self.step
+            line = self.code.get(at) or self.others.get(at)
+            at += line.length if line else self.step
         self.follow(targets)
 
     def _path(self, at):
@@ -76,34 +90,52 @@ class Descent:
         """Takes instructions from an address on up to one that the program does not pass; returns their targets."""
         targets = []
         while self._is_place(at) and at not in self.walked:
-            line = self.listing.known.get(at)
+            line = self.listing.line(at)
             if line is None:
                 missing.add(at)
                 break
-            if at not in self.code and not self._is_free(at, line):
+            if at not in self.code and at not in self.others and not self._is_free(at, line):
+                self._note_end(at, line)
                 break
             self._claim(at, line)
-            number = self._number(line)
+            number = self._number(at, line)
             if number is None:
                 missing.add(at)
                 break
             self.walked.add(at)
             targets += [self._entered(it) for it in line.leads]
-            if number == UNSURE:
-                self.unsure[at] = line.leads[0].address
-            if line.operation in self.language.ends or number == UNSURE:
+            if number.unsure:
+                self.unsure[at] = number.unsure
+            if line.operation in self.language.ends or number.unsure or not number.is_back:
                 break
             at += line.length
-            if number and self.image.holds(at, number):
-                self.taken[at] = number
-            at += number
+            self._take(at, number.size)
+            at += number.size
         return [it for it in targets if it is not None and self._is_place(it) and it not in self.walked]
 
-    def _number(self, line):
+    def _number(self, at, line):
         """How many bytes are taken after a line."""
-        if not line.leads or line.leads[0].kind == 'branch' or not self.image.holds(line.leads[0].address):
-            return 0
-        return self.subroutines.number(line.leads[0].address, line.leads[0].kind)
+        if not line.leads or line.leads[0].kind == 'branch':
+            return Number(0)
+        return self.subroutines.of_call(at, line)
+
+    def _take(self, at, count):
+        """Keeps the bytes after a call as data."""
+        if count and self.image.holds(at, count):
+            self.taken[at] = count
+            if max(self.owner[at:at + count]) >= 0:
+                self.odd[at] = 'code, and taken after a call'
+            self.closed.update(range(at, at + count))
+
+    def _note_end(self, at, line):
+        """Notes that a path ends where no instruction can be taken."""
+        name = self.listing.other_name(at)
+        if any(at in range(low, low + count) for low, count in self.taken.items()):
+            self.odd[at] = 'code leads here, but it is taken after a call'
+        elif not line.is_code and self.owner[at] < 0 and at not in self.closed and at not in self.moved:
+            self.odd[at] = 'code leads here, but ' + (
+                f'{name} is left out, and it is not certain what follows; --entry ADDR says where it goes on'
+                if name else 'it is no instruction; --data FROM-TO says so, or --takes what the call before it takes')
 
     def _is_place(self, at):
         """Whether an instruction may begin at an address of the image: in machine code, at an even one."""
@@ -122,6 +154,9 @@ class Descent:
         return is_open and max(self.owner[at:end]) < 0
 
     def _claim(self, at, line):
-        if at not in self.code:
+        if isinstance(line, other.Other):
+            self.others[at] = line
+            self.closed.update(range(at, at + line.length))
+        elif at not in self.code:
             self.code[at] = line
             self.owner[at:at + line.length] = array.array('l', [at]) * line.length

@@ -13,6 +13,7 @@ from .linked import Linked
 from .listing import Listing
 from .names import Named
 from .source import Source
+from .taken_gpl import Stacks
 
 HEAD = '* {} bytes from >{:04X} on, labelled by ti_bench-label. The comment of a line has the address of its bytes.'
 FLAT = 'no labels: the listing as it is; the same bytes'
@@ -28,6 +29,8 @@ class Wishes:
     tables: list = dataclasses.field(default_factory=list)        # ranges in which words are addresses of code
     covered: list = dataclasses.field(default_factory=list)       # addresses that a run executed
     names: list = dataclasses.field(default_factory=list)         # texts of names, each with the name of its file
+    takes: dict = dataclasses.field(default_factory=dict)         # what subroutines take, by their addresses
+    returns: dict = dataclasses.field(default_factory=dict)       # where calls came back, in sets by their addresses
     moved: set = None                                             # the words of an object that move, if that is known
 
 
@@ -117,15 +120,21 @@ class Labelling:
         if text is None:
             return None
         outside = doubts.outside(self.image, self.wishes)
-        return Labelled(text, [*outside, *doubts.found(addresses, self.listing.known, source.rows, odd)],
+        return Labelled(text, [*outside, *doubts.found(addresses, self.listing, source.rows, odd)],
                         self._summary(addresses, source, lowered))
 
     def _descent(self):
-        """What is code, and what was executed and is not listed as an instruction."""
+        """What is code, and what was executed and is not listed as an instruction. What moves the stacks of a program
+        is known only in the end, so there may be a second descent."""
+        descent, odd = self._descended(Stacks())
+        return self._descended(descent.stacks()) if descent.stacks() != Stacks() else (descent, odd)
+
+    def _descended(self, stacks):
+        """The same in a program whose stacks are known."""
         wishes = self.wishes
         closed = {at for low, high in wishes.data + wishes.tables for at in range(low, high)}
         closed |= {it for at in self.headers.words for it in (at, at + 1)}
-        descent = Descent(self.listing, self.image, self.language, closed, wishes.moved or ())
+        descent = Descent(self.listing, self.image, self.language, closed, wishes, stacks)
         odd = descent.executed(wishes.covered)
         for low, high in wishes.code:
             descent.sweep(low, high)
@@ -138,6 +147,10 @@ class Labelling:
         code = sum(line.length for line in addresses.descent.code.values())
         parts = [f'{self.image.size} bytes, {code} of them code', f'{len(addresses.labels.made)} labels',
                  f'{sum(len(row.uses) for row in source.rows)} addresses by labels']
+        others = [*addresses.descent.others.values()]
+        names = ', '.join(sorted({it.operation for it in others}))
+        length = sum(it.length for it in others)
+        parts += [f'{length} bytes of operations that are left out ({names})'] if others else []
         parts += [f'no entry, taken from >{self.guessed[0]:04X} on'] if self.guessed else []
         parts += [f'{lowered} times a line was left as it is listed or as bytes'] if lowered else []
         parts += ['addresses left out for size'] if source.comments else []

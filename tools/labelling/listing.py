@@ -6,6 +6,7 @@ from lib.command import UNREADABLE, Stopped
 
 from .calls import report
 from .measure import Measure
+from .other import name, other
 
 WINDOW = 64          # bytes that are listed from an address on
 APART = 0x1000       # a distance of two addresses at which a call of its own costs less than the bytes between them
@@ -40,9 +41,22 @@ class Listing:
     def __init__(self, program, language, image):
         self.program, self.language, self.image = program, language, image
         self.measure = Measure(program, language)
-        self.known = {}
+        self.known, self.others = {}, {}
         for start, end in image.segments:
             self._learn(start, end, [(start, end)])
+
+    def line(self, at):
+        """The line at an address, or an operation that is left out in the place of its bytes; None if none is known."""
+        line = self.known.get(at)
+        if line is None or line.is_code or self.language.lister != 'gdis':
+            return line
+        if at not in self.others:
+            self.others[at] = other(self.image, at) or line
+        return self.others[at]
+
+    def other_name(self, at):
+        """The name of the operation that is left out and begins at an address, or nothing."""
+        return name(self.image, at) if self.language.lister == 'gdis' else ''
 
     def learn(self, addresses):
         """Makes the lines at these addresses known, and some after them."""

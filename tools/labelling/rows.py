@@ -55,7 +55,8 @@ class Rows:
         self.image, self.descent, self.headers = addresses.image, addresses.descent, addresses.headers
         self.cells, self.is_relocatable = named.cells, is_relocatable
         self.language, self.is_gpl = addresses.language, addresses.language.lister == 'gdis'
-        self.rows, self.case = [], None
+        self.notes = {at: text for it in self.descent.others.values() for at, text in it.notes.items()}
+        self.rows, self.case, self.is_unsure = [], None, False
         self.texts, cuts = self._texts(), self._cuts()
         place = None
         for start, end in self.image.segments:
@@ -83,15 +84,20 @@ class Rows:
         places = [*self.addresses.words, *(at + 2 for at in self.addresses.words), *self.labels.made]
         places += [it for name in self.headers.names for it in name]
         places += [it for at, count in self.descent.taken.items() for it in (at, at + count)]
+        places += [*self.notes, *(at + it.length for at, it in self.descent.others.items())]
         places += range(0, MEMORY, GROM) if self.is_gpl else []
         for at in places:
             cuts[at] = 1
         return cuts
 
     def _texts(self):
-        """A 1 at each address of a byte of a text: names of a header, and texts in what is no code and no address."""
+        """A 1 at each address of a byte of a text: names of a header, and texts in what is no code and no address. Of
+        the operations that are left out only FMT has texts."""
         data, marks = bytearray(self.image.memory), bytearray(MEMORY)
         owner = self.addresses.owner
+        for at, it in self.descent.others.items():
+            for place in it.notes if it.operation == 'FMT' else range(at, at + it.length):
+                data[place] = 0
         data[:] = bytes([byte if owner[at] < 0 else 0 for at, byte in enumerate(data)])
         for start, end in texts(data) + self.headers.names:
             marks[start:end] = b'\1' * (end - start)
@@ -135,6 +141,7 @@ class Rows:
         fill = self._fill(at, cut)
         if fill:
             self._bytes(at, fill, label)
+            self.is_unsure = False
             (self._leave_out if self.image.memory[fill] == 0 else self._keep)(fill, cut)
         else:
             self._bytes(at, cut, label)
@@ -176,7 +183,10 @@ class Rows:
         return ''.join(f' {word}?' for word in text[5:].split(',') if self.image.holds(int(word[1:], 16)))
 
     def _data(self, at, label, part, text, note='', uses=()):
+        self.is_unsure &= not label and at not in self.notes
+        note = f' after a call?{note}' if self.is_unsure else note
         note = f' after a call{note}' if at in self.descent.taken else note
+        note = f' {self.notes[at]}{note}' if at in self.notes else note
         note = f' {self.headers.words[at]}' if at in self.headers.words else note
         self.rows.append(Row(at, len(part), label, [text], note, uses))
 
@@ -192,7 +202,8 @@ class Rows:
         if self.cells:
             changes += self._cells(line.text, {it.start for it, _ in changes})
         forms = [replaced(line.text, changes), line.text] if changes else [line.text]
-        note += ' takes bytes?' if at in self.descent.unsure else ''
+        self.is_unsure = at in self.descent.unsure
+        note += ' takes bytes?' if self.is_unsure else ''
         is_near = line.operation in self.language.near and line.leads
         if is_near and abs(line.leads[0].address - at - 2) > self.language.reach:
             # No source has a jump around an end of memory.

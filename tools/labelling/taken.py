@@ -1,81 +1,182 @@
-"""How many bytes a subroutine takes that stand after its call: in GPL those that it takes by FETCH, in machine code
-those over which it moves its return address.
+"""How many bytes after a call its subroutine takes, so that it does not come back to the place right after the call.
 
 All ways through a subroutine are followed up to its returns, each with what was taken on it. The number is certain if
-no two ways come to one line with different numbers, and all returns have one number. Nested calls take their own bytes.
+each line on the ways says what it does to the return address, no two ways come to one line with different numbers, and
+all returns have one number. Nested calls take their own bytes. What a run has shown of a call, or what a person says of
+a subroutine, comes before that.
 """
-import re
+import typing
 
-FAR = 300            # lines of a subroutine that are followed
-UNSURE = -1
-BYTES = frozenset(['AB', 'CB', 'MOVB', 'SB', 'SOCB', 'SZCB'])
-COMPARES = frozenset(['C', 'CB', 'CI', 'COC', 'CZC'])
-LAST_WRITTEN = frozenset('A AB MOV MOVB S SB SOC SOCB SZC SZCB XOR'.split())
-PRODUCTS = frozenset(['MPY', 'DIV'])
+from . import taken_gpl, taken_machine
+
+FAR = 1000           # lines of a subroutine that are followed
+
+
+class Unsure(typing.NamedTuple):
+    """Why a number is not certain, and the subroutine of which something has to be said."""
+    target: int
+    cause: str
+
+
+class Number(typing.NamedTuple):
+    """How many bytes are taken: None if that is not known, and then why. A call may also never come back."""
+    size: typing.Optional[int] = None
+    unsure: typing.Optional[Unsure] = None
+    is_back: bool = True
+
+
+NEVER = Number(0, is_back=False)
 
 
 class Taken:
     """The numbers of subroutines by their targets and how they are called: by 'call' or by 'vector'."""
 
-    def __init__(self, language, image, known):
-        """`known` has the lines by their addresses."""
-        self.image, self.known, self.step = image, known, len(language.filler)
-        self.follow = follow_gpl if language.lister == 'gdis' else follow_machine
+    def __init__(self, language, image, listing, said, stacks):
+        """`said` has what is known beside: `takes`, `returns` and `data`; `stacks` where those of GPL are."""
+        self.image, self.listing, self.step = image, listing, len(language.filler)
+        self.follow = taken_gpl.follow if language.lister == 'gdis' else taken_machine.follow
+        self.said, self.stacks = said, stacks
         self.numbers, self.assumed, self.missing = {}, {}, set()
+        self.written = {}         # the registers that a subroutine writes
+        self.outside = {}         # targets outside of the image, each with the first place that calls it
+        self.called = set()
+        self.denied = {}          # calls that came back to other places than what is said leads to
+        self.shown = self._shown()
+        self.ends_of_data = dict(said.data)
+
+    def _shown(self):
+        """How many bytes calls took in a run, in sets by their targets."""
+        shown: dict = {}
+        for at, places in self.said.returns.items():
+            line = self.listing.line(at)
+            if line and line.operation == 'CALL' and line.leads:
+                shown.setdefault(line.leads[0].address, set()).update(it - at - line.length for it in places)
+        return shown
+
+    def of_call(self, at, line, is_nested=False):
+        """The number of a call at a place; None if lines have to be known first, and `missing` has their addresses; or,
+        of a nested call, its target and kind if that is to be asked first."""
+        target, kind = line.leads[0].address, line.leads[0].kind
+        self.called.add(target)
+        after = at + line.length
+        places = self.said.returns.get(at)
+        said = self._said(target, after)
+        if places:
+            number = self._came_back(target, after, places)
+            if said and said != number:
+                self.denied[at] = target
+            return number
+        if said:
+            return said
+        if not self.image.holds(target):
+            self.outside.setdefault(target, at)
+            return Number(0)
+        number = self._nested(target, kind) if is_nested else self.number(target, kind)
+        if isinstance(number, Number) and number.unsure and after in self.ends_of_data:
+            return Number(self.ends_of_data[after] - after)
+        return number
+
+    def _said(self, target, after):
+        """The number that a person says, or None."""
+        if target not in self.said.takes:
+            return None
+        data = self.image.bytes(after, self.image.end(after)) if self.image.holds(after) else b''
+        count = self.said.takes[target].number(data)
+        return Number(count) if count is not None else Number(unsure=Unsure(
+            target, f'what --takes {target:04X} says leads past the end of the image'))
+
+    def _came_back(self, target, after, places):
+        """The number of a call of which a run showed where it came back."""
+        counts = {it - after for it in places}
+        count = min(counts)
+        if len(counts) > 1 or count < 0 or count and not self.image.holds(after, count):
+            places = ' and to '.join(f'>{it:04X}' for it in sorted(places))
+            return Number(unsure=Unsure(target, f'the call came back to {places}'))
+        return Number(count)
+
+    def _nested(self, target, kind):
+        if (target, kind) in self.assumed:
+            return self.assumed[target, kind]
+        return self.numbers.get((target, kind), (target, kind))
 
     def number(self, target, kind):
-        """The bytes that a call takes, UNSURE, or None if lines have to be known first; `missing` has their
-        addresses."""
+        """The number of a subroutine, or None if lines have to be known first."""
         stack, made = [(target, kind)], []
         while (target, kind) not in self.numbers:
             walk = Walk(self, *stack[-1])
             number = walk.number()
             if walk.needed in stack:
-                self.assumed[walk.needed] = 0        # it calls itself, and the inner call is taken to have no bytes
+                self.assumed[walk.needed] = Number(0)   # it calls itself, and the inner call is taken to have no bytes
             elif walk.needed:
                 stack.append(walk.needed)
             elif number is None:
                 return None
             else:
                 made.append(stack.pop())
-                self.numbers[made[-1]] = number
-                if self.assumed.pop(made[-1], number) != number:
-                    self.numbers.update(dict.fromkeys(made, UNSURE))
+                self._settle(made, number)
+                self.written[made[-1]] = walk.written
         return self.numbers[target, kind]
+
+    def _settle(self, made, number):
+        """Takes the number of the last subroutine of a list. If it was assumed to be another one, no number of the list
+        is certain."""
+        target = made[-1][0]
+        counts = sorted(self.shown.get(target, ()))
+        if len(counts) > 1 or counts and number.unsure is None and (counts != [number.size] or not number.is_back):
+            texts = ' and after '.join(str(it) for it in counts)
+            number = Number(unsure=Unsure(target, f'calls of it came back after {texts} bytes'))
+        self.numbers[made[-1]] = number
+        if self.assumed.pop(made[-1], number) != number:
+            unsure = number.unsure or Unsure(target, f'>{target:04X} calls itself')
+            self.numbers.update(dict.fromkeys(made, Number(unsure=unsure)))
 
 
 class Walk:
-    """The ways through one subroutine. The state of a way has the number that was taken on it, for each register that
+    """The ways through one subroutine. The state of a way has the number that was taken on it, for each place that
     holds the return address; in GPL there is one. `returns` has the numbers at returns, and `left` the ones at which a
-    way leaves what is known."""
+    way leaves the image."""
 
     def __init__(self, taken, target, kind):
         self.taken, self.target, self.kind = taken, target, kind
-        self.states, self.returns, self.left = {}, set(), set()
-        self.needed = None
-        self.is_sure = True
+        self.states, self.returns, self.left, self.written = {}, set(), set(), set()
+        self.needed = self.unsure = None
 
     def number(self):
-        """What the subroutine takes, UNSURE, or None."""
-        first = self.target
+        """What the subroutine takes, or None."""
+        first, image = self.target, self.taken.image
         if self.kind == 'vector':
-            first = self.taken.image.word(first + 2) if self.taken.image.holds(first, 4) else None
+            first = image.word(first + 2) if image.holds(first, 4) else None
         open_ = [(first, {{'call': 11, 'vector': 14}[self.kind]: 0})]
         is_missing = False
-        while open_ and self.needed is None and self.is_sure:
+        while open_ and self.needed is None and self.unsure is None:
             at, state = open_.pop()
-            if at is None or at % self.taken.step or not self.taken.image.holds(at) or len(self.states) == FAR:
-                self.left.update(state.values())
+            if at is None or at % self.taken.step or not image.holds(at):
+                self._leave(at, state)
                 continue
-            line = self.taken.known.get(at)
+            line = self.taken.listing.line(at)
             if line is None:
                 self.taken.missing.add(at)
                 is_missing = True
             elif not line.is_code:
-                self.left.update(state.values())
+                name = self.taken.listing.other_name(at)
+                self.doubt(f'it comes to {name} at >{at:04X}, which is left out' if name else
+                           f'it comes to >{at:04X}, which is no instruction')
+            elif len(self.states) == FAR and at not in self.states:
+                self.doubt('it has more lines than are followed')
             elif self._is_new(at, state):
                 open_ += self.taken.follow(self, at, line, dict(state))
-        return None if is_missing or self.needed else self._settled()
+        return None if self.needed or is_missing and self.unsure is None else self._settled()
+
+    def _leave(self, at, state):
+        """A way leaves the image, or what is known."""
+        self.left.update(state.values())
+        if at is not None and at not in self.taken.said.takes:
+            self.taken.outside.setdefault(at, self.target)
+
+    def doubt(self, cause, target=None):
+        """Gives the number up; returns no way on."""
+        self.unsure = self.unsure or Unsure(self.target if target is None else target, cause)
+        return []
 
     def _is_new(self, at, state):
         """Whether a line is met in a new state. A register that holds the address on some ways only counts no more."""
@@ -84,7 +185,8 @@ class Walk:
             self.states[at] = state
             return True
         both = before.keys() & state.keys()
-        self.is_sure &= all(before[it] == state[it] for it in both)
+        if any(before[it] != state[it] for it in both):
+            self.doubt(f'it comes to >{at:04X} after more bytes and after fewer')
         if len(both) < len(before):
             state.clear()
             state.update({it: before[it] for it in both})
@@ -94,84 +196,21 @@ class Walk:
 
     def _settled(self):
         found = self.returns or self.left
-        if not self.is_sure or len(found) > 1 or not self.returns and any(found):
-            return UNSURE
+        if self.unsure is None and len(found) > 1:
+            self.doubt('it comes back after more bytes and after fewer')
         number = next(iter(found), 0)
-        is_torn = self.taken.follow is follow_machine and number % 2
-        return UNSURE if is_torn or number < 0 else number
+        if self.unsure is None and (number < 0 or number % self.taken.step or not self.returns and number):
+            self.doubt('it moves its return address')
+        if self.unsure:
+            return Number(unsure=self.unsure)
+        return Number(number) if found else NEVER
 
-    def nested(self, target, kind):
+    def nested(self, at, line):
         """What an inner call takes; None if that is not known, and then `needed` may say which one is to be asked."""
-        if not self.taken.image.holds(target):
-            return 0
-        number = self.taken.numbers.get((target, kind), self.taken.assumed.get((target, kind)))
-        if number is None:
-            self.needed = target, kind
-        return None if number == UNSURE else number
-
-
-def follow_gpl(walk, at, line, state):
-    """The ways on from a line of GPL."""
-    after = at + line.length
-    operation = line.operation
-    if operation in ('RTN', 'RTNC'):
-        walk.returns.update(state.values())
-        return []
-    if operation == 'EXIT':
-        return []
-    if operation == 'CALL':
-        count = walk.nested(line.leads[0].address, 'call')
-        return [] if count is None else [(after + count, state)]
-    if operation == 'FETCH':
-        state = {register: count + 1 for register, count in state.items()}
-    ways = [(it.address, dict(state)) for it in line.leads]
-    return ways if operation == 'B' else [*ways, (after, state)]
-
-
-def follow_machine(walk, at, line, state):
-    """The ways on from a line of machine code."""
-    after, operation = at + line.length, line.operation
-    if operation == 'RTWP':
-        if walk.kind == 'vector' and 14 in state:
-            walk.returns.add(state[14])
-        return []
-    if operation == 'B' and not line.leads:
-        found = re.fullmatch(r'B \*R(\d+)', line.text)
-        if found and int(found[1]) in state and walk.kind == 'call':
-            walk.returns.add(state[int(found[1])])
-        return []
-    if operation in ('BL', 'BLWP'):
-        if operation == 'BL':
-            state.pop(11, None)
-        count = walk.nested(line.leads[0].address, line.leads[0].kind) if line.leads else None
-        return [] if count is None else [(after + count, state)]
-    if operation == 'LWPI':
-        walk.left.update(state.values())
-        return []
-    move(state, operation, line.text)
-    ways = [(it.address, dict(state)) for it in line.leads]
-    return ways if operation in ('JMP', 'B') else [*ways, (after, state)]
-
-
-def move(state, operation, text):
-    """Takes the effect of a line on the registers of a state."""
-    operands = text.partition(' ')[2].split(',')
-    for operand in operands:
-        found = re.fullmatch(r'\*R(\d+)\+', operand)
-        if found and operation in ('LDCR', 'STCR'):
-            state.pop(int(found[1]), None)
-        elif found and int(found[1]) in state:
-            state[int(found[1])] += 1 if operation in BYTES else 2
-    registers = [re.fullmatch(r'R(\d+)', operand) for operand in operands]
-    registers = [found and int(found[1]) for found in registers]
-    if operation in ('INC', 'INCT') and registers[0] in state:
-        state[registers[0]] += 1 if operation == 'INC' else 2
-    elif operation == 'AI' and registers[0] in state:
-        state[registers[0]] += (int(operands[1][1:], 16) + 0x8000) % 0x10000 - 0x8000
-    elif operation == 'MOV' and registers[0] in state and registers[1] is not None:
-        state[registers[1]] = state[registers[0]]
-    elif operation not in COMPARES:
-        written = registers[-1:] if operation in LAST_WRITTEN else registers
-        written += [it + 1 for it in written if it is not None] if operation in PRODUCTS else []
-        for register in written:
-            state.pop(register, None)
+        number = self.taken.of_call(at, line, is_nested=True)
+        if number is None or not isinstance(number, Number):
+            self.needed = number
+            return None
+        if number.unsure:
+            self.doubt(number.unsure.cause, number.unsure.target)
+        return number.size if number.unsure is None and number.is_back else None
