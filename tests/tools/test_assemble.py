@@ -4,7 +4,8 @@ import subprocess
 import unittest
 
 from calling import TOOLS, TOP, Calling
-from lib import notes
+from editing import names
+from lib import languages, notes, refusals
 
 ACCEPTED = b' ST @>8300,5\n EXIT\n'
 IMAGE = bytes.fromhex('BE 00 05 0B')
@@ -22,6 +23,41 @@ NOTES = [
     ('a', b'MOV R1,R2', 'unknown operation',
      'what begins in column 1 is a label, so the operation of this line is R1,R2'),
     ('gpl', b' scan', 'unknown operation', 'SCAN is an operation of GPL that is left out here'),
+    ('gpl', b' EXEC 5', 'unknown operation', 'EXEC is an operation of GPL that is left out here'),
+    ('a', b' SCAN', 'unknown operation', 'SCAN is an operation of GPL, and this is an assembler source'),
+    ('a', b'S dst @A,5', 'unknown operation', 'DST is an operation of GPL, and this is an assembler source'),
+    ('a', b' GROM >6000', 'unknown operation', 'GROM is a directive of a GPL source, and this is an assembler source'),
+    ('gpl', b' LI R1,5', 'unknown operation', 'LI is an operation of the TMS9900, and this is a GPL source'),
+    ('gpl', b' EVEN', 'unknown operation', 'EVEN is a directive of an assembler source, and this is a GPL source'),
+    ('gpl', b' REF A', 'unknown operation', 'REF is a directive of an assembler source, and this is a GPL source'),
+    ('gpl', b' ST VDP@>0021,5', 'bad operand', 'VDP@ is written V@ here'),
+    ('gpl', b' MOVE 5,V@0,grom@>6000', 'bad operand', 'GROM@ is written G@ here'),
+    ('gpl', b' ST $8300,5', 'bad operand', 'a hexadecimal number begins with >, as >8300'),
+    ('gpl', b' ST @$83a0,5', 'bad token', 'a hexadecimal number begins with >, as >83A0'),
+    ('a', b' LI R1,$1F', 'bad token', 'a hexadecimal number begins with >, as >1F'),
+    ('gpl', b' MOVE 5 FROM GROM@>6000 TO VDP@>0000', 'operand count',
+     'MOVE takes length, target and source, in this order, with commas between them, as in MOVE 5,V@0,G@>6000'),
+    ('gpl', b' ST @>8300,256', 'bad operand', 'ST takes a byte, which is at most 255, or >FF; DST takes a word'),
+    ('gpl', b'X EQU @>8300', 'bad token', 'EQU takes the value itself, without @'),
+    ('gpl', b' CALL @>6000', 'bad operand', 'CALL takes the value itself, without @'),
+    ('a', b' DATA 1,@5', 'bad token', 'DATA takes the value itself, without @'),
+    ('gpl', b' DATA 1,@5(R1)', 'bad token', 'DATA takes the value itself, without @'),
+    ('gpl', b" DATA 'ABC'", 'bad token', 'a text is placed by TEXT'),
+    ('gpl', b" DATA 'A_B',1,'LONGNAME','\"'", 'bad token', 'a text is placed by TEXT'),
+    ('a', b" DATA 1,'IT''S'", 'bad token', 'a text is placed by TEXT'),
+    ('gpl', b' ST @5(R1),1', 'bad token',
+     'an index is the address of a word, and begins with @, as in @>8300(@>8302)'),
+    ('gpl', b'S ST @N,1\n EXIT\nN EQU >8300\n END S', 'unknown name',
+     'N gets its value in line 3, and an address in an operand takes names of earlier lines alone'),
+    ('gpl', b'S ST V*>8300(@INDEX),M\nM EQU 2\nindex EQU >8300', 'unknown name',
+     'INDEX gets its value in line 3, and an address in an operand takes names of earlier lines alone'),
+    ('gpl', b'A EQU B+1\nB EQU 2', 'unknown name',
+     'B gets its value in line 2, and EQU takes names of earlier lines alone'),
+    ('gpl', b'S RTN\n* S\nT RTN\ns RTN', 'duplicate label', 's has its value from line 1'),
+    ('a', b'S RT\nT EQU 5\nT RT', 'duplicate label', 'T has its value from line 2'),
+    ('a', b'R1 RT', 'duplicate label', 'R1 is a register'),
+    ('a', b'S LI R1,5\n BSS SIZE\nSIZE EQU 2', 'unknown name',
+     'SIZE gets its value in line 3, and BSS takes names of earlier lines alone'),
     ('gpl', b' BYTE 1,256', 'bad operand', 'a byte is at most 255, or >FF'),
     ('gpl', b' BYTE >100', 'bad operand', 'a byte is at most 255, or >FF'),
     ('gpl', b' ST @>8300, 5', 'bad operand', 'a blank ends the operands; write none after a comma'),
@@ -46,10 +82,14 @@ NOTES = [
 ]
 # Lines that are refused, and whose text does not say for certain why.
 NO_NOTES = [
-    ('gpl', b' ST COUNT,5'), ('gpl', b' BYTE 1,R@2'), ('a', b'A MOVV R1,R2'), ('a', b'LOOP ST@X'),
+    ('gpl', b' ST COUNT,5'), ('gpl', b' BYTE 1,R@2'), ('gpl', b' BYTE 255,R@2'), ('gpl', b' ST 5,255'),
+    ('gpl', b' MOVE 5,6'), ('gpl', b" DATA 'AB',5(R1"), ('gpl', b' ST 5(R1),1'), ('gpl', b' MOVE 5 V@0 G@>6000'),
+    ('gpl', b'S ST @N,M\nM EQU 5'), ('gpl', b' ST @N,1\n END\nN EQU 5'), ('gpl', b' ST @N,1\n*N EQU 5'),
+    ('gpl', b'N EQU N'), ('gpl', b' ST @M,1\n ST @N,1\n EXIT\nN EQU 5'), ('a', b' LI R1,M\nN EQU 5'),
+    ('gpl', b' JMPP X'), ('a', b' REF S\nS RT'), ('a', b'A MOVV R1,R2'), ('a', b'LOOP ST@X'),
     ('a', b' TEXT COUNTER'), ('a', b' CLR R1,R2 ,x'), ('a', b' CLR R1,COUNTER'), ('gpl', b' DCLR COUNTER'),
     ('a', b' IDT COUNTER'), ('a', b' JMP COUNT'), ('a', b' LI 16,>12345678'),
-    ('gpl', b" DATA 'A_B',1,'LONGNAME','\"'"), ('gpl', b' EQU 1'), ('a', b'LABEL COPY "MY_LONGNAME.SRC"'),
+    ('gpl', b" DATA 5+,'A_','LO','\"'"), ('gpl', b' EQU 1'), ('a', b'LABEL COPY "MY_LONGNAME.SRC"'),
 ]
 
 
@@ -142,20 +182,49 @@ class Refused(Calling):
     def test_notes(self):
         for ending, source, cause, note in NOTES:
             with self.subTest(source):
-                name, number = f'a.{ending}', source.count(b'\n') + 1
+                name = f'a.{ending}'
                 status, text = self.refusal(name, source + b'\n')
-                place = f'{name}:{number}: '.encode()
-                wanted = [place + cause.encode(), place + b'note: ' + note.encode(), b'']
                 lines = text.split(b'\n')
+                place = lines[0][:lines[0].index(b': ') + 2]
+                wanted = [place + cause.encode(), place + b'note: ' + note.encode(), b'']
                 self.assertEqual((status, lines[:1] + lines[2:]), (1, wanted))
+                self.assertIn(lines[1][4:], [refusals.shown(line.decode('latin-1')) for line in source.split(b'\n')])
+
+    def test_the_operations_that_are_left_out_have_a_note_in_a_gpl_source_alone(self):
+        for operation in sorted(languages.LEFT_OUT):
+            found = [notes.note(f' {operation}', 'unknown operation', language) for language in ('gpl', 'asm')]
+            self.assertEqual(found, [f'{operation} is an operation of GPL that is left out here',
+                                     f'{operation} is an operation of GPL, and this is an assembler source'])
+
+    def test_the_names_of_both_languages_are_those_of_the_definitions(self):
+        for language, listed in (('gpl', names.gpl()), ('asm', names.assembler())):
+            operations = {*listed.operations, *listed.bare_operations}
+            directives = {*listed.directives, *listed.bare_directives, *listed.file_directives}
+            self.assertEqual((languages.OPERATIONS[language], languages.DIRECTIVES[language]), (operations, directives))
+
+    def test_an_input_that_is_no_source_has_a_note(self):
+        objects, bytes_ = 'this is object text, and no source; link takes it', \
+            'this is no text; the bytes of an image are listed by gdis'
+        for data, kind in ((b'00004        A0000B10FF20000F\n:\n', objects),
+                           (b'\x01\0\4        A\0\0B\x10\xff', objects),
+                           (b'\xaa\1\1\0\0\0\x60\x10', bytes_), (b' FOO\0\n', bytes_), (b' FOO\n', None),
+                           (b'\xff\xfeA\0', None)):
+            for ending in ('gpl', 'a'):
+                lines = self.refusal(f'x.{ending}', data)[1].split(b'\n')
+                found = [line for line in lines if line.startswith(f'x.{ending}: note:'.encode())]
+                self.assertEqual(found, [f'x.{ending}: note: {kind}'.encode()] if kind else [], data)
 
     def test_no_line_that_is_accepted_would_have_a_note(self):
         causes = ('bad label', 'unknown operation', 'operand count', 'bad operand', 'bad token', 'bad directive')
         for words in (TOP / 'examples').glob('*/words'):
-            if words.read_text().split()[0] in ('asm', 'gasm', 'run', 'trace', 'watch'):
-                for line in (words.parent / 'input').read_text(encoding='latin-1').splitlines():
-                    found = [] if line[:1] == '*' or ' COPY ' in line else [notes.note(line, cause) for cause in causes]
-                    self.assertFalse(any(found), line)
+            command = words.read_text().split()[0]
+            if command in ('asm', 'gasm', 'run', 'trace', 'watch'):
+                language = 'asm' if command == 'asm' else 'gpl'
+                lines = (words.parent / 'input').read_text(encoding='latin-1').splitlines()
+                for number, line in enumerate(lines, 1):
+                    found = [] if line[:1] == '*' or ' COPY ' in line else [
+                        notes.note(line, cause, language) for cause in causes]
+                    self.assertFalse(any(found) or notes.later_note(lines, number, language), line)
 
     def test_no_note_without_certainty(self):
         for ending, source in NO_NOTES:
@@ -269,11 +338,42 @@ class AllRefusals(Calling):
         rows = self.call('assemble', '--all', 'a.gpl').stderr.splitlines()
         self.assertEqual(sum(b'unknown operation' in row for row in rows), 20)
 
-    def test_a_refusal_in_a_copied_file_is_the_last(self):
-        self.file('a.a', b' FOO\n COPY "B.A"\n BAR\n')
-        self.file('B.A', b' BAZ\n')
-        rows = self.call('assemble', '--all', 'a.a').stderr.splitlines()
-        self.assertEqual(rows[::2], [b'a.a:1: unknown operation', b'B.A:1: unknown operation'])
+    def rows_of(self, name):
+        return [row for row in self.call('assemble', '--all', name).stderr.decode().splitlines() if row[:1] != ' ']
+
+    def test_refused_lines_of_copied_files_are_reported_as_well(self):
+        self.file('sub/a.a', b' FOO\n COPY "B.A"\n BAR\n JMP L9\n END\n')
+        texts = {'B.A': b' BAZ\n LI R1,Q\n COPY "C.A"\nK DATA 1\n', 'C.A': b' LI R99\nL9 EQU UUU\n'}
+        for name, text in texts.items():
+            self.file(f'sub/{name}', text)
+        self.assertEqual(self.rows_of('sub/a.a'), [
+            'sub/a.a:1: unknown operation', 'sub/B.A:1: unknown operation', 'sub/C.A:1: operand count',
+            'sub/C.A:2: unknown name', 'sub/a.a:3: unknown operation', 'sub/B.A:2: unknown name',
+            'sub/a.a:4: unknown name', 'sub/a.a:4: note: this may come of line 2 of C.A, which is left out'])
+        self.assertEqual({name: (self.folder / 'sub' / name).read_bytes() for name in texts}, texts)
+        self.assertEqual(len(list((self.folder / 'sub').iterdir())), 3)
+
+    def test_what_a_copy_line_that_is_left_out_may_bring_is_marked(self):
+        self.file('a.a', b' COPY "NO"\n DATA B\n FOO B\n')
+        self.assertEqual(self.rows_of('a.a'), [
+            'a.a:1: missing NO', 'a.a:3: unknown operation', 'a.a:2: unknown name',
+            'a.a:2: note: this may come of line 1, which is left out'])
+        self.file('b.a', b' COPY "B.A"\n DATA X\n')
+        self.file('B.A', b' COPY "NO"\n DATA Y\n')
+        self.assertEqual(self.rows_of('b.a'), [
+            'B.A:1: missing NO', 'B.A:2: unknown name', 'B.A:2: note: this may come of line 1, which is left out',
+            'b.a:2: unknown name', 'b.a:2: note: this may come of line 1 of B.A, which is left out'])
+
+    def test_what_an_operand_begins_with_is_no_name(self):
+        for line, is_doubted in ((b' ST V@FOO,1', False), (b' ST V*FOO,1', False), (b' ST @V,1', True),
+                                 (b' ST @FOO,V*2', False), (b' ST @FOO+V,2', True), (b' MOVE 1,V@FOO,V@0', False), (b' MOVE 1,V@0,G@V', True)):
+            self.file('a.gpl', b'V EQU LOPP\nS' + line + b'\n')
+            rows = self.rows_of('a.gpl')
+            self.assertEqual(rows[:2], ['a.gpl:1: unknown name', 'a.gpl:2: unknown name'], line)
+            doubts = ['a.gpl:2: note: this may come of line 1, which is left out'] if is_doubted else []
+            self.assertEqual(rows[2:], doubts, line)
+        self.file('a.a', b'V EQU LOPP\n DATA V*2\n')
+        self.assertEqual(self.rows_of('a.a')[2:], ['a.a:2: note: this may come of line 1, which is left out'])
 
     def test_one_without_a_line_is_reported_as_ever(self):
         self.file('a.a', b'* x\n' * 300_000)

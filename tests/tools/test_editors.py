@@ -143,6 +143,11 @@ class Files(Calling):
         ended = self.call('editors', '--check')
         self.assertEqual((ended.returncode, ended.stdout, ended.stderr), (0, b'', b''))
 
+    def test_a_wrong_word_is_named(self):
+        ended = self.call('editors', '--nosuch')
+        self.assertEqual(ended.returncode, 2)
+        self.assertIn(b'--nosuch', ended.stderr)
+
     def test_the_extension_names_its_files(self):
         package = json.loads(read_text(VSCODE / 'package.json'))['contributes']
         for language in package['languages']:
@@ -182,7 +187,7 @@ class Vim(Calling):
         packages = self.folder / 'home/.vim/pack/ti/start'
         packages.mkdir(parents=True)
         (packages / 'ti_bench').symlink_to(TOP / 'editors/vim')
-        self.file('vimrc', b"set nocompatible\nlet g:ti99asm_endings = ['asm']\nfiletype plugin on\nsyntax on\n")
+        self.file('vimrc', b"set nocompatible\nlet g:ti99asm_endings = ['asm', 'src']\nfiletype plugin on\nsyntax on\n")
 
     def vim(self, script):
         """The lines that a script for Vim puts into `out`."""
@@ -218,6 +223,11 @@ class Vim(Calling):
         self.assertEqual(sorted(it.name for it in self.folder.glob('a.*')), ['a.gpl'])
         self.vim('edit a.gpl\nsilent make! -o %:r.bin')
         self.assertEqual((self.folder / 'a.bin').read_bytes(), b'\x0b')
+
+    def test_endings_may_be_in_capital_letters(self):
+        names = ['a.gpl', 'B.GPL', 'c.Gpl', 'd.a99', 'E.A99', 'f.asm', 'LOOP.SRC', 'g.Asm', 'h.gplx', 'JASM']
+        script = ''.join(f"edit {name}\ncall add(out, &filetype)\n" for name in names)
+        self.assertEqual(self.vim(script), ['ti99gpl'] * 3 + ['ti99asm'] * 5 + [''] * 2)
 
     def test_tabs_and_comments(self):
         self.file('a.asm', b'')

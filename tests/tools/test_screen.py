@@ -78,6 +78,35 @@ class Screen(Calling):
         lines = colours_of((self.folder / 'off.png').read_bytes())
         self.assertEqual({point for line in lines for point in line}, {(66, 235, 245)})
 
+    def test_it_is_said_if_no_patterns_are_loaded(self):
+        said = (b'tools/screen: no patterns are loaded for the characters that are shown, so the picture has colours '
+                b'alone\n')
+        self.video[0x400:0x700] = b' ' * 767 + b'A'
+        for place, byte, register, text in (
+                (0, 0, 0xE0, said), (0, 0, 0xA0, b''), (0x800 + 8 * 0x41, 1, 0xE0, b''),
+                (0x807 + 8 * 0x41, 1, 0xE0, b''),
+                (0x807 + 8 * 0x20, 1, 0xE0, b''), (0x800 + 8 * 0x42, 1, 0xE0, said), (0x807 + 8 * 0x40, 1, 0xE0, said),
+                (0x8 * 0x41, 1, 0xE0, said), (0x6FF, 0x20, 0xE0, b'')):
+            video = bytearray(self.video)
+            video[place] = byte or video[place]
+            registers = [0, register, *self.registers[2:]]
+            ended = self.call('screen', '-o', 'a.png', given=report(video, registers))
+            self.assertEqual((ended.returncode, ended.stderr), (0, text), (place, register))
+            self.assertEqual(self.call('screen', given=report(video, registers)).stderr, b'')
+
+    def test_only_the_bits_of_a_register_that_place_a_table_count(self):
+        """The registers may hold other bits, which the video processor does not use."""
+        self.video[0x400:0x700] = b' ' * 768
+        self.video[0x400 + 32:0x400 + 34] = b'HI'
+        self.video[0x800 + 8 * 0x48] = 0xF0
+        self.video[0x800 + 0x48 // 8] = 0x60
+        outputs = []
+        for registers in (self.registers, [0, 0xE0, 0xF1, 0x20, 0xF9, 0x80, 0xF8, 0xF7]):
+            given = report(self.video, registers)
+            outputs.append((self.call('screen', given=given).stdout, self.call('screen', '-p', given=given).stdout))
+        self.assertEqual(outputs[0], outputs[1])
+        self.assertEqual(colours_of(outputs[0][1])[8][:5], [(212, 82, 77)] * 4 + [(66, 235, 245)])
+
     def test_other_modes_have_no_picture(self):
         for register, byte, text in ((1, 0xF0, 'text mode'), (1, 0xE8, 'multicolor mode'), (0, 2, 'graphics mode II')):
             registers = [*self.registers]

@@ -1,12 +1,15 @@
 """Tests of tools/steps: the data of a page, replayed here, against what the program writes."""
+import io
 import json
 import random
 import re
 import unittest
+from unittest import mock
 
 from calling import TOP, Calling
 from lib import program
 from lib.dump import dump
+from stepping import reports, run
 
 DATA = re.compile(r'<script type="application/json" id="data">(.*?)</script>', re.S)
 CELLS, VIDEO, REGISTERS, END = 0x8300, 0x10000, 0x14000, 0x14011
@@ -152,10 +155,14 @@ class Steps(Calling):
         self.call('assemble', '-o', 'a.obj', 'a.asm')
         objects = (self.folder / 'a.obj').read_bytes()
         looks = b'this looks like object text; --exec takes it'
+        assembler = b'this is an assembler source; assemble it, and give the object text with --exec'
+        no_text = b'this is no text; the bytes of an image are listed by gdis'
         no = b'this is no object text; assemble the source first'
         for words, name, data, note in (
                 ([], 'a.obj', objects, looks), ([], 'a.gpl', b'\x01\0\4        A\0\0B\x10\xff', looks),
                 ([], 'a.obj', b'00004 NO OBJECT\n', None), ([], 'a.obj', source, None), ([], 'a.gpl', b' FOO\n', None),
+                ([], 'a.asm', source, assembler), ([], 'B.A99', source, assembler), ([], 'a.asm', objects, looks),
+                ([], 'a.bin', b'\xaa\1\1\0\0\0', no_text), ([], 'a.gpl', source, None),
                 (['--exec'], 'a.asm', source, no), (['--exec'], 'A.GPL', b' EXIT\n END >6000\n', no),
                 (['--exec'], 'a.txt', source, None), (['--exec'], 'a.asm', b'00004        A0000\n', None)):
             with self.subTest(words=words, name=name, data=data):
@@ -204,6 +211,38 @@ class Steps(Calling):
         *_, last = states(data)
         self.assertEqual(last[VIDEO:REGISTERS], self.shown(source, len(data['steps'])).vdp)
 
+    def read(self, lines, seconds=1, seconds_a_line=0, most=None):
+        """How many steps of a report are read, and why no more, if each line takes so many seconds to come."""
+        clock = iter(number * seconds_a_line for number in range(1000))
+        with mock.patch.object(reports.time, 'monotonic', lambda: next(clock)), \
+                mock.patch.object(reports, 'MOST_BYTES', most or reports.MOST_BYTES):
+            steps, rest, cut = reports.steps_of(io.BytesIO(b''.join(lines)), run.step_of, seconds)
+        return len(steps), rest, cut
+
+    def test_the_last_steps_are_left_out_after_the_seconds_that_are_given(self):
+        lines = [b'%6d >6000 S00 D9F R7E INC @>8300 >8300=%02X\n' % (number, number) for number in range(1, 100)]
+        end = b'gpl >6000 S00 D9F R7E\n'
+        self.assertEqual(self.read([*lines, end], 50, 0.5), (99, end, ''))
+        self.assertEqual(self.read([*lines, end], 10, 0.5),
+                         (21, b'', 'more would take longer than 10 seconds'))
+        self.assertEqual(self.read([*lines, end], 0.25, 0.125), (3, b'', 'more would take longer than 0.25 seconds'))
+
+    def test_the_last_steps_are_left_out_if_the_changes_are_too_many(self):
+        lines = [b'%6d >6000 S00 D9F R7E MOVE >0004,@>8300,V@>0000 >8300=01,02,03,04\n' % number
+                 for number in range(1, 100)]
+        self.assertEqual(reports.MOST_BYTES, 32_000_000)
+        # a step of four bytes has eight digits, and takes 28 bytes of a page
+        self.assertEqual(self.read(lines, most=27)[::2], (1, 'the changes are more than 0 MB'))
+        self.assertEqual(self.read(lines, most=28)[::2], (2, 'the changes are more than 0 MB'))
+        self.assertEqual(self.read(lines, most=10 * 28)[::2], (11, 'the changes are more than 0 MB'))
+        self.assertEqual(self.read(lines, most=99 * 28)[::2], (99, ''))
+
+    def test_the_name_of_a_file_stays_a_text(self):
+        page = self.page(b' EXIT\n END >6000\n', name='<b>&\'"; {{data}}.gpl').decode()
+        title = '&lt;b&gt;&amp;&#x27;&quot;; {{data}}.gpl, step by step'
+        self.assertEqual(re.findall('<title>(.*)</title>', page), [title])
+        self.assertEqual(data_of(page.encode())['name'], '<b>&\'"; {{data}}.gpl')
+
     def test_a_refused_source_is_reported_as_compilers_do(self):
         self.file('bad.gpl', b' EXIT\n ST @>8300, 5\n')
         ended = self.call('steps', 'bad.gpl')
@@ -211,7 +250,8 @@ class Steps(Calling):
         self.assertEqual(ended.stderr.splitlines()[:2], [b'bad.gpl:2: bad operand', b'     ST @>8300, 5'])
         self.file('none.gpl', b' EXIT\n')
         ended = self.call('steps', 'none.gpl')
-        self.assertEqual((ended.returncode, ended.stderr), (1, b'none.gpl: no entry\n'))
+        self.assertEqual((ended.returncode, ended.stderr), (
+            1, b'none.gpl: no entry\nnone.gpl: note: the entry is what END names, as in END START\n'))
 
     def test_wrong_words(self):
         self.file('a.gpl', b' EXIT\n END >6000\n')
@@ -241,7 +281,13 @@ class Steps(Calling):
     def test_another_program_makes_no_page(self):
         self.file('a.gpl', b' EXIT\n END >6000\n')
         ended = self.call('steps', 'a.gpl', TI_DEBUG='/bin/true')
-        self.assertEqual((ended.returncode, ended.stdout), (1, b''))
+        self.assertEqual((ended.returncode, ended.stdout, ended.stderr), (
+            1, b'', b'tools/steps: the bytes of the lines are not those that the source is assembled to\n'))
+
+    def test_a_refused_assembler_source_is_one_by_its_operations(self):
+        self.file('a.gpl', b'S LI R1,5\n JMP $\n END S\n')
+        self.assertEqual(self.call('steps', 'a.gpl').stderr.splitlines()[2],
+                         b'a.gpl:1: note: LI is an operation of the TMS9900, and this is a GPL source')
 
 
 if __name__ == '__main__':

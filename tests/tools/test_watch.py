@@ -6,6 +6,27 @@ from calling import TOP, Calling
 from lib import program
 
 SHOW = (TOP / 'examples/show/input').read_bytes()
+# it is stopped in its sixth step
+STOPS = SHOW.replace(b'SHOW   CASE @COUNT', b'SHOW   CASE @>83C2')
+STEP = re.compile(r' *([0-9]+) >([0-9A-F]{4}) S.. D.. R.. [^=]*?((?: [^ =]+=[^ ]+)*)')
+
+
+def hit_of(item, changes, after):
+    """How an item holds at a step with these changes, after which the next instruction is at an address: not at all, or
+    once."""
+    if isinstance(item, int):
+        return ['is reached'] if after == item else []
+    memory, first, size = item
+    for change in changes.split():
+        place, _, values = change.partition('=')
+        at = int(place.lstrip('VW>'), 16)
+        for value in values.split(','):
+            byte, _, times = value.partition('*')
+            for place_now in range(at, at + int(times or 1)):
+                if place[0] == memory and first <= place_now < first + size:
+                    return [f'{"V" * (memory == "V")}>{place_now:04X}={byte}']
+            at += int(times or 1)
+    return []
 
 
 class Watch(Calling):
@@ -19,25 +40,55 @@ class Watch(Calling):
         self.assertEqual(ended.stdout.splitlines(),
                          [b'show.gpl:27: step 24 at >604C: pad:SUM >8302=7F', b'    ONE    ADD @SUM,>7F'])
 
-    def test_all_hits_are_those_of_watch_one_after_the_other(self):
-        source, items = SHOW, ['pad:COUNT', 'vdp:0021', 'pc:SHOW', 'pad:>8373', 'pad:COUNT.2+1']
-        ended = self.watch('--all', 'show.gpl', '100', *items)
-        found = [int(it) for it in re.findall(rb'step ([0-9]+) at', ended.stdout)]
-        addresses = {'SHOW': '6035'}
-        plain = ['pad:8300+1', 'vdp:0021+1', f'pc:{addresses["SHOW"]}', 'pad:8373+1', 'pad:8302+1']
-        wanted = set()
-        for item in plain:
-            # the hits of one item: each is the first of the program that is watched after it
-            report = program.program().run('trace', '100', given=source).out.decode()
-            for line in report.splitlines():
-                step = re.match(r' *([0-9]+) >', line)
-                if step:
-                    before = program.program().run('watch', step[1], item, given=source).out.decode()
-                    hit = re.match(r'hit ([0-9]+) ', before)
-                    if hit:
-                        wanted.add(int(hit[1]))
-        self.assertTrue(wanted <= set(found))
-        self.assertEqual(found, sorted(found))
+    def test_all_hits_are_those_that_a_list_of_all_steps_has(self):
+        """Each hit is worked out here of what `gsteps` writes: of the changes, and of the next line's address."""
+        items = {'pad:COUNT': ('>', 0x8300, 1), 'vdp:0021': ('V', 0x21, 1), 'pc:SHOW': 0x6035,
+                 'pad:8373': ('>', 0x8373, 1), 'pad:COUNT.2+4': ('>', 0x8302, 4), 'vdp:0000+2': ('V', 0, 2), 'pc:>602B': 0x602B, 'pc:6034': 0x6034}
+        for source, limit in ((SHOW, '100'), (SHOW, '20'), (STOPS, '100')):
+            debugger = program.Program(program.other(program.program().path, 'ti_debug'))
+            rows = debugger.run('gsteps', limit, given=source).out.decode().splitlines()
+            end = next(row for row in rows if row.startswith('gpl '))
+            steps = [STEP.fullmatch(row) for row in rows[:rows.index(end)] if STEP.fullmatch(row)]
+            after = [*(step[2] for step in steps[1:]), end[5:9]]
+            wanted = [f'step {step[1]} at >{step[2]}: {word} {what}'
+                      for step, address in zip(steps, after) for word, item in items.items()
+                      for what in hit_of(item, step[3], int(address, 16))]
+            ended = self.watch('--all', 'show.gpl', limit, *items, source=source)
+            found = [re.sub(r' \(line [0-9]+\)', '', row.partition(': ')[2])
+                     for row in ended.stdout.decode().splitlines() if not row.startswith('    ')]
+            self.assertEqual((found, ended.returncode), (wanted, 0))
+            self.assertTrue(len(wanted) > 2)
+
+    def test_an_address_that_is_reached_has_its_own_line_and_that_of_the_step(self):
+        ended = self.watch('--all', 'show.gpl', '14', 'pc:SHOW', 'pc:>603D')
+        self.assertEqual(ended.stdout.decode().splitlines(), [
+            'show.gpl:18: step 5 at >602B (line 13): pc:SHOW is reached', '    SHOW   CASE @COUNT',
+            'show.gpl:22: step 6 at >6035 (line 18): pc:>603D is reached', '           BR THREE',
+            'show.gpl:18: step 13 at >602B (line 13): pc:SHOW is reached', '    SHOW   CASE @COUNT'])
+
+    def test_an_address_without_a_line_is_reached_too(self):
+        ended = self.watch('show.gpl', '9', 'pc:7000', source=b'S B >7000\n END S\n')
+        self.assertEqual(ended.stdout, b'show.gpl: step 1 at >6000 (line 1): pc:7000 is reached\n')
+
+    def test_what_is_near_to_no_hit_is_said(self):
+        source = b'W EQU >8302\nS DINC @W\n INC V@>0001\n EXIT\n END S\n'
+        word, byte = 'the byte after pad:W changed in step 1; pad:W+2 watches both', \
+            'the byte after vdp:0000 changed in step 2; vdp:0000+2 watches both'
+        entry = 'pc:S is the entry, where the program begins; no step led back to it'
+        for words, notes in ((['pad:W'], [word]), (['pad:W+1'], []), (['pad:W.2'], []),
+                             (['vdp:0000', 'pc:S'], [byte, entry]), (['pc:6001'], []), (['pad:83C1'], []), (['vdp:3FFF'], [])):
+            for more in ([], ['--all']):
+                ended = self.watch(*more, 'show.gpl', '9', *words, source=source)
+                self.assertEqual((ended.returncode, ended.stdout, ended.stderr.decode().splitlines()), (
+                    1, b'', ['tools/watch: no hit; EXIT at >6005 after 2 steps', *(f'  {it}' for it in notes)]))
+        ended = self.watch('show.gpl', '9', 'pc:S', source=b'S INC @>8300\n B S\n END S\n')
+        self.assertEqual(ended.stdout, b'show.gpl:1: step 2 at >6002 (line 2): pc:S is reached\n    S INC @>8300\n')
+
+    def test_control_codes_of_a_source_are_not_written(self):
+        source = b'S INC @>8300  * \x1b]0;x\x07 \x9b2J \xc3\xa9 \xe9\n END S\n'
+        ended = self.watch('show.gpl', '1', 'pad:8300', source=source)
+        self.assertEqual(ended.stdout.splitlines()[1],
+                         b'    S INC @>8300  * \\x1b]0;x\\x07 \\x9b2J \xc3\xa9 \xe9')
 
     def test_names_come_before_addresses(self):
         source = b'FACE EQU >8310\nS INC @FACE\n EXIT\n END S\n'
@@ -49,6 +100,10 @@ class Watch(Calling):
     def test_what_is_no_item_is_named(self):
         for word, text in (('pad:NOSUCH', b'pad:NOSUCH: the source has no name NOSUCH'),
                            ('cell:SUM', b'cell:SUM: no item; it is pad:AT+LEN, vdp:AT+LEN or pc:AT'),
+                           ('pc:.loop', b'pc:AT, and AT of a local label as START.loop\n'),
+                           ('vdp:0+768', b'vdp:0+768: the source has no name 0, and an address has four hexadecimal'),
+                           ('pad:A83', b'pad:A83: the source has no name A83\n'),
+                           ('cell:.SUM', b'cell:.SUM: no item; it is pad:AT+LEN, vdp:AT+LEN or pc:AT\n'),
                            ('pc:SHOW+1', b'pc:SHOW+1: pc: has no length'),
                            ('pad:83C1+2', b'pad:83C1+2: not within >8300 to >83C1'),
                            ('pad:82FF', b'pad:82FF: not within >8300 to >83C1'),

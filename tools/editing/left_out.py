@@ -2,12 +2,19 @@
 
 A line that is refused keeps its label, if it is accepted with its label alone: then it only places no bytes. So a later
 line may be refused since an earlier one was left out: a name may be unknown that it gave a value, and what depends on
-the place of a line, as a jump that is too far, may come of the bytes that are missing.
+the place of a line, as a jump that is too far, may come of the bytes that are missing. A COPY line that is left out may
+be why any name is unknown.
+
+A line of a copied file is left out in a copy of the file, which is in a folder of its own with the other copied files.
 """
 import os
+import pathlib
+import tempfile
 
 from lib import notes
-from lib.refusals import PLACE, lines
+from lib.languages import OF_COMMAND
+from lib.refusals import PLACE, file_shown, lines
+from lib.sources import copied, text_copied
 
 MOST = 20
 BY_PLACE = {'jump too far', 'out of room', 'other grom', 'overlap', 'number too large', 'division by zero',
@@ -16,58 +23,88 @@ KEEPS_NO_LABEL = {'EQU', 'COPY', 'END'}
 
 
 class Line:
-    """A line that was left out: its number, its label, and whether the label is still there."""
+    """A line that was left out: the copied file that it is in, or None, its number, its label, and whether the label is
+    still there."""
 
-    def __init__(self, number, text):
+    def __init__(self, file, number, text):
         found = notes.fields(text)
-        self.number, self.label, self.operation = number, found.label, found.operation.upper()
+        self.file, self.number, self.label, self.operation = file, number, found.label, found.operation.upper()
         self.is_kept = bool(self.label) and self.operation not in KEEPS_NO_LABEL
 
     @property
     def text(self):
         return self.label if self.is_kept else ''
 
-
-def without(source, left_out):
-    """A source in which each of some lines is its label, or empty."""
-    found = source.split(b'\n')
-    for line in left_out:
-        found[line.number - 1] = line.text.encode('latin-1')
-    return b'\n'.join(found)
+    def may_define(self, names):
+        """Whether one of some names is perhaps unknown since the line was left out."""
+        return self.operation == 'COPY' or (not self.is_kept and self.label.upper() in names)
 
 
-def doubt(file, number, cause, text, left_out):
+class Texts:
+    """The texts of a source and of the files that it copies, each file by its name and the source by None."""
+
+    def __init__(self, assembler, kind, file, source):
+        self.assembler, self.kind, self.folder = assembler, kind, os.path.dirname(file) or None
+        paths = [pathlib.Path(it) for it in (copied(file, source) if kind == 'asm' else [])]
+        self.texts = {None: source, **{it.name: text_copied(it) for it in paths if not it.is_symlink()}}
+
+    def line(self, file, number):
+        """A line of one of them, or None if it is not there."""
+        return next(iter(lines(self.texts.get(file, b''))[number - 1:number]), None)
+
+    def without(self, file, left_out):
+        """One of the texts, in which each of the lines that are left out is its label, or empty."""
+        found = self.texts[file].split(b'\n')
+        for line in left_out:
+            if line.file == file:
+                found[line.number - 1] = line.text.encode('latin-1')
+        return b'\n'.join(found)
+
+    def assembled(self, left_out):
+        """How a run without some lines ends."""
+        source = self.without(None, left_out)
+        if all(line.file is None for line in left_out):
+            return self.assembler.run(self.kind, given=source, folder=self.folder)
+        with tempfile.TemporaryDirectory(prefix='ti_bench-') as folder:
+            for name in self.texts:
+                if name:
+                    pathlib.Path(folder, name).write_bytes(self.without(name, left_out))
+            return self.assembler.run(self.kind, given=source, folder=folder)
+
+
+def doubt(file, place, text, language, left_out):
     """The note of a refusal that may come of a line that was left out, or none."""
-    place = b'%s:%d: note: this may come of line ' % (os.fsencode(file), number)
-    words = set(notes.names_in(text))
-    for line in left_out:
-        if cause == 'unknown name' and not line.is_kept and line.label.upper() in words:
-            return [place + b'%d, which is left out' % line.number]
-    if cause in BY_PLACE and left_out:
-        return [place + b'%d, which is left out' % left_out[-1].number]
+    name, number, cause = place.groups()
+    names = set(notes.names_in(text, language))
+    of_names = [line for line in left_out if cause == 'unknown name' and line.may_define(names)]
+    found = of_names[:1] or (left_out[-1:] if cause in BY_PLACE else [])
+    for line in found:
+        where = b'' if line.file == name else b' of ' + file_shown(line.file or os.path.basename(file))
+        path = os.path.join(os.path.dirname(file), name) if name else file
+        return [b'%s:%s: note: this may come of line %d%s, which is left out' % (
+            file_shown(path), number.encode(), line.number, where)]
     return []
 
 
 def refusals_of(assembler, kind, file, source, ended):
-    """The refusals of a source, of which the first is given: of each the source's text, how the run ended, and notes.
-    A refusal in a copied file, and one that names no line, is the last."""
-    left_out, folder, texts = {}, os.path.dirname(file) or None, lines(source)
+    """The refusals of a source, of which the first is given: how each run ended, and notes. One that names no line of
+    the source or of a file that it copies is the last."""
+    left_out, texts = {}, Texts(assembler, kind, file, source)
     while len(left_out) < MOST:
         place = PLACE.fullmatch(ended.fault)
-        number = int(place[2]) if place and not place[1] else None
-        if number is None:
-            yield source, ended, []
+        text = texts.line(place[1], int(place[2])) if place else None
+        if text is None:
+            yield ended, []
             return
-        line = left_out.get(number)
+        line = left_out.get((place[1], place[2]))
         if line is None:
-            text = texts[number - 1] if number <= len(texts) else ''
-            yield source, ended, doubt(file, number, place[3], text, [*left_out.values()])
-            left_out[number] = Line(number, text)
+            yield ended, doubt(file, place, text, OF_COMMAND[kind], [*left_out.values()])
+            left_out[place[1], place[2]] = Line(place[1], int(place[2]), text)
         elif line.is_kept:
             # its label alone is refused too
             line.is_kept = False
         else:
             return
-        ended = assembler.run(kind, given=without(source, left_out.values()), folder=folder)
+        ended = texts.assembled(left_out.values())
         if ended.status != 1:
             return

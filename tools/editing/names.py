@@ -1,6 +1,7 @@
 """The operations and directives of both languages, read from the definitions."""
 import collections
 import re
+import typing
 
 from lib.repository import TOP, read_text
 from listing.operations import operations
@@ -13,7 +14,7 @@ def definition(crate, file):
     return read_text(TOP / f'crates/{crate}/specs/{file}.antt')
 
 
-def parted(names, bare):
+def parted(names, bare) -> typing.Tuple[list, list]:
     """Names in two lists: those that are not bare, and those that are."""
     return sorted(set(names) - set(bare)), sorted(bare)
 

@@ -2,9 +2,12 @@
 words that `link` and `interp` list."""
 import re
 
+from lib.command import Stopped
+
 ROW = re.compile(r'>([0-9A-F]{4})((?: [0-9A-F]{2}){16})')
 REGISTERS = 'regs(?: [0-9A-F]{2}){8}'
 WORDS = re.compile(r'>([0-9A-F]{4})((?: [0-9A-F]{4}){1,8})')
+HEAD = re.compile(r'entry >[0-9A-F]{4}|[A-Z][0-9A-Z]{0,5} >[0-9A-F]{4}')
 SIZES = {'pad': 256, 'vdp': 16384, 'low': 8192, 'high': 24576}
 ORIGINS = {'pad': 0x8300, 'vdp': 0, 'low': 0x2000, 'high': 0xA000}
 
@@ -50,18 +53,27 @@ def dump(text):
 
 
 def expansion(text):
-    """The low and the high expansion memory that a report of `steps` shows at its end."""
+    """The low and the high expansion memory that a report of `steps` shows at its end, or None if it shows none."""
     lines = text.splitlines()
-    low, high = (len(lines) - 1 - lines[::-1].index(part) for part in ('low', 'high'))
+    high = last_of('high', lines, len(lines))
+    low = last_of('low', lines, high)
+    if low < 0:
+        return None
     return memory(lines[low + 1:high], 'low'), memory(lines[high + 1:], 'high')
 
 
 def words(text):
-    """The words that a report of linked memory lists, by their addresses."""
-    found = {}
+    """The words that a report of linked memory lists, by their addresses. Each other line is the entry or a name; the
+    rows are in order, and one that is followed at once by the next has eight words."""
+    found, after, is_full = {}, 0, True
     for line in text.splitlines():
         row = WORDS.fullmatch(line)
         if row:
-            at = int(row[1], 16)
-            found.update((at + 2 * number, int(word, 16)) for number, word in enumerate(row[2].split()))
+            at, listed = int(row[1], 16), row[2].split()
+            if at < after or (at == after and not is_full):
+                raise Stopped(f'the rows of a listing do not follow one another: {line}')
+            found.update((at + 2 * number, int(word, 16)) for number, word in enumerate(listed))
+            after, is_full = at + 2 * len(listed), len(listed) == 8
+        elif found or not HEAD.fullmatch(line):
+            raise Stopped(f'no line of a listing of link: {line}')
     return found

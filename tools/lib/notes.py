@@ -2,6 +2,7 @@
 import collections
 import re
 
+from lib.languages import ASSEMBLER, GPL, LEFT_OUT, OPERATIONS, of_the_other
 from lib.sources import COPY
 
 Fields = collections.namedtuple('Fields', 'label operation operands rest')
@@ -15,9 +16,20 @@ OPERAND = re.compile(r"[-0-9@*>'$].*|[VGRvgr]@.*|[Vv]\*.*|[Rr](?:1[0-5]|[0-9]),.
 NAME = re.compile(r'[A-Za-z][0-9A-Za-z]{0,5}')
 WORD = re.compile(r'(?<![0-9A-Za-z>])[A-Za-z][0-9A-Za-z]*')
 LINE_MAXIMUM = 256
+# how object text begins, printed or compressed: the group of the module's name, and the tag of the next one
+OBJECT = re.compile(rb'0[0-9A-Fa-f]{4}[ -~]{8}[1-9A-C][0-9A-Fa-f]{4}|\x01..[ -~]{8}[1-9A-CF]', re.S)
 NUMBER = re.compile(r'([0-9]+)|>([0-9A-Fa-f]+)')
-# the operations of GPL that the assembler does not have
-LEFT_OUT = {'FMT', 'COINC', 'IO', 'XML', 'PARSE', 'CONT', 'EXEC', 'RTNB', 'RTGR', 'SWGR', 'SCAN'}
+# what other assemblers write: the prefixes of operands of GPL by what they are here, and hexadecimal numbers
+PREFIX = re.compile(r'(?:^|,)((?:VDP|VRAM|GROM|GRAM|RAM|CPU)@)', re.I)
+PREFIXES = {'VDP@': 'V@', 'VRAM@': 'V@', 'GROM@': 'G@', 'GRAM@': 'G@', 'RAM@': '@', 'CPU@': '@'}
+DOLLAR = re.compile(r'(?:^|[,@(+*/-])\$([0-9A-Fa-f]+)(?![0-9A-Za-z])')
+# the operations and directives that take a value itself, and no place in memory
+OF_VALUES = {GPL: {'B', 'BR', 'BS', 'CALL', 'EQU', 'DATA', 'BYTE', 'AORG', 'GROM', 'BSS'},
+             ASSEMBLER: {'EQU', 'DATA', 'BYTE', 'AORG', 'RORG', 'DORG', 'BSS', 'BES'}}
+# what an operand of GPL begins with that lies in memory or has an index: its address and index must be known before
+IN_MEMORY = re.compile(r"(?:(?:^|,)(?:V?@|V?\*)|\(@)([^,(]*)", re.I)
+KNOWN_BEFORE = {GPL: {'EQU', 'GROM', 'AORG', 'BSS'}, ASSEMBLER: {'EQU', 'AORG', 'RORG', 'DORG', 'BSS', 'BES'}}
+REGISTERS = {f'R{number}' for number in range(16)}
 
 ALPHANUMERIC = 'a name has letters and digits alone, and no _'
 
@@ -27,9 +39,12 @@ def fields(line):
     return Fields(*FIELDS.match(line).groups())
 
 
-def names_in(line):
-    """The names that the operands of a line have, in upper case, as the assemblers compare them."""
+def names_in(line, language):
+    """The names that the operands of a line have, in upper case, as the assemblers compare them; what an operand of GPL
+    begins with is none."""
     bare = QUOTED.sub(' ', fields(line).operands)
+    if language == GPL:
+        bare = re.sub(r'(^|,)(?:[VGR]@|V\*)', r'\1 ', bare, flags=re.I)
     return [word.upper() for word in WORD.findall(bare)]
 
 
@@ -61,12 +76,13 @@ def label_note(found):
     return 'a name begins with a letter' if label[:1].isdecimal() else None
 
 
-def operation_note(found):
+def operation_note(found, language):
+    operation = found.operation.upper()
     if found.label and OPERAND.fullmatch(found.operation):
         return f'what begins in column 1 is a label, so the operation of this line is {found.operation}'
-    if found.operation.upper() in LEFT_OUT:
-        return f'{found.operation.upper()} is an operation of GPL that is left out here'
-    return None
+    if language == GPL and operation in LEFT_OUT:
+        return f'{operation} is an operation of GPL that is left out here'
+    return of_the_other(operation, language) if language else None
 
 
 def missing_note(line):
@@ -105,15 +121,39 @@ def quote_note(found):
     return None
 
 
-def token_note(found):
+def token_note(found, language):
     """Of names and numbers that are none."""
     bare = QUOTED.sub("''", found.operands)
-    name, number = LONG_NAME.search(bare), ZERO_X.search(bare)
+    name, number = LONG_NAME.search(bare), ZERO_X.search(bare) or DOLLAR.search(bare)
     if number:
         return f'a hexadecimal number begins with >, as >{number[1].upper()}'
+    if value_note(found, language):
+        return value_note(found, language)
+    if language == GPL and re.search(r'@[^,(]+\((?!@)', bare):
+        return 'an index is the address of a word, and begins with @, as in @>8300(@>8302)'
     if name:
         return too_long(name[0])
     return ALPHANUMERIC if UNDERSCORE.search(bare) else None
+
+
+def split(operands):
+    """Operands, as commas outside of quotes part them."""
+    return re.findall(r"(?:[^,']|'[^']*(?:'|\Z))+", operands)
+
+
+def is_text(operand):
+    """Whether an operand is a text, and no character or two, which are a number."""
+    return bool(re.fullmatch(r"'(?:[^']|''){3,}'", operand))
+
+
+def value_note(found, language):
+    """Of what is given in place of values."""
+    operation, operands = found.operation.upper(), split(found.operands)
+    if operation in OF_VALUES.get(language, ()) and any(operand.startswith('@') for operand in operands):
+        return f'{operation} takes the value itself, without @'
+    if operation in ('DATA', 'BYTE') and any(map(is_text, operands)):
+        return 'a text is placed by TEXT'
+    return None
 
 
 def is_above_a_byte(operand):
@@ -122,15 +162,37 @@ def is_above_a_byte(operand):
     return bool(found) and (int(found[1]) if found[1] else int(found[2], 16)) > 255
 
 
-def form_note(found):
+def form_note(found, language):
     """Of operands whose form their operation does not take."""
-    if found.operation.upper() in ('DEF', 'REF'):
-        return token_note(found)
-    operands = QUOTED.sub("''", found.operands).split(',')
-    if found.operation.upper() == 'MOVE' and len(operands) == 3 and operands[1].upper().startswith('G@'):
+    operation, bare = found.operation.upper(), QUOTED.sub("''", found.operands)
+    if operation in ('DEF', 'REF'):
+        return token_note(found, language)
+    prefix, number = PREFIX.search(bare), DOLLAR.search(bare)
+    if language == GPL and prefix:
+        return f'{prefix[1].upper()} is written {PREFIXES[prefix[1].upper()]} here'
+    if number:
+        return f'a hexadecimal number begins with >, as >{number[1].upper()}'
+    operands = bare.split(',')
+    if operation == 'MOVE' and len(operands) == 3 and operands[1].upper().startswith('G@'):
         return 'MOVE takes length, target and source, in this order, and G@ is no target'
-    if found.operation.upper() == 'BYTE' and any(is_above_a_byte(operand) for operand in operands):
+    return value_note(found, language) or byte_note(operation, operands, language)
+
+
+def byte_note(operation, operands, language):
+    """Of a number that no byte holds."""
+    if operation == 'BYTE' and any(map(is_above_a_byte, operands)):
         return 'a byte is at most 255, or >FF'
+    has_words = language == GPL and f'D{operation}' in OPERATIONS[GPL]
+    if has_words and len(operands) == 2 and is_above_a_byte(operands[1]):
+        return f'{operation} takes a byte, which is at most 255, or >FF; D{operation} takes a word'
+    return None
+
+
+def count_note(found):
+    """Of operands that are written as other assemblers do."""
+    words = f'{found.operands} {found.rest}'.upper().split()
+    if found.operation.upper() == 'MOVE' and 'TO' in words and ',' not in found.operands:
+        return 'MOVE takes length, target and source, in this order, with commas between them, as in MOVE 5,V@0,G@>6000'
     return None
 
 
@@ -140,15 +202,66 @@ def register_note(found):
     return None
 
 
-def note(line, cause):
-    """Why a line was refused for a cause, if its text says so for certain; else None."""
+def first_names(found, language):
+    """The names of a line that must have a value before it, from the left; and what takes them."""
+    operation, bare = found.operation.upper(), QUOTED.sub("''", found.operands)
+    if operation in KNOWN_BEFORE[language]:
+        return WORD.findall(bare), operation
+    parts = IN_MEMORY.findall(bare) if language == GPL else []
+    return [name for part in parts for name in WORD.findall(part)], 'an address in an operand'
+
+
+def first_lines(texts):
+    """The numbers of the lines that define labels first, up to the end of a source."""
+    defined = {}
+    for number, text in enumerate(texts, 1):
+        found = fields(text)
+        if not text.startswith('*'):
+            defined.setdefault(found.label.upper(), number)
+        if found.operation.upper() == 'END' and not text.startswith('*'):
+            break
+    return defined
+
+
+def label_twice_note(texts, number):
+    """Of a label that has a value already: from a line above, or since it is a register."""
+    label = fields(texts[number - 1]).label
+    at = first_lines(texts).get(label.upper(), number)
+    if label.upper() in REGISTERS:
+        return f'{label} is a register'
+    return f'{label} has its value from line {at}' if at < number else None
+
+
+def later_note(texts, number, language):
+    """Of a name that a line of a source must know, and that gets its value in a later one."""
+    defined = first_lines(texts)
+    names, what = first_names(fields(texts[number - 1]), language)
+    for name in names:
+        at = defined.get(name.upper(), number)
+        if name.upper() not in REGISTERS and at >= number:
+            later = f'{name} gets its value in line {at}, and {what} takes names of earlier lines alone'
+            return later if at > number else None
+    return None
+
+
+def note_in(texts, number, cause, language=None):
+    """Why one of the lines of a source was refused for a cause, if the source says so for certain; else None."""
+    if cause == 'unknown name':
+        return later_note(texts, number, language) if language else None
+    if cause == 'duplicate label':
+        return label_twice_note(texts, number)
+    return note(texts[number - 1], cause, language)
+
+
+def note(line, cause, language=None):
+    """The same by the text of the line alone. Without a language it may be of any."""
     if len(line) > LINE_MAXIMUM:
         return None
     found = fields(line)
     if cause == 'bad label':
         return label_note(found)
     if cause == 'unknown operation':
-        return operation_note(found)
+        return operation_note(found, language)
     if cause == 'bad relocation':
         return register_note(found)
     if cause.startswith('missing '):
@@ -156,6 +269,17 @@ def note(line, cause):
     if cause == 'bad directive':
         return copy_note(found) if found.operation.upper() == 'COPY' else quote_note(found)
     if cause in ('operand count', 'bad operand', 'bad token'):
-        last = {'bad token': token_note, 'bad operand': form_note}.get(cause, lambda found: None)
-        return comma_note(found, cause) or quote_note(found) or last(found)
+        if cause == 'operand count':
+            return count_note(found) or comma_note(found, cause) or quote_note(found)
+        last = token_note if cause == 'bad token' else form_note
+        return comma_note(found, cause) or quote_note(found) or last(found, language)
+    return None
+
+
+def kind_note(data):
+    """What an input is that is refused as a source, if it is certainly none."""
+    if OBJECT.match(data):
+        return 'this is object text, and no source; link takes it'
+    if b'\0' in data and not data.startswith((b'\xff\xfe', b'\xfe\xff')):
+        return 'this is no text; the bytes of an image are listed by gdis'
     return None

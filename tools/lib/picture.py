@@ -52,6 +52,14 @@ def points(shown):
             for line in range(LINES)]
 
 
+def lacks_patterns(shown):
+    """Whether the screen has several characters, and none of them a pattern: then a picture of it has colours alone."""
+    if mode(shown.registers) != GRAPHICS_I or not shown.registers[1] >> 6 & 1:
+        return False
+    patterns, codes = shown.registers[4] % 8 * 2048, set(b''.join(names(shown, 32)))
+    return len(codes) > 1 and not any(any(shown.vdp[patterns + 8 * code:][:8]) for code in codes)
+
+
 def chunk(kind, data):
     """A chunk of a PNG file: length, kind, data, and their check sum."""
     return struct.pack('>I', len(data)) + kind + data + struct.pack('>I', zlib.crc32(kind + data))

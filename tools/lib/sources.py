@@ -32,9 +32,9 @@ def copied(path, source):
 
 
 def text_copied(path):
-    """The text of a file that is copied; none if it cannot be read."""
+    """The text of a file that is copied, and a byte more than it may have; none if it cannot be read."""
     try:
         with open(path, 'rb') as file:
-            return file.read(MOST_COPIED)
+            return file.read(MOST_COPIED + 1)
     except OSError:
         return b''

@@ -3,6 +3,8 @@
 The memory of the processor is from 0 on, where the visible cells of GPL are >8300 to >83C1; the video memory is from
 VIDEO on, the registers of the video processor are from REGISTERS on, and what the ports hold beside them is at LATCHES.
 """
+import re
+
 VIDEO, REGISTERS = 0x10000, 0x14000
 CELLS, CELLS_END = 0x8300, 0x83C2
 # what a port holds: its place, and how many bytes; of VH the first says whether a byte is held
@@ -34,3 +36,18 @@ def make(memory, changes):
     for at, digits, times in changes:
         data = bytes.fromhex(digits) * times
         memory[at:at + len(data)] = data
+
+
+def differing(memory, changes):
+    """What of changes a memory does not have yet; after it, it has all of them. A byte that is stored with the value
+    that it had has not changed."""
+    found = []
+    for at, digits, times in changes:
+        data = bytes.fromhex(digits) * times
+        other = int.from_bytes(data, 'big') ^ int.from_bytes(memory[at:at + len(data)], 'big')
+        for run in re.finditer(rb'[^\0]+', other.to_bytes(len(data), 'big')):
+            begin, end = run.span()
+            part = (digits[2 * begin:2 * end], 1) if times == 1 else (digits, end - begin)
+            found.append((at + begin, *part))
+        memory[at:at + len(data)] = data
+    return found

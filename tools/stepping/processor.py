@@ -1,22 +1,20 @@
 """The instructions of a run of object text, and what each of them changed, as `steps` of ti_debug writes them.
 
 The run begins with the linked memory, as `link` lists it, and with 0 everywhere else. What the instructions change must
-lead to the state that the program shows after the last of them: else there is no page.
+lead to the state that the program shows after the last of them: else there is no run.
 """
 import re
 import typing
 
-from lib import command
 from lib.dump import dump, expansion, words
-from stepping.places import END, LATCHES, REGISTERS, VIDEO, changes_of, make
-from stepping.reports import counted, only, reported
+from stepping.places import LATCHES, REGISTERS, VIDEO, changes_of
+from stepping.reports import counted, no_report, not_led_to, only, replayed, reported
 
-STEP = re.compile(r' *[0-9]+ >([0-9A-F]{4}) WP([0-9A-F]{4}) ST([0-9A-F]{4}) ([^=\n]*?)((?: \S+=\S+)*)')
-PROCESSOR = re.compile(r'^count [0-9]+ PC >([0-9A-F]{4}) WP >([0-9A-F]{4}) ST >([0-9A-F]{4})$', re.M)
+STEP = re.compile(r' *([0-9]+) >([0-9A-F]{4}) WP([0-9A-F]{4}) ST([0-9A-F]{4}) ([^=\n]*?)((?: \S+=\S+)*)')
+PROCESSOR = re.compile(r'^count ([0-9]+) PC >([0-9A-F]{4}) WP >([0-9A-F]{4}) ST >([0-9A-F]{4})$', re.M)
 GROM = re.compile(r'^grom >([0-9A-F]{4})$', re.M)
-ENTRY = re.compile(r'entry >([0-9A-F]{4})')
 NAME = re.compile(r'^([A-Z][A-Z0-9]*) +>([0-9A-F]{4})$', re.M)
-END_LINE = re.compile(r'end ([a-z ]+?)(?: (>[0-9A-F]{4}))?$', re.M)
+END_LINE = re.compile(r'end (limit|self jump|refused|port)(?: (>[0-9A-F]{4}))?$', re.M)
 ENDS = {'self jump': 'Ended at JMP $', 'refused': 'Stopped at a word that is not executed, at',
         'port': 'Stopped at a word access to the port'}
 
@@ -29,7 +27,8 @@ class State(typing.NamedTuple):
 
 
 class Step(typing.NamedTuple):
-    """An instruction: the registers of the processor before it, its text, and the changes."""
+    """An instruction: its number, the registers of the processor before it, its text, and the changes."""
+    number: int
     before: State
     text: str
     changes: list
@@ -66,9 +65,10 @@ def step_of(line):
     found = STEP.fullmatch(line)
     if not found:
         return None
-    at, wp, st = (int(digits, 16) for digits in found.groups()[:3])
-    changes = [change for part in found[5].split() for change in changes_in(part, wp)]
-    return Step(State(at, wp, st), found[4], changes)
+    number, *before, text, parts = found.groups()
+    state = State(*(int(digits, 16) for digits in before))
+    changes = [change for part in parts.split() for change in changes_in(part, state.wp)]
+    return Step(int(number), state, text, changes)
 
 
 def first_memory(listed):
@@ -82,32 +82,37 @@ def first_memory(listed):
     return made
 
 
-def check(first, steps, rest):
-    """The registers of the processor after the last step. The changes must lead to the memory that a report shows."""
-    shown, registers = dump(rest), PROCESSOR.search(rest)
-    if shown is None or registers is None:
-        raise command.Stopped('the program wrote no state')
-    memory = bytearray(END)
-    for changes in [first, *(step.changes for step in steps)]:
-        make(memory, changes)
-    low, high = expansion(rest)
-    grom, latch = int(GROM.search(rest)[1], 16), LATCHES['GA'][0]
-    if (memory[0x8300:0x8400] != shown.pad or memory[VIDEO:VIDEO + len(shown.vdp)] != shown.vdp
+def state_shown(rest, steps, memory):
+    """The registers of the processor that the end of a report shows. It must be one of so many instructions, and the
+    memory that it shows the one that is given."""
+    shown, registers, grom, both = dump(rest), PROCESSOR.search(rest), GROM.search(rest), expansion(rest)
+    if None in (shown, registers, grom, both):
+        raise no_report('no state')
+    low, high = both
+    latch, count = LATCHES['GA'][0], int(registers[1])
+    if (count != steps or memory[0x8300:0x8400] != shown.pad or memory[VIDEO:VIDEO + len(shown.vdp)] != shown.vdp
             or memory[REGISTERS:REGISTERS + 8] != shown.registers or memory[0x2000:0x4000] != low
-            or memory[0xA000:0x10000] != high or int.from_bytes(memory[latch:latch + 2], 'big') != grom):
-        raise command.Stopped('the changes of the steps do not lead to the last state, so there is no page')
-    return State(*(int(digits, 16) for digits in registers.groups()))
+            or memory[0xA000:0x10000] != high or memory[latch:latch + 2].hex().upper() != grom[1]):
+        raise not_led_to()
+    return State(*(int(digits, 16) for digits in registers.groups()[1:]))
 
 
-def ending(rest, steps, cut):
+def ending(report, limit):
     """How a run ended, as a sentence; and whether with an error."""
+    steps = len(report.steps)
     made = counted(steps, 'instruction')
-    if cut:
-        return only(steps, cut, 'instruction'), False
-    how, address = END_LINE.match(rest).groups()
+    if report.cut:
+        return only(steps, report.cut, 'instruction'), False
+    found = END_LINE.match(report.rest)
+    if not found or (found[1] == 'limit' and steps != limit):
+        raise no_report('no end of a run')
+    how, address = found.groups()
+    is_stopped = how in ('refused', 'port')
+    if is_stopped != (report.status == 7):
+        raise no_report(f'a run that ended with status {report.status}')
     if how == 'limit':
         return f'Cut off after {made}, the limit.', False
-    return ' '.join(filter(None, [ENDS[how], address, f'after {made}.'])), how != 'self jump'
+    return ' '.join(filter(None, [ENDS[how], address, f'after {made}.'])), is_stopped
 
 
 def bytes_in(listed):
@@ -124,13 +129,13 @@ def names_in(listed):
 def run_of(debugger, objects, listed, limit, seconds):
     """The run of object text that the program accepts and whose linked memory is listed, up to a number of
     instructions."""
-    steps, rest, cut = reported(debugger.path, ['steps', str(limit)], objects, step_of, seconds)
-    shown = rest
-    if cut:
+    report = reported(debugger.path, ['steps', str(limit)], objects, step_of, seconds)
+    first = first_memory(listed)
+    steps, memory = replayed(first, report.steps)
+    end, stopped = ending(report, limit)
+    shown = report.rest
+    if report.cut:
         # the same instructions once more, for the state after them
         again = debugger.run('steps', str(len(steps)), given=objects).out.decode('latin-1')
-        shown = again[again.index('\nend ') + 1:]
-    first = first_memory(listed)
-    last = check(first, steps, shown)
-    end, stopped = ending(rest, len(steps), cut)
-    return Run(steps, last, first, names_in(listed), end, stopped, cut)
+        shown = again[again.rfind('\nend ') + 1:]
+    return Run(steps, state_shown(shown, len(steps), memory), first, names_in(listed), end, stopped, report.cut)

@@ -1,11 +1,14 @@
 """A report of steps, read while it is written.
 
-If a run has more changes than a page can hold, or takes longer than a page should, its last steps are left out.
+If a run has more changes than a page can hold, or takes longer than a page should, its last steps are left out. What a
+report says must fit together: else the tools that read it stop and say so.
 """
 import subprocess
 import time
+import typing
 
 from lib import command
+from stepping.places import END, differing, make
 
 MOST_BYTES = 32_000_000
 
@@ -31,8 +34,17 @@ def steps_of(output, step_of, seconds):
     return steps, b'', ''
 
 
+class Report(typing.NamedTuple):
+    """What a command of ti_debug reports of an input: its steps, the rest of the report, why steps are left out, if any
+    are, and the status, which is None then."""
+    steps: list
+    rest: str
+    cut: str
+    status: typing.Optional[int]
+
+
 def reported(debugger, words, given, step_of, seconds):
-    """What a command of ti_debug reports of an input: its steps, the rest of the report, and why steps are left out."""
+    """The report of an input that the program accepts."""
     try:
         with subprocess.Popen([debugger, *words], stdin=subprocess.PIPE, stdout=subprocess.PIPE,
                               stderr=subprocess.DEVNULL) as running:
@@ -41,13 +53,41 @@ def reported(debugger, words, given, step_of, seconds):
                 running.stdin.write(given)
                 running.stdin.close()
                 steps, rest, cut = steps_of(running.stdout, step_of, seconds)
+                status = None if cut else running.wait()
             finally:
                 running.kill()
     except BrokenPipeError:
-        return [], '', ''
+        # it has ended without reading its input
+        raise no_report('no end of a run') from None
     except OSError as error:
         raise command.Stopped(f'{debugger}: {error.strerror}', command.UNREADABLE) from None
-    return steps, rest.decode('latin-1'), cut
+    if status not in (None, 0, 7):
+        raise command.Stopped(f'{debugger} {" ".join(words)}: ended with status {status}')
+    return Report(steps, rest.decode('latin-1'), cut, status)
+
+
+def replayed(first, steps, is_before=None):
+    """Steps, each with the bytes that it changed and no others, and the memory that all lead to. The memory before the
+    first is given as changes of a memory of 0. The numbers of the steps must be 1, 2 and so on. If lines show a part of
+    the memory before their steps, and no byte that stays, `is_before` says whether that part is so."""
+    memory, made = bytearray(END), []
+    make(memory, first)
+    for number, step in enumerate(steps, 1):
+        is_fit = step.number == number and (is_before is None or is_before(step, memory))
+        changed = differing(memory, step.changes)
+        if not is_fit or (is_before and changed != step.changes):
+            raise command.Stopped(f'what the program shows of step {number} does not fit the steps before it')
+        made.append(step._replace(changes=changed))
+    return made, memory
+
+
+def not_led_to():
+    return command.Stopped('the changes of the steps do not lead to the state that the program shows after the last')
+
+
+def no_report(what):
+    """That a part of a report is missing, or has another form than the one that the tools read."""
+    return command.Stopped(f'the program wrote {what}; this ti_debug is perhaps of another version')
 
 
 def only(number, cut, what='step'):

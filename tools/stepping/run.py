@@ -1,20 +1,23 @@
 """The steps of a run of a GPL program, and what each of them changed, as `gsteps` of ti_debug writes them.
 
-What the steps change must lead to the state that the program shows after the last of them: else there is no page.
+What the steps change must lead to the state that the program shows after the last of them, and each line must fit the
+lines before it: else there is no run.
 """
 import re
 import typing
 
-from lib import command
 from lib.dump import dump
-from stepping.places import CELLS, CELLS_END, END, REGISTERS, VIDEO, changes_of, make
-from stepping.reports import counted, only, reported
+from stepping.places import CELLS, CELLS_END, END, REGISTERS, VIDEO, changes_of
+from stepping.reports import counted, no_report, not_led_to, only, replayed, reported
 
 BYTES = r'[0-9A-F]{2}(?:\*[0-9]{1,5})?'
 CHANGE = rf'(?:V?>[0-9A-F]{{4}}|W[0-7])={BYTES}(?:,{BYTES})*'
-STEP = re.compile(rf' *[0-9]+ >([0-9A-F]{{4}}) S.. D.. R.. ([^=\n]*?)((?: {CHANGE})*)')
-STATE = re.compile(r'^gpl >([0-9A-F]{4}) ', re.M)
-END_LINE = re.compile(r'^(exit|stop) ?([0-9]?) ?at >([0-9A-F]{4})$', re.M)
+BEFORE = 'S([0-9A-F]{2}) D([0-9A-F]{2}) R([0-9A-F]{2})'
+STEP = re.compile(rf' *([0-9]+) >([0-9A-F]{{4}}) {BEFORE} ([^=\n]*?)((?: {CHANGE})*)')
+STATE = re.compile(rf'^gpl >([0-9A-F]{{4}}) {BEFORE}$', re.M)
+END_LINE = re.compile(r'^(exit|stop ([1-5])) at >([0-9A-F]{4})$', re.M)
+# the cells that a line shows before its step: the status, and the pointers of both stacks
+SHOWN_BEFORE = (0x837C, 0x8372, 0x8373)
 REASONS = {
     1: 'the code byte there is no instruction’s',
     2: 'a pointer, an index or the bytes of an operand are not visible: they are outside >8300 to >83C1, or a pointer '
@@ -26,8 +29,11 @@ REASONS = {
 
 
 class Step(typing.NamedTuple):
-    """A step: the address of its instruction, the instruction, and the changes."""
+    """A step: its number, the address of its instruction, the status and the stack pointers before it, the instruction,
+    and the changes."""
+    number: int
     address: int
+    before: tuple
     text: str
     changes: list
 
@@ -53,15 +59,21 @@ def step_of(line):
     found = STEP.fullmatch(line)
     if not found:
         return None
-    changes = [change for part in found[3].split() for change in changes_of(part)]
-    return Step(int(found[1], 16), found[2], changes)
+    number, address, *before, text, parts = found.groups()
+    changes = [change for part in parts.split() for change in changes_of(part)]
+    return Step(int(number), int(address, 16), tuple(int(byte, 16) for byte in before), text, changes)
+
+
+def is_before(step, memory):
+    """Whether the cells that the line of a step shows have these values before it."""
+    return step.before == tuple(memory[at] for at in SHOWN_BEFORE)
 
 
 def state_shown(rest):
     """The address of the next instruction, and the memory, that the end of a report shows."""
     shown, state = dump(rest), STATE.search(rest)
     if shown is None or state is None:
-        raise command.Stopped('the program wrote no state')
+        raise no_report('no state')
     memory = bytearray(END)
     memory[CELLS:CELLS_END] = shown.pad[:CELLS_END - CELLS]
     memory[VIDEO:VIDEO + len(shown.vdp)] = shown.vdp
@@ -69,35 +81,33 @@ def state_shown(rest):
     return int(state[1], 16), memory
 
 
-def state_made(run_first, steps):
-    """The memory that the changes of all steps lead to."""
-    memory = bytearray(END)
-    make(memory, run_first)
-    for step in steps:
-        make(memory, step.changes)
-    return memory
-
-
-def ending(rest, steps, cut):
+def ending(report, limit):
     """How a run ended, as a sentence; and whether with an error."""
-    if cut:
-        return only(steps, cut), False
-    found = END_LINE.match(rest)
+    steps = len(report.steps)
+    if report.cut:
+        return only(steps, report.cut), False
+    found = END_LINE.match(report.rest)
+    if (found or STATE.match(report.rest)) is None or (not found and steps != limit):
+        raise no_report('no end of a run')
+    is_stopped = bool(found and found[2])
+    if is_stopped != (report.status == 7):
+        raise no_report(f'a run that ended with status {report.status}')
     if not found:
         return f'Cut off after {counted(steps)}, the limit.', False
-    if found[1] == 'exit':
-        return f'Ended by EXIT at >{found[3]} after {counted(steps)}.', False
-    return f'Stopped at >{found[3]} after {counted(steps)}: {REASONS[int(found[2])]}.', True
+    if is_stopped:
+        return f'Stopped at >{found[3]} after {counted(steps)}: {REASONS[int(found[2])]}.', True
+    return f'Ended by EXIT at >{found[3]} after {counted(steps)}.', False
 
 
 def run_of(bench, debugger, source, limit, seconds):
     """The run of a GPL source that the program accepts, up to a number of steps."""
-    steps, rest, cut = reported(debugger, ['gsteps', str(limit)], source, step_of, seconds)
-    if cut:
+    report, first = reported(debugger, ['gsteps', str(limit)], source, step_of, seconds), first_state()
+    steps, memory = replayed(first, report.steps, is_before)
+    end, stopped = ending(report, limit)
+    rest = report.rest
+    if report.cut:
         rest = bench.run('run', str(len(steps)), given=source).out.decode('latin-1')
     last, shown = state_shown(rest)
-    first = first_state()
-    if state_made(first, steps) != shown:
-        raise command.Stopped('the changes of the steps do not lead to the last state, so there is no page')
-    end, stopped = ending(rest, len(steps), cut)
-    return Run(steps, last, first, end, stopped, cut)
+    if memory != shown:
+        raise not_led_to()
+    return Run(steps, last, first, end, stopped, report.cut)

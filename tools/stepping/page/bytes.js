@@ -57,13 +57,18 @@ function partTable(id, first, size) {
     if (offset < part.from || offset >= part.from + 16 * ROWS) part.from = offset & (size - 16)
   }
 
+  const writeFrom = () => { from.value = hex(part.from).slice(1) }
   from.onchange = () => {
-    const at = parseInt(from.value, 16)
-    if (at >= 0 && at < size) part.show(at)
+    const at = /^ *>?([0-9A-F]+) *$/i.exec(from.value)
+    if (at && parseInt(at[1], 16) < size) {
+      follow.checked = false
+      part.show(parseInt(at[1], 16))
+    }
+    writeFrom()
   }
   views.push(() => {
     followChanges()
-    if (document.activeElement !== from) from.value = hex(part.from).slice(1)
+    if (document.activeElement !== from) writeFrom()
     buttons.forEach((button, i) => drawByte(button, placeAt(part.from + i)))
     for (let row = 0; row < ROWS; row++) {
       const {cells} = table.rows[row + 1], start = part.from + 16 * row
@@ -84,8 +89,18 @@ const videoPart = partTable('video', VIDEO, VIDEO_SIZE)
 function chosenText() {
   const {at, width} = choice, value = width > 1 ? memory[at] << 8 | memory[at + 1] : memory[at]
   const count = choice.steps.length
-  const history = count ? `changed in ${count.toLocaleString('en')} step${count > 1 ? 's' : ''}:` : 'never changed'
-  return `${width > 1 ? 'word at ' : ''}${placeName(at)} is ${hex(value, 2 * width)}, ${value}; ${history}`
+  const history = count ? `changed in ${counted(count)}:` : 'never changed'
+  return `${width > 1 ? 'word' : 'byte'} at ${placeName(at)} is ${hex(value, 2 * width)}, ${value}; ${history}`
+}
+
+const counted = count => `${count.toLocaleString('en')} step${count > 1 ? 's' : ''}`
+
+// of a byte that never changed, that the next one did: the place may be that of a word
+function nextByteText() {
+  const {at, width} = choice, next = at + 1
+  if (width > 1 || choice.steps.length || !isWhole(at) || namesOf.has(next)) return ''
+  const count = stepsThatChange(next, 1).length
+  return count ? `. The byte after it, ${placeName(next)}, changed in ${counted(count)}; w chooses both` : ''
 }
 
 views.push(() => {
@@ -93,7 +108,7 @@ views.push(() => {
   if (choice.at < 0) return
   const list = find('chosen'), numbers = choice.steps
   const from = Math.max(0, numbers.findLastIndex(number => number <= now) - 20)
-  list.replaceChildren(make('div', chosenText()))
+  list.replaceChildren(make('div', chosenText() + nextByteText()))
   for (const number of numbers.slice(from, from + 40))
     list.append(make('button', `${number}`, {className: number === now ? 'now' : '', onclick: () => go(number)}))
   if (from + 40 < numbers.length) list.append(`… ${numbers.length - from - 40} more`)

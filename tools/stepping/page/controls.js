@@ -20,24 +20,34 @@ function play(isOn) {
 }
 
 const textsOfSteps = []
+// the steps that the last search found
+const hits = {wanted: '', steps: []}
 
 function search(forward) {
-  const wanted = find('search').value.trim().toLowerCase()
-  if (!wanted) { find('hits').textContent = ''; return }
+  hits.wanted = find('search').value.trim().toLowerCase()
   if (!textsOfSteps.length)
     for (const step of steps)
       textsOfSteps.push(`${hex(step.at)} ${step.text} ${lines[lineOf[step.at]]?.text ?? ''}`.toLowerCase())
-  const found = textsOfSteps.flatMap((text, i) => text.includes(wanted) ? [i + 1] : [])
-  const to = forward ? found.find(number => number > now) ?? found[0]
-    : found.findLast(number => number < now) ?? found.at(-1)
-  if (to !== undefined) go(to)
-  find('hits').textContent = found.length ? `${found.indexOf(to) + 1} of ${found.length}` : 'none'
+  hits.steps = hits.wanted ? textsOfSteps.flatMap((text, i) => text.includes(hits.wanted) ? [i + 1] : []) : []
+  go((forward ? hits.steps.find(number => number > now) ?? hits.steps[0]
+    : hits.steps.findLast(number => number < now) ?? hits.steps.at(-1)) ?? now)
 }
 
+views.push(() => {
+  const count = hits.steps.length, index = hits.steps.indexOf(now)
+  const found = count ? index < 0 ? `${count} found` : `${index + 1} of ${count}` : 'none'
+  find('hits').textContent = hits.wanted ? found : ''
+})
+
 function setWord(isWord) {
-  const width = isWord && choice.at + 1 !== CELLS_END && choice.at < REGISTERS ? 2 : 1
-  setChoice(choice.at, width)
+  usualWidth = isWord ? 2 : 1
+  setChoice(choice.at, usualWidth)
   go(now)
+}
+
+// the field of the step's number; what is no number leaves the step as it is
+function goToNumber(text) {
+  go(/^ *[0-9]+ *$/.test(text) ? +text : now)
 }
 
 const KEYS = {
@@ -71,7 +81,7 @@ function listen() {
   find('last').onclick = () => go(last)
   find('play').onclick = () => play(!playing)
   find('slider').oninput = event => go(+event.target.value)
-  find('number').onchange = event => go(Math.trunc(+event.target.value))
+  find('number').onchange = event => goToNumber(event.target.value)
   find('search').onkeydown = event => {
     if (event.key === 'Enter') search(!event.shiftKey)
     if (event.key === 'Escape') event.target.blur()

@@ -17,7 +17,8 @@ const last = steps.length
 const nextAt = number => number < last ? steps[number] : data.last
 const nextAddress = number => nextAt(number).at
 
-// without a source, the instructions that the run came to are in the place of its lines
+// Without a source, the instructions that the run came to are in the place of its lines. A program may change its own
+// words: then an address has several texts, and is shown with the one of its moment.
 const lines = data.lines.length
   ? data.lines.map(([text, at, bytes, name], index) =>
     ({text, at, bytes, size: bytes.length / 2, name: name ?? String(index + 1)}))
@@ -36,6 +37,23 @@ steps.forEach((step, index) => {
   stepsOfLines.get(line).push(index + 1)
 })
 const stepsOfLine = line => stepsOfLines.get(line) ?? []
+
+function textOfLine(index, number) {
+  const line = lines[index], numbers = stepsOfLine(index)
+  return hasSource ? line.text : steps[(numbers.findLast(it => it <= number) ?? numbers[0]) - 1].text
+}
+
+// The places of words that instructions of GPL name: operands of an operation of words, indexes and pointers.
+const wordStarts = new Set()
+if (!ofProcessor)
+  for (const text of data.texts) {
+    const ofWords = /^D(?!ECT? |IV )/.test(text) ? text.matchAll(/[ ,](V?)@>([0-9A-F]{4})(?!\()/g) : []
+    for (const [, space, at] of [...ofWords, ...text.matchAll(/(?<=(\(@|\*))>([0-9A-F]{4})/g)])
+      wordStarts.add(parseInt(at, 16) + (space === 'V' ? VIDEO : 0))
+  }
+
+// whether the two bytes from a place on are a word: both in the cells, or in one other part of the memory
+const isWhole = at => at < REGISTERS - 1 && at !== VIDEO - 1 && at !== CELLS_END - 1
 
 // A change is a place, its bytes in hexadecimal, and how often these are there one after the other.
 const lengthOf = change => change[1].length / 2 * (change[2] ?? 1)

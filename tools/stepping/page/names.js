@@ -29,13 +29,14 @@ function bare(at) {
     : at >= VIDEO ? 'V' + hex(at - VIDEO) : hex(at)
 }
 
-// the register of the workspace before the step that has a place, if one has it
-function registerName(at) {
-  const offset = ofProcessor && now ? at - steps[now - 1].wp : -1
+// the register of a workspace that has a place, if one has it
+function registerName(at, wp) {
+  const offset = ofProcessor ? at - wp : -1
   return offset >= 0 && offset < 32 ? [`R${offset >> 1}`] : []
 }
 
-const placeName = at => [...(at < VIDEO ? namesOf.get(at) ?? [] : []), ...registerName(at), bare(at)].join(' ')
+const placeName = at =>
+  [...(at < VIDEO ? namesOf.get(at) ?? [] : []), ...registerName(at, nextAt(now).wp), bare(at)].join(' ')
 
 // an address of GROM with its labels and its line
 function codeName(at) {

@@ -17,6 +17,14 @@ function modeName() {
     'no mode of the manual'
 }
 
+// whether the screen has several characters, and none of them a pattern
+function lacksPatterns() {
+  const names = tableAt(2), patterns = tableAt(4)
+  const codes = [...new Set(Array.from({length: 768}, (_, i) => video(names + i)))]
+  const hasPattern = code => Array.from({length: 8}, (_, line) => video(patterns + 8 * code + line)).some(it => it)
+  return codes.length > 1 && !codes.some(hasPattern)
+}
+
 views.push(() => {
   const names = tableAt(2), colours = tableAt(3), patterns = tableAt(4), backdrop = register(7) % 16
   const isOn = register(1) & 0x40 && modeName() === 'graphics mode I'
@@ -29,8 +37,9 @@ views.push(() => {
         points[point++] = POINTS[(!isOn ? 0 : line >> bit & 1 ? pair >> 4 : pair & 15) || backdrop]
     }
   find('picture').getContext('2d').putImageData(picture, 0, 0)
-  find('mode').textContent = register(1) & 0x40 ? modeName() + (isOn ? '' : ': no picture is drawn')
-    : 'The picture is off (register 1).'
+  const without = lacksPatterns() ? ': no patterns are loaded for the characters shown, so there are colours alone' : ''
+  const more = isOn ? without : ': no picture is drawn'
+  find('mode').textContent = register(1) & 0x40 ? modeName() + more : 'The picture is off (register 1).'
 })
 
 function textRow(from, columns) {

@@ -17,7 +17,7 @@ function lineRow(index) {
   const bytes = line.bytes.slice(0, 8).match(/../g)?.join(' ').toUpperCase() ?? ''
   row.append(make('td'), number, make('td', line.size ? hex(line.at) : ''),
     make('td', bytes + (line.size > 4 ? '…' : ''), {title: line.bytes}), make('td', count ? `×${count}` : ''),
-    make('td', line.text))
+    make('td', textOfLine(index, now)))
   return row
 }
 
@@ -28,6 +28,7 @@ function markRows() {
     row.classList.toggle('made', index === made)
     row.classList.toggle('next', index === next)
     row.classList.toggle('stop', index === next && now === last && data.stopped)
+    if (!hasSource) row.lastChild.textContent = textOfLine(index, now)
   }
 }
 

@@ -32,17 +32,18 @@ const drawStacks = () => find('stacks').replaceChildren(
   stack('Return addresses', RETURN_STACK, FIRST_RETURN, 2,
     at => `${hex(at)} ${codeName(memory[at] << 8 | memory[at + 1])}`))
 
-const wordAt = at => memory[at] << 8 | memory[(at + 1) % 0x10000]
+const wordAt = (held, at) => held[at % 0x10000] << 8 | held[(at + 1) % 0x10000]
 
 // The processor's own registers, those of the workspace, and what the ports hold.
 function drawProcessor() {
-  const {at: pc, wp} = nextAt(now), table = make('table'), isOther = now && steps[now - 1].wp !== wp
+  const {at: pc, wp} = nextAt(now), {wp: old} = nextAt(Math.max(0, now - 1)), table = make('table')
   for (let first = 0; first < 4; first++) {
     const row = make('tr')
     for (let number = first; number < 16; number += 4) {
-      const at = (wp + 2 * number) % 0x10000, isChanged = isOther || changed.has(at) || changed.has(at + 1)
-      row.append(make('th', `R${number}`),
-        make('td', hex(wordAt(at)), {className: isChanged ? 'changed' : '', onclick: () => choose(at)}))
+      const value = wordAt(memory, wp + 2 * number), isChanged = value !== wordAt(before, old + 2 * number)
+      const at = (wp + 2 * number) % 0x10000, cell = make('td', undefined, {className: isChanged ? 'changed' : ''})
+      cell.append(make('button', hex(value), {title: `Choose R${number}`, onclick: () => choose(at, 2)}))
+      row.append(make('th', `R${number}`), cell)
     }
     table.append(row)
   }
@@ -53,12 +54,13 @@ function drawProcessor() {
 
 views.push(ofProcessor ? drawProcessor : drawStacks)
 
-function namedRow(name, at, isNamed) {
+function namedRow(name, at) {
   const row = make('tr', undefined, {onclick: () => choose(at)}), cell = make('td')
   cell.append(make('button', name, {title: `Choose ${hex(at)}`}))
-  const word = isNamed && at + 1 < CELLS_END ? `word ${byte(memory[at])}${byte(memory[at + 1])}` : ''
-  row.append(cell, make('td', hex(at)), make('td', byte(memory[at]), {className: changed.has(at) ? 'changed' : ''}),
-    make('td', word))
+  const width = wordStarts.has(at) && isWhole(at) ? 2 : 1
+  const isChanged = changed.has(at) || (width > 1 && changed.has(at + 1))
+  row.append(cell, make('td', hex(at)),
+    make('td', valueText(memory, {at, width}), {className: isChanged ? 'changed' : ''}))
   return row
 }
 
@@ -67,6 +69,6 @@ find('names').hidden = ofProcessor
 const cellNames = data.names.filter(([, value]) => value >= CELLS && value < CELLS_END).sort((a, b) => a[1] - b[1])
 
 views.push(() => {
-  find('named').replaceChildren(...cellNames.map(([name, value]) => namedRow(name, value, true)))
-  find('meanings').replaceChildren(...[...MEANINGS].slice(0, 8).map(([at, name]) => namedRow(name, at, false)))
+  find('named').replaceChildren(...cellNames.map(([name, value]) => namedRow(name, value)))
+  find('meanings').replaceChildren(...[...MEANINGS].slice(0, 8).map(([at, name]) => namedRow(name, at)))
 })

@@ -1,19 +1,38 @@
 // What the step did, in words; and the steps around it.
 
-function changeText(change) {
-  const size = lengthOf(change), [at] = change
-  if (size > 4) {
-    const text = Array.from(memory.subarray(at, at + Math.min(size, 16)), character).join('')
-    return `${placeName(at)} and ${size - 1} more: “${text}”`
+// A place that changed, as it is shown: a register or another word that it is a byte of, or the byte alone.
+function unitOf(at, wp) {
+  const register = registerName(at, wp)
+  if (register.length) return {at: at - (at - wp) % 2, width: 2, name: register[0]}
+  if (at >= LATCHES) {
+    const word = [0, 5].map(offset => LATCHES + offset).find(start => at === start || at === start + 1)
+    return {at: word ?? at, width: word === undefined ? 1 : 2, name: bare(word ?? at)}
   }
-  return Array.from({length: size}, (_, i) => at + i)
-    .map(place => `${placeName(place)} ${byte(before[place])}→${byte(memory[place])}`).join(', ')
+  const start = wordStarts.has(at - 1) ? at - 1 : at
+  return {at: start, width: wordStarts.has(start) && isWhole(start) ? 2 : 1, name: placeName(start)}
 }
 
-function changesText(changes) {
-  if (!changes.length) return '  changed nothing'
-  const more = changes.length > 8 ? [`and ${changes.length - 8} more places`] : []
-  return `  changed ${[...changes.slice(0, 8).map(changeText), ...more].join(', ')}`
+const valueText = (held, {at, width}) => width > 1 ? hex(held[at] << 8 | held[at + 1]).slice(1) : byte(held[at])
+
+// what changed, each word once
+function changeTexts(changes, wp) {
+  const texts = new Map()
+  for (const change of changes) {
+    const size = lengthOf(change), [at] = change
+    if (size > 4) {
+      const text = Array.from(memory.subarray(at, at + Math.min(size, 16)), character).join('')
+      texts.set(at, `${placeName(at)} and ${size - 1} more: “${text}”`)
+    } else for (let i = 0; i < size; i++) {
+      const unit = unitOf(at + i, wp)
+      texts.set(unit.at, `${unit.name} ${valueText(before, unit)}→${valueText(memory, unit)}`)
+    }
+  }
+  return [...texts.values()]
+}
+
+function changesText({changes, wp}) {
+  const texts = changeTexts(changes, wp), more = texts.length > 8 ? [`and ${texts.length - 8} more places`] : []
+  return texts.length ? `  changed ${[...texts.slice(0, 8), ...more].join(', ')}` : '  changed nothing'
 }
 
 function nextText() {
@@ -27,7 +46,7 @@ views.push(() => {
   const made = find('made'), step = steps[now - 1]
   made.replaceChildren()
   if (step)
-    made.append(`${now}: `, make('b', step.text), ` at ${codeName(step.at)}`, changesText(step.changes))
+    made.append(`${now}: `, make('b', step.text), ` at ${codeName(step.at)}`, changesText(step))
   else made.append('Before the first step.')
   made.append(make('span', nextText(), {className: 'next'}))
 })

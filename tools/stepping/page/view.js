@@ -2,7 +2,9 @@
 
 const views = []
 let now = 0, memory = memoryAt(0), before = memory, changed = new Set()
+// the chosen place, its width and the steps that change it; and the width of a place that is not known for a word
 const choice = {at: -1, width: 1, steps: []}
+let usualWidth = 1
 
 function go(number) {
   now = Math.max(0, Math.min(last, number))
@@ -20,18 +22,19 @@ const isChosen = at => choice.at >= 0 && at >= choice.at && at < choice.at + cho
 
 function setChoice(at, width) {
   choice.at = at
-  choice.width = width
-  choice.steps = at < 0 ? [] : stepsThatChange(at, width)
+  choice.width = isWhole(at) ? width : 1
+  choice.steps = at < 0 ? [] : stepsThatChange(at, choice.width)
 }
 
-// A first click chooses a place; one on the chosen place goes to the step that changed it last.
-function choose(at) {
-  if (isChosen(at)) {
+// A first click chooses a place, as a word if it is known for one; one on the chosen place goes to the step that
+// changed it last.
+function choose(at, width) {
+  if (isChosen(at) && (width ?? choice.width) === choice.width) {
     const isMade = [...changed].some(isChosen)
     const to = choice.steps.findLast(number => number < now || (number === now && !isMade))
     if (to !== undefined) return go(to)
   }
-  setChoice(at, choice.width)
+  setChoice(at, width ?? (wordStarts.has(at) ? 2 : usualWidth))
   go(now)
 }
 
@@ -61,5 +64,6 @@ function readFragment() {
   const given = new URLSearchParams(location.hash.slice(1))
   const at = placeOf(given.get('at') ?? '')
   if (at >= 0) setChoice(at, given.has('word') ? 2 : 1)
-  go(parseInt(given.get('step') ?? '0', 10) || 0)
+  const number = given.get('step') ?? ''
+  go(/^[0-9]+$/.test(number) ? +number : now)
 }
