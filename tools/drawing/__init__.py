@@ -1,0 +1,1 @@
+"""Pictures as patterns and colours of characters."""

@@ -1,0 +1,45 @@
+"""Lines that are taken one after the other, each with its place."""
+from expanding.places import Place, Refused, Within
+
+
+class Lines:
+    """The lines of a file, or those that the use of a macro stands for, with the depth of their file. Those of a use
+    have a scope of their own for local labels."""
+
+    def __init__(self, texts, place_of, depth=0, scope=None):
+        self.texts, self.place_of, self.depth, self.scope = texts, place_of, depth, scope
+        # how many are taken, and the numbers of the lines IF that are open, each with whether its ELSE was there
+        self.number, self.open = 0, []
+
+    def __iter__(self):
+        while self.number < len(self.texts):
+            self.number += 1
+            yield self.texts[self.number - 1]
+
+    @property
+    def place(self):
+        """The place of the line that was taken last."""
+        return self.place_of(self.number)
+
+    @property
+    def text(self):
+        return self.texts[self.number - 1]
+
+    def refused(self, cause, number=None):
+        """The refusal of the line that was taken last, or of another one."""
+        number = number or self.number
+        return Refused(self.place_of(number), cause, self.texts[number - 1])
+
+
+def of_file(name, data, depth=0, scope=None):
+    """The lines of a file."""
+    texts = data.decode('latin-1').split('\n')
+    return Lines(texts[:-1] if texts[-1] == '' else texts, lambda number: Place(name, number), depth, scope)
+
+
+def of_use(macro, texts, place, depth, scope):
+    """The lines that the use of a macro at a place stands for."""
+    def place_of(number):
+        within = Within(macro.name, macro.file, macro.first + number - 1)
+        return Place(place.file, place.number, place.within + (within,))
+    return Lines(texts, place_of, depth, scope)
