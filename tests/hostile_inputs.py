@@ -46,8 +46,9 @@ def load_examples():
 def load_files():
     """The files that examples name, with their bytes."""
     folder = pathlib.Path(__file__).resolve().parent.parent / 'examples'
-    return {path.name: path.read_bytes() for path in sorted(folder.glob('*/*'))
-            if path.name not in ('words', 'then', 'input', 'expected', 'README.md')}
+    return {path.name: path.read_bytes() for words in sorted(folder.glob('*/words'))
+            for path in sorted(words.parent.iterdir())
+            if path.is_file() and path.name not in ('words', 'then', 'input', 'expected', 'README.md')}
 
 
 EXAMPLES = load_examples()

@@ -1,7 +1,10 @@
 """Tests of tools/archive."""
+import pathlib
+import subprocess
+import time
 import unittest
 
-from calling import Calling
+from calling import TOOLS, Calling, is_running
 
 IMAGE = bytes.fromhex('AA 00 BE 00 05 0B')
 MAIN = b' REF TABLE\nS DATA TABLE\n END S\n'
@@ -62,9 +65,77 @@ class Archive(Calling):
         self.assertEqual((status, rows[0]), (1, 'broken.a99  failed     Input/output error'))
         self.assertEqual(rows[1], 'image.bin   same       6 bytes')
 
-    def test_a_name_cannot_make_a_row(self):
+    def test_a_name_cannot_make_a_row_or_move_a_cursor(self):
         self.file('a\tb\nc\\.bin', IMAGE)
-        self.assertEqual(self.rows('--tsv')[1][1:], ['a\\tb\\nc\\\\.bin\tsame\t6 bytes\t'])
+        self.file('b\x1b[2J\x9b.bin', IMAGE)
+        self.assertEqual(self.rows('--tsv')[1][1:], ['a\\tb\\nc\\\\.bin\tsame\t6 bytes\t',
+                                                     'b\\x1b[2J\\xc2\\x9b.bin\tsame\t6 bytes\t'])
+
+    def test_only_a_refused_source_is_called_copied(self):
+        self.file('a.asm', b' COPY "b.a"\n END\n')
+        self.file('b.a', b'S JMP $\n END S\n')
+        self.assertIn('b.a    linked     entry >A000', self.rows()[1])
+
+    def test_of_a_large_file_no_more_is_read_than_the_program_reads(self):
+        with open(self.folder / 'disk.bin', 'wb') as file:
+            file.truncate(1 << 40)
+        self.assertEqual(self.rows()[1][0], 'disk.bin  refused    too large')
+
+    def fake(self, text):
+        """A program that knows its input as $given, and lists it as it is."""
+        path = self.file('fake', b'#!/bin/sh\ngiven=$(cat)\n' + text + b'\nprintf %s "$given"\n')
+        path.chmod(0o755)
+        return path
+
+    def test_each_row_is_written_as_it_comes(self):
+        for name in ('a', 'b', 'c'):
+            self.file(f'images/{name}.bin', name.encode())
+        fake = self.fake(b'[ "$given" = a ] || while ! [ -e go ] && ! [ -e ../go ]; do sleep 0.05; done')
+        with subprocess.Popen([TOOLS / 'archive', '--tsv', '--program', fake, 'images'], cwd=self.folder,
+                              stdout=subprocess.PIPE) as running:
+            rows = [running.stdout.readline() for _ in range(2)]
+            self.assertEqual(rows, [b'name\tresult\tmore\tlabel\n', b'a.bin\tsame\t1 bytes\t\n'])
+            self.assertIsNone(running.poll())
+            self.file('go', b'')
+            self.assertEqual(running.stdout.read(), b'b.bin\tsame\t1 bytes\t\nc.bin\tsame\t1 bytes\t\n')
+
+    def test_a_process_that_is_ended_costs_no_row_but_that_of_its_file(self):
+        for number in range(6):
+            self.file(f'images/{number}.bin', b'KILL' if number in (1, 4) else b'x')
+        fake = self.fake(b'[ "$given" != KILL ] || kill -9 "$PPID"')
+        for jobs in ('1', '3'):
+            ended = self.call('archive', '-j', jobs, '--program', fake, 'images')
+            self.assertEqual((ended.returncode, ended.stderr), (1, b''))
+            killed = 'failed     the process that tried it was ended'
+            self.assertEqual(ended.stdout.decode().splitlines(), [
+                f'{number}.bin  {killed if number in (1, 4) else "same       1 bytes"}' for number in range(6)]
+                + ['6 files: 4 same, 0 different, 2 failed'])
+
+    def test_a_folder_that_vanishes_costs_no_other_row(self):
+        for name in ('a/1.bin', 'b/2.bin', 'b/3.bin'):
+            self.file(f'images/{name}', name.encode())
+        fake = self.fake(b'[ "$given" != a/1.bin ] || rm -rf ../b')
+        rows = self.call('archive', '-r', '-j', '1', '--program', fake, 'images').stdout.decode().splitlines()
+        self.assertEqual(rows[:3], ['a/1.bin  same       7 bytes', 'b/2.bin  failed     No such file or directory',
+                                    'b/3.bin  failed     No such file or directory'])
+        self.assertEqual(self.call('archive', '-r', '--program', self.fake(b'rm -rf ../a'), 'images').stdout,
+                         b'a/1.bin  failed     images/a: No such file or directory\n1 file: 0 same, 0 different, '
+                         b'1 failed\n')
+
+    def test_no_process_is_left_whatever_ends_it(self):
+        for number in range(4):
+            self.file(f'images/{number}.bin', b'x')
+        fake = self.fake(b'touch "$0.begun"; exec sleep 30')
+        with subprocess.Popen([TOOLS / 'archive', '-j', '3', '--program', fake, 'images'], cwd=self.folder) as running:
+            while not (self.folder / 'fake.begun').exists():
+                time.sleep(0.05)
+            children = pathlib.Path(f'/proc/{running.pid}/task/{running.pid}/children').read_text().split()
+            running.kill()
+        self.assertGreater(len(children), 0)
+        latest = time.monotonic() + 20
+        while any(map(is_running, children)) and time.monotonic() < latest:
+            time.sleep(0.1)
+        self.assertEqual([child for child in children if is_running(child)], [])
 
     def test_one_file_is_counted_as_one(self):
         self.file('image.bin', IMAGE)

@@ -8,10 +8,13 @@ import shutil
 import subprocess
 import time
 
-from calling import TOOLS, TOP, Calling
+from calling import TOOLS, TOP, Calling, hearing
+from lib import target
 
 RT = """#!/bin/sh
+[ "$1" != version ] || exec echo rattle-kit-0x of a test
 echo $$ >>"$CALLS"
+cat >"$CALLS.input"
 mkdir -p ../low/out/rlib/low.rlib
 [ -z "$SECONDS_LONG" ] || sleep "$SECONDS_LONG"
 [ -z "$FAILS" ] || exit 1
@@ -67,6 +70,7 @@ class Built(Repository):
             ended = self.ti_bench('run', '5')
             self.assertEqual((ended.returncode, ended.stdout), (0, 'built run 5\n'))
         self.assertEqual(self.builds(), 1)
+        self.assertEqual((self.folder / 'calls.input').read_bytes(), b'S EXIT\n END S\n')
 
     def test_a_source_builds_it_again_if_the_program_uses_its_crate(self):
         self.ti_bench('demo')
@@ -84,6 +88,22 @@ class Built(Repository):
         ended = self.ti_bench('demo', toolchain=False)
         self.assertEqual((ended.returncode, ended.stdout), (0, 'built demo\n'))
         self.assertIn('crates/low/src/lib.rt is newer than the program', ended.stderr)
+
+    def test_what_is_built_says_which_kit_has_proved_it(self):
+        self.ti_bench('demo')
+        self.assertEqual(target.kit_of(self.program), 'rattle-kit-0x of a test')
+        self.assertIsNone(target.kit_of(self.top / 'crates/ti_debug/out/ti_debug'))
+        self.program.write_bytes(self.program.read_bytes() + b'#\n')
+        self.assertIsNone(target.kit_of(self.program))
+        ended = self.ti_bench('--kit', command=self.top / 'tools/built')
+        self.assertEqual((ended.returncode, ended.stdout), (3, ''))
+        self.ti_bench('list', command=self.top / 'ti_debug')
+        target.kit_file(self.program).unlink()
+        builds = self.builds()
+        self.assertEqual(self.ti_bench('--kit', command=self.top / 'tools/built').stdout, '')
+        self.assertEqual({target.kit_of(self.top / f'crates/{name}/out/{name}') for name in ('ti_bench', 'ti_debug')},
+                         {'rattle-kit-0x of a test'})
+        self.assertEqual(self.builds(), builds)
 
     def test_a_build_that_fails_names_its_log(self):
         ended = self.ti_bench('demo', FAILS='1')
@@ -105,7 +125,7 @@ class Built(Repository):
         debug, link = self.top / 'ti_debug', self.folder / 'a link'
         link.symlink_to(debug)
         self.file(self.top / 'CHANGELOG.md', b'# Changes\n\n## 1.2\n')
-        self.assertEqual(self.ti_bench('--version', command=link).stdout, 'ti_debug 1.2\n')
+        self.assertEqual(self.ti_bench('--version', command=link).stdout, 'ti_debug 1.2+unreleased\n')
         self.assertIn('gsteps N', self.ti_bench('--help', command=debug).stdout)
         self.assertEqual(self.builds(), 0)
         for command in (debug, link):
@@ -114,7 +134,7 @@ class Built(Repository):
 
     def test_help_and_version_build_nothing(self):
         self.file(self.top / 'CHANGELOG.md', b'# Changes\n\n## 1.2\n\n- All.\n')
-        self.assertEqual(self.ti_bench('--version').stdout, 'ti_bench 1.2\n')
+        self.assertEqual(self.ti_bench('--version').stdout, 'ti_bench 1.2+unreleased\n')
         self.file(self.top / 'CHANGELOG.md', b'# Changes\n\n## Unreleased\n\n- More.\n\n## 1.2\n\n- All.\n')
         self.assertEqual(self.ti_bench('--version').stdout, 'ti_bench 1.2+unreleased\n')
         self.assertEqual(self.ti_bench('--help').stdout, self.ti_bench('-h').stdout)
@@ -127,15 +147,82 @@ class Built(Repository):
         self.assertEqual((ended.returncode, ended.stderr),
                          (3, b'tools/version: standard output: No space left on device\n'))
 
-    def test_a_version_after_a_number_has_the_commit(self):
-        self.file(self.top / 'CHANGELOG.md', b'# Changes\n\n## Unreleased\n\n## 1.2\n')
-        self.file(self.top / '.gitignore', b'__pycache__/\n')
-        mine = ['git', '-C', self.top, '-c', 'user.name=A', '-c', 'user.email=a@example', '-c', 'core.hooksPath=none']
+    def git(self, *words):
+        """Calls git in the repository, as somebody, without the hooks of the user."""
+        subprocess.run(['git', '-C', self.top, '-c', 'user.name=A', '-c', 'user.email=a@example', '-c',
+                        'core.hooksPath=none', *words], check=True, capture_output=True)
+
+    def test_a_version_is_a_number_alone_at_its_tag_with_no_other_files(self):
+        self.file(self.top / 'CHANGELOG.md', b'# Changes\n\n## 1.2\n')
+        self.file(self.top / '.gitignore', b'__pycache__/\nout/\n')
         for words in (['init', '-q'], ['add', '.'], ['commit', '-q', '-m', 'All', '--date', '2026-01-02T03:04:05Z']):
-            subprocess.run([*mine, *words], check=True, capture_output=True)
-        self.assertRegex(self.ti_bench('--version').stdout, r'^ti_bench 1\.2\+git[0-9]{8}\.[0-9a-f]{8}\n$')
+            self.git(*words)
+        after = r'^ti_bench 1\.2\+git[0-9]{8}\.[0-9a-f]{8}'
+        self.assertRegex(self.ti_bench('--version').stdout, rf'{after}\n$')
+        self.git('tag', '1.1')
+        self.assertRegex(self.ti_bench('--version').stdout, rf'{after}\n$')
+        self.git('tag', '-a', '-m', 'A release', '1.2')
+        self.assertEqual(self.ti_bench('--version').stdout, 'ti_bench 1.2\n')
+        new = self.file(self.top / 'docs/new.md', b'')
+        self.assertRegex(self.ti_bench('--version').stdout, rf'{after}\.modified\n$')
+        new.unlink()
         self.file(self.top / 'crates.txt', b'# other crates\n')
-        self.assertRegex(self.ti_bench('--version').stdout, r'\.modified\n$')
+        self.assertRegex(self.ti_bench('--version').stdout, rf'{after}\.modified\n$')
+        self.git('commit', '-q', '-a', '-m', 'More')
+        self.assertRegex(self.ti_bench('--version').stdout, rf'{after}\n$')
+        self.file(self.top / 'CHANGELOG.md', b'# Changes\n\n## Unreleased\n\n## 1.2\n')
+        self.git('commit', '-q', '-a', '-m', 'More yet')
+        self.git('tag', '-f', '1.2')
+        self.assertRegex(self.ti_bench('--version').stdout, rf'{after}\n$')
+
+    def test_what_git_refuses_is_said(self):
+        self.file(self.top / 'CHANGELOG.md', b'# Changes\n\n## 1.2\n')
+        self.file('bin/git', b'#!/bin/sh\necho "fatal: detected dubious ownership in repository" >&2\nexit 128\n')
+        (self.folder / 'bin/git').chmod(0o755)
+        (self.top / '.git').mkdir()
+        ended = self.ti_bench('--version')
+        self.assertEqual((ended.stdout, ended.stderr),
+                         ('ti_bench 1.2+unreleased\n',
+                          'tools/version: git: fatal: detected dubious ownership in repository\n'))
+
+
+class Unasked(Repository):
+    """Tools that need a program, where none is built, or an old one."""
+
+    def tool(self, *words):
+        """How a call of a tool of the repository ends."""
+        return subprocess.run([self.top / 'tools' / words[0], *words[1:]], capture_output=True, text=True,
+                              cwd=self.folder, env=self.environment())
+
+    def test_no_tool_builds_a_program(self):
+        self.file('a.gpl', b'')
+        self.file('images/a.bin', b'x')
+        for words in (['assemble', 'a.gpl'], ['label', 'gdis', '6000'], ['steps', 'a.gpl'], ['archive', 'images'],
+                      ['watch', 'a.gpl', '5', 'pad:8300'], ['install', 'prefix'], ['release', 'made']):
+            ended = self.tool(*words)
+            self.assertEqual((ended.returncode, ended.stdout), (3, ''), words)
+            self.assertEqual(ended.stderr, f'tools/{words[0]}: no program is built: ./ti_bench builds it, or set '
+                                           'TI_BENCH\n')
+        self.assertEqual((self.builds(), (self.folder / 'prefix').exists(), (self.folder / 'made').exists()),
+                         (0, False, False))
+        self.ti_bench('demo')
+        ended = self.tool('steps', 'a.gpl')
+        self.assertEqual((ended.returncode, ended.stderr), (3, 'tools/steps: no program is built: ./ti_debug builds '
+                                                               'it, or set TI_DEBUG\n'))
+        self.assertEqual(self.builds(), 1)
+
+    def test_an_old_program_is_used_and_said_to_be_old(self):
+        self.file('a.gpl', b'')
+        self.ti_bench('demo')
+        self.age('crates/other/src/lib.rt')
+        self.assertEqual((self.tool('assemble', 'a.gpl').stdout, self.tool('assemble', 'a.gpl').stderr),
+                         ('built gasm\n', ''))
+        self.age('crates/low/src/lib.rt')
+        ended = self.tool('assemble', 'a.gpl')
+        self.assertEqual((ended.returncode, ended.stdout), (0, 'built gasm\n'))
+        self.assertEqual(ended.stderr, 'tools/assemble: crates/low/src/lib.rt is newer than the program; ./ti_bench '
+                                       'builds it anew\n')
+        self.assertEqual(self.builds(), 1)
 
 
 class Stopped(Repository):
@@ -151,17 +238,16 @@ class Stopped(Repository):
 
     def test_a_signal_to_the_command_alone_stops_the_build(self):
         running = subprocess.Popen([self.top / 'ti_bench', 'demo'], cwd=self.folder, stderr=subprocess.DEVNULL,
-                                   env=self.environment(SECONDS_LONG='60'))
+                                   env=self.environment(SECONDS_LONG='60'), preexec_fn=hearing)
         while not self.calls.exists() or not self.calls.read_text():
             time.sleep(0.1)
         running.terminate()
         self.assertEqual(running.wait(), 70)
         self.assert_ended()
 
-    def test_a_signal_to_a_tool_stops_the_build(self):
-        self.file('a.gpl', b'')
-        running = subprocess.Popen([self.top / 'tools/assemble', 'a.gpl'], cwd=self.folder, stderr=subprocess.DEVNULL,
-                                   env=self.environment(SECONDS_LONG='60'))
+    def test_a_signal_to_the_tool_that_builds_stops_the_build(self):
+        running = subprocess.Popen([self.top / 'tools/built'], cwd=self.folder, stderr=subprocess.DEVNULL,
+                                   env=self.environment(SECONDS_LONG='60'), preexec_fn=hearing)
         while not self.calls.exists() or not self.calls.read_text():
             time.sleep(0.1)
         running.terminate()
@@ -171,6 +257,7 @@ class Stopped(Repository):
     def test_on_a_terminal_it_shows_how_far_it_is_and_ctrl_c_stops_it(self):
         child, terminal = pty.fork()
         if not child:
+            hearing()
             os.chdir(self.folder)
             os.execve(self.top / 'ti_bench', ['ti_bench', 'demo'], self.environment(SECONDS_LONG='60'))
         self.addCleanup(os.close, terminal)

@@ -48,5 +48,39 @@ class Documents(Calling):
         self.assertEqual(self.documents().returncode, 0)
 
 
+class Examples(Calling):
+    SOURCE = b'S ST @>8300,5\n EXIT\n END S\n'
+
+    def setUp(self):
+        super().setUp()
+        for name, words, expected in (('good', b'gasm\n', bytes.fromhex('BE 00 05 0B')), ('wrong', b'gasm\n', b'x'),
+                                      ('refused', b'asm\n', b'old')):
+            self.file(f'mine/{name}/words', words)
+            self.file(f'mine/{name}/input', self.SOURCE)
+            self.file(f'mine/{name}/expected', expected)
+
+    def examples(self, *words):
+        """How a run over these examples ends: its status, its lines, and what is expected after it."""
+        ended = subprocess.run([TOP / 'examples/run', '--folder', 'mine', *words, os.environ['TI_BENCH']],
+                               capture_output=True, cwd=self.folder)
+        self.assertEqual(ended.stderr, b'')
+        kept = {path.parent.name: path.read_bytes() for path in self.folder.glob('mine/*/expected')}
+        return ended.returncode, ended.stdout.decode().splitlines(), kept
+
+    def test_what_is_not_as_expected_is_named_and_left(self):
+        status, lines, kept = self.examples()
+        self.assertEqual((status, lines), (1, ['example good: as expected', 'example refused: not as expected',
+                                               'example wrong: not as expected']))
+        self.assertEqual((kept['refused'], kept['wrong']), (b'old', b'x'))
+
+    def test_what_an_example_writes_becomes_what_is_expected(self):
+        status, lines, kept = self.examples('--write')
+        self.assertEqual((status, lines), (1, ['example good: as expected', 'example refused: not as expected',
+                                               'example wrong: written anew']))
+        self.assertEqual((kept['refused'], kept['wrong'], kept['good']), (b'old', kept['good'],
+                                                                         bytes.fromhex('BE 00 05 0B')))
+        self.assertEqual(self.examples()[1][2], 'example wrong: as expected')
+
+
 if __name__ == '__main__':
     unittest.main()

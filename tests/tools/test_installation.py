@@ -1,18 +1,52 @@
 """Tests of lib.installation, lib.distribution and lib.elf. tests/install tries whole installations."""
+import contextlib
+import errno
 import os
 import pathlib
 import re
 import shutil
 import subprocess
+import sys
+from unittest import mock
 
 from calling import TOP, Calling
-from lib import command, distribution, elf
+from lib import command, distribution, elf, target
 from lib.distribution import File, Link
 from lib.installation import LIST, Installation
+from lib.program import other
 
 FIRST = {'lib/ti_bench/tools/a': File(b'one', True), 'lib/ti_bench/lib/m.py': File(b'm = 1\n'),
          'bin/a': Link('lib/ti_bench/tools/a')}
 SECOND = {'lib/ti_bench/tools/b': File(b'two'), 'bin/a': Link('lib/ti_bench/tools/b')}
+
+
+class Failing:
+    """Calls of the system that make or remove something: the one with a number fails, as on a full disk."""
+
+    CALLS = ('open', 'write', 'replace', 'mkdir', 'symlink', 'fchmod', 'chmod', 'unlink')
+
+    def __init__(self, number):
+        self.left, self.failed, self.kept = number, False, contextlib.ExitStack()
+
+    def counted(self, call):
+        def made(*given, **more):
+            if call.__name__ == 'open' and not given[1] & os.O_CREAT:
+                return call(*given, **more)
+            self.left -= 1
+            if self.left == -1:
+                self.failed = True
+                raise OSError(errno.ENOSPC, os.strerror(errno.ENOSPC), *(
+                    given[:1] if call.__name__ in ('mkdir', 'unlink') else ()))
+            return call(*given, **more)
+        return made
+
+    def __enter__(self):
+        for name in self.CALLS:
+            self.kept.enter_context(mock.patch(f'os.{name}', self.counted(getattr(os, name))))
+        return self
+
+    def __exit__(self, *how):
+        self.kept.close()
 
 
 class Installations(Calling):
@@ -55,7 +89,7 @@ class Installations(Calling):
         with self.assertRaisesRegex(command.Stopped, 'bin/a'):
             Installation(self.prefix).put(FIRST)
         self.assertEqual(Installation(self.prefix).remove(), ['bin/a'])
-        self.assertEqual(self.files(), ['a/prefix/bin/a', 'a/prefix/lib/ti_bench/lib/m.py'])
+        self.assertEqual(self.files(), ['a/prefix/bin/a', f'a/prefix/{LIST}', 'a/prefix/lib/ti_bench/lib/m.py'])
 
     def test_one_that_was_stopped_is_made_whole_by_the_next(self):
         class Stopping(Installation):
@@ -68,6 +102,84 @@ class Installations(Calling):
         Installation(self.prefix).put(FIRST)
         with self.assertRaises(KeyboardInterrupt):
             Stopping(self.prefix).put(SECOND)
+        self.assertEqual(Installation(self.prefix).put(SECOND), [])
+        Installation(self.prefix).remove()
+        self.assertEqual(list(self.folder.iterdir()), [])
+
+    def test_one_whose_writing_fails_is_made_whole_by_the_next(self):
+        ways = {'install': (None, SECOND), 'upgrade': (FIRST, SECOND), 'remove': (FIRST, None)}
+        for way, (before, after) in ways.items():
+            number = 0
+            while self.fails_at(number, before, after):
+                number += 1
+            self.assertGreater(number, len(FIRST), way)
+
+    def fails_at(self, number, before, after):
+        """Fails the call of the system with a number, in putting files in the place of those before, or in removing
+        them. The error names a place of the installation, and the next call makes it whole, as does one that removes
+        it. False if there are fewer calls."""
+        def work():
+            return Installation(self.prefix).put(after) if after else Installation(self.prefix).remove()
+
+        for mends in (work, lambda: Installation(self.prefix).list.is_file() and Installation(self.prefix).remove()):
+            if before:
+                Installation(self.prefix).put(before)
+            with Failing(number) as failing:
+                try:
+                    work()
+                    self.assertFalse(failing.failed)
+                except (OSError, command.Stopped) as error:
+                    self.assertRegex(str(getattr(error, 'filename', None) or error), f'^{self.prefix.parent}')
+            if failing.failed:
+                mends()
+            if after and (mends is work or not failing.failed):
+                self.assertEqual(self.files(), [f'a/prefix/{path}' for path in sorted([LIST, *after])])
+                Installation(self.prefix).remove()
+            self.assertEqual(list(self.folder.iterdir()), [], number)
+        return failing.failed
+
+    def test_a_disk_that_is_full_at_any_byte_is_no_end_of_an_installation(self):
+        large = {**SECOND, 'lib/ti_bench/large': File(b'x' * 2000)}
+        failed = 0
+        for before, after in ((None, large), (FIRST, large), (FIRST, SECOND)):
+            for limit in range(0, 2100, 60):
+                if before:
+                    Installation(self.prefix).put(before)
+                error = self.apart(lambda: Installation(self.prefix).put(after), limit)
+                if error:
+                    self.assertRegex(error, f'^{self.prefix}/.*: File too large$')
+                    failed += 1
+                self.assertEqual(Installation(self.prefix).put(after), [])
+                self.assertEqual(self.files(), [f'a/prefix/{path}' for path in sorted([LIST, *after])])
+                self.assertEqual(Installation(self.prefix).remove(), [])
+                self.assertEqual(list(self.folder.iterdir()), [])
+        self.assertGreater(failed, 70)
+
+    def test_a_list_is_kept_while_files_are_left(self):
+        Installation(self.prefix).put(FIRST)
+        changed = self.file('a/prefix/lib/ti_bench/lib/m.py', b'm = 2\n')
+        for _ in range(2):
+            self.assertEqual(Installation(self.prefix).remove(), ['lib/ti_bench/lib/m.py'])
+            self.assertEqual(self.files(), [f'a/prefix/{path}' for path in (LIST, 'lib/ti_bench/lib/m.py')])
+        changed.unlink()
+        self.assertEqual(Installation(self.prefix).remove(), [])
+        self.assertEqual(list(self.folder.iterdir()), [])
+
+    def test_a_list_without_its_end_is_damaged(self):
+        Installation(self.prefix).put(FIRST)
+        path = self.prefix / LIST
+        whole = path.read_bytes()
+        for cut in [0, 1, *range(8, len(whole), 7), len(whole) - 1]:
+            path.write_bytes(whole[:cut])
+            with self.assertRaisesRegex(command.Stopped, f'the list {path} is damaged'):
+                Installation(self.prefix)
+
+    def test_the_list_of_version_1_1_is_one(self):
+        Installation(self.prefix).put(FIRST)
+        path = self.prefix / LIST
+        rows = path.read_text().splitlines(keepends=True)
+        self.assertEqual((rows[0], rows[-1]), ('begin\t\t\n', 'end\t\t\n'))
+        path.write_text(''.join(rows[1:-1]))
         self.assertEqual(Installation(self.prefix).put(SECOND), [])
         Installation(self.prefix).remove()
         self.assertEqual(list(self.folder.iterdir()), [])
@@ -103,6 +215,28 @@ class HandedOut(Calling):
         links = re.findall(r'\]\(([^)]+)\)', listed[1] if listed else '')
         self.assertEqual([link for link in links if link not in found], [])
 
+    def test_all_that_an_installation_has_runs_there(self):
+        placed = distribution.installed(distribution.files(os.environ['TI_BENCH']))
+        for path, file in placed.items():
+            if isinstance(file, File):
+                self.file(path, file.data).chmod(0o755 if file.executable else 0o644)
+        tools = self.folder / 'lib/ti_bench/tools'
+        scripts = {path for path, file in placed.items() if isinstance(file, File) and file.executable}
+        self.assertEqual(scripts, {f'lib/ti_bench/{name}' for name in distribution.PROGRAMS}
+                         | {f'lib/ti_bench/tools/{name}' for name in (*distribution.TOOLS, *distribution.SCRIPTS)})
+        for name in (*distribution.TOOLS, 'install'):
+            ended = subprocess.run([tools / name, '--help'], capture_output=True)
+            self.assertEqual((ended.returncode, ended.stderr), (0, b''), name)
+        modules = ['.'.join(path.relative_to(tools).with_suffix('').parts) for path in tools.rglob('*.py')]
+        self.assertIn('lib.command', modules)
+        ended = subprocess.run([sys.executable, '-c', ''.join(f'import {name}\n' for name in modules)],
+                               cwd=tools, capture_output=True)
+        self.assertEqual(ended.stderr, b'')
+        self.assertEqual([path for path in self.folder.rglob('*.py') if tools not in path.parents], [])
+        ended = subprocess.run([tools / 'install', 'elsewhere'], cwd=self.folder, capture_output=True, text=True)
+        self.assertEqual((ended.returncode, ended.stderr.partition(': ')[2]),
+                         (2, f'{tools.parent} is an installation, which only removes itself\n'))
+
     def test_a_file_that_is_missing_is_named(self):
         with self.assertRaisesRegex(command.Stopped, 'tools/install is missing'):
             distribution.files(os.environ['TI_BENCH'], self.folder)
@@ -122,12 +256,48 @@ class HandedOut(Calling):
             self.assertEqual((ended.returncode, ended.stderr), (2, b'tools/install: the name of the folder is empty\n'))
         self.assertEqual(list(self.folder.iterdir()), [])
 
-    def test_no_release_is_made_if_the_readme_names_another_kit(self):
-        self.file('bin/rt', b'#!/bin/sh\necho rattle-kit-0x more\n').chmod(0o755)
-        ended = self.call('release', 'made', PATH=f'{self.folder}/bin:/usr/bin:/bin', SOURCE_DATE_EPOCH='0')
-        self.assertEqual((ended.returncode, ended.stdout), (1, b''))
-        self.assertRegex(ended.stderr.decode(), r'the toolchain is of rattle-kit-0x, but README\.md .* rattle-kit-\w+$')
+    def release(self, **kits):
+        """How a release of two programs ends, each with a kit that has proved it, or none."""
+        for name in distribution.PROGRAMS:
+            program = self.file(f'built/{name}', b'a program')
+            program.chmod(0o755)
+            target.kit_file(program).unlink(missing_ok=True)
+            if name in kits:
+                self.file(f'built/{name}.kit', f'{kits[name]}\n{target.checksum(program)}\n'.encode())
+        ended = self.call('release', '--program', 'built/ti_bench', 'made', SOURCE_DATE_EPOCH='0', TI_DEBUG='')
         self.assertFalse((self.folder / 'made').exists())
+        return ended.returncode, ended.stderr.decode()
+
+    def test_no_release_is_made_of_programs_of_which_no_kit_is_known(self):
+        kit = f'{distribution.kits_named()[0]} more'
+        for kits in ({}, {'ti_bench': kit}, {'ti_debug': kit}, {'ti_bench': kit, 'ti_debug': 'rattle-kit-0x more'}):
+            status, said = self.release(**kits)
+            self.assertEqual((status, said), (1, f'tools/release: nothing says which kit has proved {self.folder}/built/'
+                                                 'ti_bench and its ti_debug; .ci/run writes that\n'))
+
+    def test_no_release_is_made_if_the_readme_names_another_kit(self):
+        status, said = self.release(ti_bench='rattle-kit-0x more', ti_debug='rattle-kit-0x more')
+        self.assertEqual(status, 1)
+        self.assertRegex(said, r'the programs are proved with rattle-kit-0x more, but README\.md .* rattle-kit-\w+: name')
+        kit = f'{distribution.kits_named()[-1]} more'
+        self.assertNotIn('README', self.release(ti_bench=kit, ti_debug=kit)[1])
+        self.assertRegex(self.release(ti_bench=kit, ti_debug=kit)[1], 'ti_bench is no program for Linux on x86-64')
+
+
+    def test_without_dpkg_deb_there_is_no_package_which_is_said(self):
+        for name in ('env', 'python3'):
+            (self.folder / 'bin').mkdir(exist_ok=True)
+            (self.folder / 'bin' / name).symlink_to(shutil.which(name))
+        programs = {'ti_bench': os.environ['TI_BENCH'], 'ti_debug': other(os.environ['TI_BENCH'], 'ti_debug')}
+        for name, path in programs.items():
+            copy = shutil.copy(path, self.folder / name)
+            mark = target.checksum(pathlib.Path(copy))
+            target.kit_file(copy).write_text(f'{distribution.kits_named()[0]}\n{mark}\n')
+        ended = self.call('release', '--program', self.folder / 'ti_bench', 'made', SOURCE_DATE_EPOCH='0', TI_DEBUG='',
+                          PATH=str(self.folder / 'bin'))
+        archive, said = ended.stdout.decode().splitlines()
+        self.assertEqual((ended.returncode, said), (0, 'no package: there is no dpkg-deb'))
+        self.assertEqual([str(path.relative_to(self.folder)) for path in (self.folder / 'made').iterdir()], [archive])
 
 
 class Libraries(Calling):

@@ -1,13 +1,15 @@
 """Tests of tools/launcher as the commands of an installation: statuses, what it says of them, streams and signals."""
 import os
 import pathlib
+import pty
+import re
 import shutil
 import signal
 import subprocess
 import time
 
-from calling import TOOLS, Calling, hearing
-from lib import distribution
+from calling import TOOLS, TOP, Calling, hearing
+from lib import distribution, program
 
 # a program that ends with a status, or by a signal, or only by one from elsewhere
 ENDS = b"""#!/bin/sh
@@ -45,7 +47,8 @@ class Installed(Calling):
 
 class Launcher(Installed):
     def test_a_status_is_handed_on_and_said_if_the_program_said_nothing(self):
-        said = {3: b'ti_bench: the input or a file could not be read\n',
+        said = {2: b'ti_bench: status is no command; the input comes by standard input; ti_bench --help says more\n',
+                3: b'ti_bench: the input or a file could not be read\n',
                 4: b'ti_bench: the report could not be written\n', 5: b'ti_bench: out of memory\n'}
         for shell in SHELLS:
             for status in range(8):
@@ -123,13 +126,17 @@ class Launcher(Installed):
         self.assertEqual((ended.returncode, ended.stderr.count(b'\n')), (70, 1))
 
 
-class OverTheProgram(Installed):
-    """The launcher over the program itself: what it writes, and how it ends, is the same."""
+class WithProgram(Installed):
+    """Tests with the launcher over the program itself."""
 
     def setUp(self):
         super().setUp()
         shutil.copy(os.environ['TI_BENCH'], self.folder / 'lib/ti_bench/ti_bench')
         self.program = self.folder / 'lib/ti_bench/ti_bench'
+
+
+class OverTheProgram(WithProgram):
+    """What the program writes, and how it ends, is the same."""
 
     def shell(self, line, command):
         """How a line of the shell ends in which the command is $C, with what came on its output."""
@@ -140,7 +147,8 @@ class OverTheProgram(Installed):
     def test_streams_are_handed_on(self):
         self.file('input', b'A INC @>8300\n B A\n END A\n')
         for line in ('"$C" run 5 <input', '"$C" gasm <&-', '"$C" gasm <.', '"$C" demo 2 >&-', '"$C" demo 2 >/dev/full',
-                     '"$C" gasm <&- >&- 2>&-', '"$C" frob 2>&1', '"$C" frob 2>&-', '"$C" gasm <<<" FOO" 2>&1',
+                     '"$C" gasm <&- >&- 2>&-', '"$C" frob 2>&-',
+                     '"$C" frob 2>&1 | sed -n 1p; exit "${PIPESTATUS[0]}"', '"$C" gasm <<<" FOO" 2>&1',
                      '"$C" trace 100000 <input | head -n 3; exit "${PIPESTATUS[0]}"',
                      'cat input | "$C" gasm', '(ulimit -v 200000; "$C" interp)'):
             with self.subTest(line=line):
@@ -151,3 +159,82 @@ class OverTheProgram(Installed):
         ended = subprocess.run(['bash', '-c', '"$C" trace 100000 <input | head -n 1'], capture_output=True,
                                cwd=self.folder, env={'PATH': '/usr/bin:/bin', 'C': str(self.command)})
         self.assertEqual((ended.stdout.count(b'\n'), ended.stderr), (1, b''))
+
+
+# words that are wrong, and what is said of them; `*` is a control code
+WRONG = [
+    ('', 'a command is missing'), ('frob', 'frob is no command'), ('fr*ob', 'fr?ob is no command'),
+    ('glist', 'glist is a command of ti_debug'), ('--help run', '--help is no command'),
+    ('asm x', 'x is a word too many'), ('run 100 hello.gpl', 'hello.gpl is a word too many'),
+    ('run', 'N is missing; N is a number from 0 to 100,000'), ('trace 200000', '200000: N is a number from 0 to 100,000'),
+    ('run 007', '007: N is a number from 0 to 100,000'), ('run x*', 'x?: N is a number'),
+    ('exec 10000001', '10000001: N is a number from 0 to 10,000,000'), ('demo 501', '501: K is a number from 1 to 500'),
+    ('dis 6001', '6001: ADDR is four hexadecimal digits, and even'), ('gdis 60', '60: ADDR is four hexadecimal digits'),
+    ('watch 5', 'ITEM is missing; ITEM is pad:AAAA+LEN within 8300 to 83C1, vdp:AAAA+LEN within 0000 to 3FFF, or pc:'),
+    ('watch 5 pc:6000 pad:8300', 'pad:8300: ITEM is pad:AAAA+LEN'), ('watch 5 vdp:3fff+2', 'vdp:3fff+2: ITEM is'),
+    ('link sub/x', 'sub/x: NAME is a file of this folder, 1 to 60 letters, digits, ., _ and -'),
+]
+# the words at each limit, and beyond it
+LIMITS = [
+    ['run', '0'], ['run', '100000'], ['run', '100001'], ['run', ''], ['run', '-1'], ['run', '0x5'], ['run', '00'],
+    ['trace', '100000'], ['trace', '100001'], ['exec', '10000000'], ['exec', '10000001'], ['exec', '9' * 30],
+    ['demo', '0'], ['demo', '1'], ['demo', '500'], ['demo', '501'], ['dis', '6000'], ['dis', '6001'], ['dis', 'fFfE'],
+    ['dis', '600'], ['dis', '60000'], ['dis', '600g'], ['gdis', 'FFFF'], ['gdis', '>600'], ['link'], ['link', 'a' * 60],
+    ['link', 'a' * 61], ['link', '.a'], ['link', '-a_.9'], ['link', ''], ['link', *'abcdefghijklmnop'],
+    ['link', *'abcdefghijklmnopq'], ['link', 'a', 'b c'], ['interp'], ['interp', 'x'], ['asm'], ['gasm', ''],
+    ['watch', '5', 'pad:8300+194'], ['watch', '5', 'pad:8300+195'], ['watch', '5', 'pad:83C1+1'],
+    ['watch', '5', 'pad:82FF+1'], ['watch', '5', 'pad:83C2+1'], ['watch', '5', 'pad:8300+0'],
+    ['watch', '5', 'pad:8300+01'], ['watch', '5', 'vdp:0000+16384'], ['watch', '5', 'vdp:0000+16385'],
+    ['watch', '5', 'vdp:3fFF+1'], ['watch', '5', 'vdp:4000+1'], ['watch', '5', 'pc:FFFF'], ['watch', '5', 'pc:FFFF+1'],
+    ['watch', '100001', 'pc:0000'], ['watch', '5', *['pc:0000'] * 8], ['watch', '5', *['pc:0000'] * 9],
+    ['watch', '5', 'pc:0000', 'PC:0000'], ['watch', '5', 'pad:8300'], ['watch', '5', 'pad:+1'],
+]
+
+
+class Usage(WithProgram):
+    """What is said if words are wrong, or the input is waited for."""
+
+    def said(self, *words, shell=(), name='ti_bench'):
+        """The status of a call, and the lines that the launcher says."""
+        ended = self.started(*words, shell=shell, name=name, input=b'')
+        return ended.returncode, [line for line in ended.stderr.decode().splitlines() if line.startswith(f'{name}: ')]
+
+    def test_a_line_says_which_word_is_wrong(self):
+        for shell in SHELLS:
+            for words, text in WRONG:
+                status, lines = self.said(*words.replace('*', '\x1b').split(), shell=shell)
+                self.assertEqual((status, len(lines)), (2, 1), words)
+                self.assertTrue(lines[0].startswith(f'ti_bench: {text}'), lines[0])
+                self.assertTrue(lines[0].endswith('; the input comes by standard input; ti_bench --help says more'))
+
+    def test_its_limits_are_those_of_the_program(self):
+        for words in LIMITS:
+            status, lines = self.said(*words)
+            is_refused = program.Program(os.environ['TI_BENCH']).run(*words).status == 2
+            self.assertEqual((status == 2, [line for line in lines if ': the input' in line]), (is_refused, []), words)
+            self.assertEqual(len([line for line in lines if line.endswith(' says more')]), is_refused, words)
+
+    def test_its_limits_are_those_of_the_documents(self):
+        security = (TOP / 'docs/SECURITY.md').read_text('utf-8')
+        row = re.search(r'^\| N of `run`.* of `exec` .* K of `demo` \| (\S+); (\S+); (\S+) \|', security, re.M)
+        for words, limit in (('run x', row[1]), ('exec x', row[2]), ('demo x', row[3])):
+            self.assertIn(f' to {limit}, ', self.said(*words.split())[1][0])
+
+    def test_help_after_a_command_is_help_unless_it_is_a_file(self):
+        for words in (['trace', '--help'], ['link', '-h']):
+            self.assertEqual(self.started(*words).stdout, self.started('--help').stdout)
+        self.file('--help', b'')
+        ended = self.started('link', '--help', cwd=self.folder)
+        self.assertEqual((ended.returncode, ended.stderr), (1, b'no entry\n'))
+        self.assertEqual(self.said('frob', '--help')[0], 2)
+
+    def test_at_a_terminal_it_says_that_it_waits(self):
+        for words, waits in ((['gasm'], True), (['run', '5'], True), (['interp'], False), (['run', 'x'], False),
+                             (['demo', '1'], False), (['link', 'x'], False), (['link'], True)):
+            terminal, end = pty.openpty()
+            os.write(terminal, b'\x04')
+            ended = subprocess.run([self.command, *words], stdin=end, stdout=subprocess.DEVNULL, stderr=subprocess.PIPE,
+                                   cwd=self.folder, preexec_fn=hearing)
+            for descriptor in (terminal, end):
+                os.close(descriptor)
+            self.assertEqual(b'ti_bench: waits for the input, which Ctrl-D ends\n' in ended.stderr, waits, words)

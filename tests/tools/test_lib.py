@@ -1,13 +1,15 @@
 """Tests of tools/lib."""
 import contextlib
 import io
+import os
 import pathlib
-import subprocess
+import shutil
 import tempfile
 import unittest
+from unittest import mock
 
-from calling import TOOLS, Calling
-from lib import command, dump, elf, generated, program, repository
+from calling import Calling
+from lib import command, dump, elf, generated, packages, program, refusals, repository, sources
 
 LISTED = """# a repository
 
@@ -74,27 +76,63 @@ class Elf(unittest.TestCase):
                 elf.Program(data, 'x')
 
 
-class Outputs(Calling):
-    def test_what_comes_by_standard_input_is_no_output(self):
-        path = self.file('a', b'entry >A000\n>A000 10FF\n')
-        for words in (['raw', '-o', './a'], ['screen', '-o', './a'], ['screen', '--film', './a'],
-                      ['label', '-o', './a', 'gdis', '6000']):
-            with open(path, 'rb') as given:
-                ended = subprocess.run([TOOLS / words[0], *words[1:]], stdin=given, capture_output=True,
-                                       cwd=self.folder)
-            self.assertEqual((ended.returncode, ended.stderr.partition(b': ')[2]),
-                             (2, b'./a: the output would replace a file that is read\n'), words)
-        self.assertEqual(path.read_bytes(), b'entry >A000\n>A000 10FF\n')
+class Sources(Calling):
+    def test_the_names_that_lines_copy_are_as_they_are_written_and_without_a_device(self):
+        source = b' COPY "A"\n* COPY "B"\nL COPY \'DSK1.C\' more\n copy "d"\n COPY "E\'\n COPIES "F"\nCOPY "G"\n'
+        self.assertEqual(sources.names_copied(source), {'A', 'DSK1.C', 'C', 'd'})
+
+    def test_the_files_of_a_source_are_those_that_can_be_copied(self):
+        for number in range(1, 7):
+            self.file(f'part{number}', f' COPY "part{number + 1}"\n COPY "part1"\n COPY "none"\n'.encode())
+        self.file('also', b'')
+        path = str(self.folder / 'main')
+        self.assertEqual(sources.copied(path, b' COPY "part1"\n COPY "also"\n'), [
+            str(self.folder / name) for name in ('also', 'part1', 'part2', 'part3', 'part4')])
+
+    def test_the_kinds_of_source_have_their_endings(self):
+        self.assertEqual(sources.endings('gasm'), {'.gpl'})
+        self.assertEqual(sources.endings('asm'), {'.a', '.asm', '.src', '.a99'})
 
 
-class Programs(unittest.TestCase):
-    def test_a_run_has_its_status_and_what_it_wrote(self):
-        ended = program.program().run('gasm', given=b' FOO\n')
-        self.assertEqual((ended.status, ended.out, ended.fault), (1, b'', 'line 1: unknown operation'))
+class Packages(Calling):
+    def found(self, ci, user):
+        """What is found of a program that a package has, and the calls of apt-get."""
+        calls = self.folder / 'calls'
+        calls.unlink(missing_ok=True)
+        apt = self.file('bin/apt-get', b'#!/bin/sh\necho "$@" >>"${0%/*}/../calls"\n[ "$1" = update ] || '
+                                       b'for it; do :; done; cp "$0" "${0%/*}/wanted"\n')
+        apt.chmod(0o755)
+        with mock.patch.dict(os.environ, {'PATH': f'{self.folder}/bin:/usr/bin:/bin', 'CI': ci}), \
+                mock.patch('os.geteuid', return_value=user):
+            path = packages.found(['other-than-wanted', 'wanted'], ['one', 'two'])
+        (self.folder / 'bin/wanted').unlink(missing_ok=True)
+        return path, calls.read_text().splitlines() if calls.exists() else []
 
-    def test_a_program_that_is_not_there_is_named(self):
-        with self.assertRaisesRegex(command.Stopped, 'no program nowhere/ti_bench'):
-            program.program('nowhere/ti_bench')
+    def test_they_are_installed_only_by_root_with_ci(self):
+        for ci, user in (('', 0), ('1', 1000), ('', 1000)):
+            self.assertEqual(self.found(ci, user), (None, []))
+        self.assertEqual(self.found('1', 0), (f'{self.folder}/bin/wanted', [
+            'update', 'install -y --no-install-recommends one two']))
+
+    def test_a_program_that_is_there_is_not_installed(self):
+        with mock.patch.dict(os.environ, {'CI': '1'}):
+            self.assertEqual(packages.found(['nowhere', 'sh'], ['one']), shutil.which('sh'))
+
+
+class Refusals(unittest.TestCase):
+    def test_the_name_of_a_file_makes_no_line_and_moves_no_cursor(self):
+        found = list(refusals.explanation('a\x1b[2J\nb.gpl', 7, 'bad\x07 operand', 'x\x1b', 'no\x9b'))
+        self.assertEqual(found, [b'a\\x1b[2J\\x0ab.gpl:7: bad\\x07 operand', b'    x\\x1b',
+                                 b'a\\x1b[2J\\x0ab.gpl:7: note: no\\x9b'])
+        ended = program.Run(5, b'', b'')
+        self.assertEqual(list(refusals.refusal('a\n', b'', ended)), [b'a\\x0a: out of memory'])
+
+    def test_a_name_that_is_no_utf_8_stays_as_it_is(self):
+        for name in ('é'.encode('utf-8'), b'\xe9', 'À'.encode('utf-8')):
+            self.assertEqual(refusals.file_shown(name), name)
+
+    def test_standard_input_has_the_name_that_compilers_give_it(self):
+        self.assertEqual(refusals.refusal('-', b'', program.Run(1, b'', b'too small\n')), [b'<stdin>: too small'])
 
 
 if __name__ == '__main__':

@@ -6,7 +6,7 @@ import subprocess
 import time
 import unittest
 
-from calling import TOOLS, Calling, hearing
+from calling import TOOLS, Calling, hearing, is_running
 
 # A program that says that it has begun, and then waits; but it answers at once if it is to make no step. It waits before
 # that too, so that the script that has begun it knows of it.
@@ -61,6 +61,21 @@ class Signals(Calling):
         for number in (signal.SIGTERM, signal.SIGINT):
             status = self.ended_by(number, 'archive', '-j', '2', 'images', count=2)
             self.assertEqual((status, len(self.begun())), (128 + number, 2))
+
+    def test_a_command_whose_costs_are_counted_ends_too_and_the_table_is_written(self):
+        line = 'sleep 60 & echo $! $$ >begun; wait'
+        for number in (signal.SIGTERM, signal.SIGINT):
+            self.list.unlink(missing_ok=True)
+            with subprocess.Popen([TOOLS / 'gate_costs', 'bash', '-c', line], cwd=self.folder, stdout=subprocess.PIPE,
+                                  stderr=subprocess.PIPE, preexec_fn=hearing) as running:
+                latest = time.monotonic() + 20
+                while len(self.begun()) < 2 and time.monotonic() < latest:
+                    time.sleep(0.05)
+                running.send_signal(number)
+                out, err = running.communicate(timeout=20)
+            self.assertEqual((running.returncode, err), (128 + number, b''))
+            self.assertEqual(out.splitlines()[0], b'| Crate | Proof, s | Edits, s | Tests, s | Memory, MiB |')
+            self.assertEqual([it for it in self.begun() if is_running(it)], [])
 
     def test_a_signal_that_is_not_heard_ends_nothing(self):
         self.file('soon', b'#!/bin/sh\necho $$ >>begun\nsleep 1\n').chmod(0o755)

@@ -5,27 +5,35 @@ The folder of an unpacked archive has the same files at the same places as the r
 import os
 import pathlib
 import re
-import subprocess
 import typing
 
 from lib.command import UNREADABLE, Stopped
 from lib.repository import TOP, read_text
 from lib.program import other
+from lib.target import kit_of
 from lib.version import version
 
 PROGRAMS = ['ti_bench', 'ti_debug']
-# the scripts of tools/ that users call as ti_bench-NAME, each with the folders of tools/ that it needs beside lib
-TOOLS = {
+# the scripts of tools/ that users call as ti_bench-NAME, each with the folders and files of tools/ that it needs beside
+# lib
+TOOLS: typing.Dict[str, typing.List[str]] = {
     'archive': ['labelling'],
-    'assemble': ['editing'],
+    'assemble': ['editing/left_out.py', 'expanding'],
+    'cartridge': ['expanding', 'packing', 'stepping'],
+    'expand': ['expanding'],
     'label': ['labelling'],
+    'pattern': ['drawing'],
     'raw': [],
     'screen': ['stepping'],
-    'steps': ['stepping'],
-    'watch': ['stepping'],
+    'steps': ['expanding', 'stepping'],
+    'watch': ['expanding', 'stepping'],
 }
 # the scripts that an installation has beside them
 SCRIPTS = ['install', 'launcher']
+# the modules of tools/lib that only scripts of developers use
+NOT_HANDED_OUT = {'tools/lib/generated.py'}
+# the scripts of the examples, which run in the repository and in an archive, beside tools/ and the program
+NOT_INSTALLED = {'examples/run', 'examples/lib/__init__.py'}
 # other files and folders
 OTHERS = ['CHANGELOG.md', 'CONTRIBUTING.md', 'LICENSE', 'README.md', 'docs', 'editors', 'examples']
 MANUALS = 'man'
@@ -61,30 +69,32 @@ def commands():
 
 
 def kits_named(top=TOP):
-    """The kits that README.md names: the one that the release is proved with."""
+    """The kits that README.md names: those with which a gate from nothing has passed."""
     return re.findall(r'`(rattle-kit-[^`\s]+)`', read_text(top / 'README.md'))
 
 
-def kit(top=TOP):
-    """The line of the kit that the program is proved with: the file KIT, what rt says, or the name in README.md."""
+def kit(programs, top=TOP):
+    """The line of the kit that has proved the programs: the file KIT of an archive, or what the builds have written.
+    None if nothing says so of each of them, or if they are of two kits."""
     if (top / 'KIT').is_file():
         return read_text(top / 'KIT').strip()
-    try:
-        return subprocess.run(['rt', 'version'], capture_output=True, check=True).stdout.decode('utf-8').strip()
-    except (OSError, subprocess.CalledProcessError):
-        return kits_named(top)[0]
+    lines = {kit_of(program) for program in programs}
+    return lines.pop() if len(lines) == 1 else None
 
 
 def files(program, top=TOP):
-    """All files that are handed out, by their paths, with the program at the top."""
+    """All files that are handed out, by their paths, with the programs at the top, and KIT if it is known."""
     folders = ['lib', *sorted({folder for needed in TOOLS.values() for folder in needed})]
     named = [*(f'tools/{name}' for name in [*SCRIPTS, *TOOLS, *folders]), *OTHERS, MANUALS]
-    paths = {path for name in named for path in below(top, pathlib.Path(name))}
+    paths = {path for name in named for path in below(top, pathlib.Path(name))} - NOT_HANDED_OUT
     found = {path: File((top / path).read_bytes(), os.access(top / path, os.X_OK)) for path in paths}
-    for name in PROGRAMS:
-        found[name] = File(pathlib.Path(other(program, name)).read_bytes(), True)
+    programs = {name: other(program, name) for name in PROGRAMS}
+    for name, place in programs.items():
+        found[name] = File(pathlib.Path(place).read_bytes(), True)
     found['VERSION'] = File(f'{version(top)}\n'.encode('utf-8'))
-    found['KIT'] = File(f'{kit(top)}\n'.encode('utf-8'))
+    line = kit(programs.values(), top)
+    if line:
+        found['KIT'] = File(f'{line}\n'.encode('utf-8'))
     return found
 
 
@@ -93,6 +103,8 @@ def installed(found, name='ti_bench'):
     has a name."""
     placed = {f'bin/{command}': Link(f'lib/ti_bench/tools/{script}') for command, script in commands().items()}
     for path, file in found.items():
+        if path in NOT_INSTALLED:
+            continue
         if path.startswith(f'{MANUALS}/'):
             placed[f'share/man/man1/{pathlib.PurePath(path).name}'] = file
         elif path in (*PROGRAMS, 'VERSION') or path.startswith(('tools/', 'editors/')):

@@ -2,8 +2,9 @@
 import pathlib
 import sys
 
+from lib import output
 from lib.command import FAILED, name
-from lib.repository import read_text, shown, write_text
+from lib.repository import read_text, shown
 
 
 def options(parser):
@@ -20,6 +21,6 @@ def settle(texts, check):
         if check:
             print(f'{name()}: {shown(path)} is not what would be written', file=sys.stderr)
         else:
-            write_text(path, texts[path])
+            output.write(path, texts[path].encode('utf-8'))
             print(shown(path))
     return FAILED if old and check else 0

@@ -5,12 +5,14 @@ import os
 import pathlib
 import tempfile
 
-from lib.command import UNREADABLE, Stopped
+from lib.command import UNREADABLE, Stopped, unreadable
 from lib.distribution import Link
-from lib.repository import write_text
+from lib.output import replace
 
 LIST = 'lib/ti_bench/installed'
 FILE, LINK, FOLDER = 'file', 'link', 'folder'
+# the first line of a list and its last one; the lists of version 1.1 have neither
+BEGIN, END = 'begin\t\t', 'end\t\t'
 
 
 class Installation:
@@ -21,13 +23,22 @@ class Installation:
         self.prefix = pathlib.Path(os.path.abspath(prefix))
         self.list = self.prefix / LIST
         self.entries, self.folders = {}, []
-        text = self.list.read_bytes().decode('utf-8', 'replace') if self.list.is_file() else ''
-        for line in text.split('\n')[:-1]:
+        for line in self.lines():
             kind, mark, path = self.parsed(line)
             if kind == FOLDER:
                 self.folders.append(path)
             else:
                 self.entries.setdefault(path, []).append((kind, mark))
+
+    def lines(self):
+        """The lines of the list, if there is one. It is written in one step, so one without its end is damaged."""
+        if not self.list.is_file():
+            return []
+        lines = self.list.read_bytes().decode('utf-8', 'replace').split('\n')
+        is_whole = len(lines) > 1 and lines.pop() == '' and (lines[0] != BEGIN or lines[-1] == END)
+        if not is_whole:
+            raise Stopped(f'the list {self.list} is damaged: its end is missing', UNREADABLE)
+        return [line for line in lines if line not in (BEGIN, END)]
 
     def parsed(self, line):
         """The parts of a line of the list. Only a folder may be outside of the installation."""
@@ -73,15 +84,33 @@ class Installation:
         rows = {f'{FOLDER}\t\t{folder}\n' for folder in self.folders}
         rows |= {f'{kind}\t{mark}\t{path}\n' for entries in all_entries
                  for path, marks in entries.items() for kind, mark in marks}
-        write_text(self.list, ''.join(sorted(rows)))
+        self.made(self.list, replace, ''.join([f'{BEGIN}\n', *sorted(rows), f'{END}\n']).encode('utf-8'), 0o644)
+
+    def made(self, path, work, *more):
+        """Does work that makes what is at a path; an error has the name of that."""
+        try:
+            return work(path, *more)
+        except OSError as error:
+            raise unreadable(error, path) from None
 
     def make_folders(self, paths):
         """Makes the folders above paths, and keeps which ones were made."""
         missing = {folder for path in paths for folder in (self.prefix / path).parents if not folder.exists()}
         for folder in sorted(missing):
-            folder.mkdir(0o755)
-            folder.chmod(0o755)
+            self.made(folder, os.mkdir, 0o755)
             self.folders.append(os.path.relpath(folder, self.prefix))
+            self.made(folder, os.chmod, 0o755)
+
+    def begin(self, marks):
+        """Makes the folders and the list, with the old marks too, so that the next call knows all files if this one is
+        stopped. If that fails, nothing is left of it."""
+        before = [*self.folders]
+        try:
+            self.make_folders([LIST, *marks])
+            self.write_list(self.entries, marks)
+        except BaseException:
+            self.take_folders([folder for folder in self.folders if folder not in before])
+            raise
 
     def put(self, files):
         """Puts files and links here, in the place of those that were put here before; the paths of what was put here
@@ -89,50 +118,47 @@ class Installation:
         conflicts = sorted({str(found) for path in [LIST, *files] if path != LIST or not self.list.is_file()
                             for found in [self.in_the_way(path)] if found})
         if conflicts:
-            raise Stopped('nothing is installed, since these were not put here, or changed since:\n  '
-                          + '\n  '.join(conflicts))
+            raise Stopped('nothing is installed, since these were not put here, or changed since:', below=conflicts)
         marks = self.marks(files)
-        self.make_folders([LIST, *files])
-        # with the old marks too, so that the next call knows all files if this one is stopped
-        self.write_list(self.entries, marks)
+        self.begin(marks)
         for path, file in files.items():
             self.write(path, file)
         left = self.take({path for path in self.entries if path not in files})
-        self.take_folders()
+        self.take_folders(self.folders)
         self.entries = marks
-        self.folders = [folder for folder in self.folders if (self.prefix / folder).is_dir()]
-        self.write_list(marks)
+        self.keep()
         return left
+
+    def keep(self):
+        """Writes the list of what is here."""
+        self.folders = [folder for folder in self.folders if (self.prefix / folder).is_dir()]
+        self.write_list(self.entries)
 
     def write(self, path, file):
         """Puts a file or a link at a path, whole or not at all."""
         place = self.prefix / path
-        with tempfile.TemporaryDirectory(prefix='.ti_bench-', dir=place.parent) as folder:
-            made = pathlib.Path(folder, place.name)
-            if isinstance(file, Link):
-                made.symlink_to(self.target(path, file))
-            else:
-                made.write_bytes(file.data)
-                made.chmod(0o755 if file.executable else 0o644)
-            made.replace(place)
+        if isinstance(file, Link):
+            self.made(place, link, self.target(path, file))
+        else:
+            self.made(place, replace, file.data, 0o755 if file.executable else 0o644)
 
     def take(self, paths):
         """Removes files and links that are as they were put here; the paths of those that are left."""
         left = []
         for path in sorted(paths):
             if self.own(path):
-                (self.prefix / path).unlink()
+                os.unlink(self.prefix / path)
                 self.take_compiled(self.prefix / path)
             elif self.found(path):
                 left.append(path)
         return left
 
-    def take_folders(self):
-        """Removes the folders that were made here, those that are empty."""
-        places = [pathlib.Path(os.path.normpath(self.prefix / folder)) for folder in self.folders]
+    def take_folders(self, folders):
+        """Removes those of some folders that are empty."""
+        places = [pathlib.Path(os.path.normpath(self.prefix / folder)) for folder in folders]
         for place in sorted(places, key=lambda place: -len(place.parents)):
             with contextlib.suppress(OSError):
-                place.rmdir()
+                os.rmdir(place)
 
     def take_compiled(self, path):
         """Removes what Python keeps of a module."""
@@ -142,13 +168,26 @@ class Installation:
                 if compiled.name.split('.')[0] == path.stem and compiled.suffix == '.pyc':
                     compiled.unlink()
             with contextlib.suppress(OSError):
-                kept.rmdir()
+                os.rmdir(kept)
 
     def remove(self):
-        """Removes the installation; the paths of files that were changed, which are left."""
+        """Removes the installation; the paths of files that were changed, which are left. The list of these stays."""
         if not self.list.is_file():
             raise Stopped(f'nothing was installed in {self.prefix}')
         left = self.take(self.entries)
-        self.list.unlink()
-        self.take_folders()
+        if left:
+            self.take_folders(self.folders)
+            self.entries = {path: self.entries[path] for path in left}
+            self.keep()
+        else:
+            os.unlink(self.list)
+            self.take_folders(self.folders)
         return left
+
+
+def link(place, target):
+    """Makes a symbolic link in one step, in the place of what is there."""
+    with tempfile.TemporaryDirectory(prefix='.ti_bench-', dir=place.parent) as folder:
+        new = os.path.join(folder, place.name)
+        os.symlink(target, new)
+        os.replace(new, place)

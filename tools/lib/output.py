@@ -1,13 +1,19 @@
 """The files that a script writes: each as a whole, and none over a file that the script reads."""
 import argparse
+import contextlib
+import errno
 import os
 import stat
 import sys
 import tempfile
 
-from lib.command import UNREADABLE, USAGE, Stopped
+from lib.command import STREAM, USAGE, Stopped, unreadable
 
-STANDARD_INPUT = 0
+STANDARD_INPUT, STANDARD_OUTPUT = 0, 1
+# the most links that are followed from a name
+MOST_LINKS = 40
+# the errors of a file that cannot be replaced, but may be one that can be written to
+KEPT = (errno.EACCES, errno.EPERM, errno.EROFS, errno.EBUSY)
 
 
 def file_name(word):
@@ -18,11 +24,27 @@ def file_name(word):
 
 
 def keep_apart(path, inputs):
-    """Stops the script if the file to write is one of its inputs. Each is a path, or STANDARD_INPUT."""
-    if path is None or not os.path.isfile(path):
+    """Stops the script if the file to write is one of its inputs. Each is a path, or STANDARD_INPUT, or the word for
+    it."""
+    if path is None or path == STREAM or not os.path.isfile(path) or open_file(path) is not None:
         return
-    if any(os.path.exists(name) and os.path.samefile(name, path) for name in inputs):
+    names = [STANDARD_INPUT if name == STREAM else name for name in inputs]
+    if any(os.path.exists(name) and os.path.samefile(name, path) for name in names):
         raise Stopped(f'{path}: the output would replace a file that is read', USAGE)
+
+
+def open_file(path):
+    """The number of the open file that a path is a name of, as /dev/stdout is, also by links; None if it is a name of a
+    file."""
+    for _ in range(MOST_LINKS):
+        folder, name = os.path.split(path)
+        folder = os.path.realpath(folder)
+        if folder == f'/proc/{os.getpid()}/fd' and name.isdecimal():
+            return int(name)
+        if not os.path.islink(path):
+            break
+        path = os.path.join(folder, os.readlink(path))
+    return None
 
 
 def write_all(descriptor, data):
@@ -40,33 +62,74 @@ def mode_of(path):
     return 0o666 & ~mask
 
 
-def replace(path, data):
-    """Makes a file of these bytes in one step, so that it is never a part of them."""
-    path = os.path.realpath(path)
+def replace(path, data, mode=None):
+    """Makes a file of these bytes in one step, so that it is never a part of them. Without a mode it keeps group and
+    permissions of the old one."""
     descriptor, new = tempfile.mkstemp(prefix='.ti_bench-', dir=os.path.dirname(path))
     try:
         write_all(descriptor, data)
-        os.fchmod(descriptor, mode_of(path))
+        if mode is None and os.path.exists(path):
+            os.fchown(descriptor, -1, os.stat(path).st_gid)
+        os.fchmod(descriptor, mode_of(path) if mode is None else mode)
         os.replace(new, path)
     except BaseException:
-        os.unlink(new)
+        # a signal may come once it has its name
+        with contextlib.suppress(FileNotFoundError):
+            os.unlink(new)
         raise
     finally:
         os.close(descriptor)
 
 
-def write(path, data):
-    """Writes bytes: to a file, to a device as it is, or without a path to standard output."""
+def is_replaceable(path):
+    """Whether a new file may take the place of what is at a path: there is nothing, or a file of the user's own that
+    has no other name."""
+    if not os.path.exists(path):
+        return True
+    old = os.stat(path)
+    return os.path.isfile(path) and old.st_nlink == 1 and old.st_uid == os.geteuid()
+
+
+def overwrite(path, data):
+    """Writes bytes over those of a file or to a device, which must be there."""
+    descriptor = os.open(path, os.O_WRONLY)
     try:
-        if path is None:
-            sys.stdout.flush()
-            write_all(sys.stdout.fileno(), data)
-        elif os.path.exists(path) and not os.path.isfile(path):
-            with open(path, 'wb', buffering=0) as device:
-                write_all(device.fileno(), data)
+        write_all(descriptor, data)
+        if os.path.isfile(path):
+            os.ftruncate(descriptor, len(data))
+    finally:
+        os.close(descriptor)
+
+
+def write_file(path, data):
+    """Writes bytes to a file as a whole, or to a device. One that the user may not write to is left as it is. The bytes
+    of a file are overwritten if its folder takes no new file, or if it has other names or another owner."""
+    path = os.path.realpath(path)
+    is_there = os.path.isfile(path)
+    if is_there:
+        os.close(os.open(path, os.O_WRONLY))
+    if is_replaceable(path):
+        try:
+            return replace(path, data)
+        except OSError as error:
+            if not is_there or error.errno not in KEPT:
+                raise
+    return overwrite(path, data)
+
+
+def write(path, data):
+    """Writes bytes: to a file, to a device or an open file as it is, or without a path to standard output."""
+    number = STANDARD_OUTPUT if path is None or path == STREAM else open_file(path)
+    if number == STANDARD_OUTPUT:
+        sys.stdout.buffer.write(data)
+        sys.stdout.flush()
+        return
+    try:
+        if number is None:
+            write_file(path, data)
         else:
-            replace(path, data)
+            write_all(number, data)
     except BrokenPipeError:
         raise
     except OSError as error:
-        raise Stopped(f'{path or "standard output"}: {error.strerror}', UNREADABLE) from None
+        raise unreadable(error, path) from None

@@ -3,10 +3,13 @@ import os
 import pathlib
 import shutil
 import subprocess
+import sys
 import typing
 
-from lib.command import UNREADABLE, Ended, Stopped
-from lib.repository import TOP
+from lib.command import UNREADABLE, Stopped, unreadable
+from lib.command import name as script
+from lib.repository import TOP, shown
+from lib.target import Target
 
 
 class Run(typing.NamedTuple):
@@ -37,14 +40,15 @@ class Program:
         try:
             ended = subprocess.run([self.path, *words], input=given, capture_output=True, cwd=folder, **more)
         except OSError as error:
-            raise Stopped(f'{self.path}: {error.strerror}', UNREADABLE) from None
+            # the name in the error may be that of the folder
+            raise unreadable(error, error.filename or self.path) from None
         return Run(ended.returncode, ended.stdout, ended.stderr)
 
 
 def other(path, name):
     """The path of a program by the path of ti_bench: its own; or the one that a variable names, as TI_DEBUG; or the one
     beside it, as in an archive and an installation; or the one that is built in the folder of its crate. If ti_bench is
-    the repository's, so is the other, which is built first if it is missing or old."""
+    the repository's, so is the other."""
     own = pathlib.Path(path)
     if name == 'ti_bench':
         return path
@@ -66,7 +70,7 @@ def option(parser, use='run'):
 
 def program(path=None):
     """The program at a path; without one the program that TI_BENCH names, or the one that belongs to the scripts: in
-    an installation it is beside them, in the repository it is built first if it is missing or old."""
+    an installation it is beside them, in the repository it is the one that is built."""
     path = path or os.environ.get('TI_BENCH')
     if path:
         found = shutil.which(path)
@@ -80,15 +84,12 @@ def program(path=None):
 
 
 def of_repository(name):
-    """The path of a program of the repository, which is built first if it is missing or old."""
-    with subprocess.Popen([TOP / 'tools/built', name], stdout=subprocess.PIPE) as building:
-        try:
-            path = building.stdout.read()
-        except Ended:
-            # it ends what it has begun
-            building.terminate()
-            building.wait()
-            raise
-    if building.returncode:
-        raise Stopped(f'the program {name} could not be built', UNREADABLE)
-    return os.fsdecode(path).rstrip('\n')
+    """The path of a program of the repository. It is never built here, since that takes long; an old one is used, which
+    is said."""
+    target = Target(name)
+    if not target.is_there():
+        raise Stopped(f'no program is built: ./{name} builds it, or set {name.upper()}', UNREADABLE)
+    source = target.newer_source()
+    if source:
+        print(f'{script()}: {shown(source)} is newer than the program; ./{name} builds it anew', file=sys.stderr)
+    return str(target.program)

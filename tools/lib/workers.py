@@ -4,8 +4,15 @@ import contextlib
 import multiprocessing
 import os
 import signal
+import threading
+import time
 
 from lib.command import ENDS, Ended
+
+# how often a process looks whether its script is still there
+SECONDS = 0.5
+# the signals that a script hears
+HEARD = (signal.SIGINT, *ENDS)
 
 
 class Worker:
@@ -21,12 +28,21 @@ def stop(number, frame):
         raise Ended(number)
 
 
+def end_with(script):
+    """Ends the process once its script has ended, whatever has ended that."""
+    while os.getppid() == script:
+        time.sleep(SECONDS)
+    os._exit(1)
+
+
 def begin():
     """Prepares a process that works. A signal to it alone ends it, as it ends other programs."""
+    threading.Thread(target=end_with, args=[os.getppid()], daemon=True).start()
     signal.signal(signal.SIGINT, stop)
     for number in ENDS:
         if signal.getsignal(number) != signal.SIG_IGN:
             signal.signal(number, signal.SIG_DFL)
+    signal.pthread_sigmask(signal.SIG_UNBLOCK, HEARD)
 
 
 def done(work, *given):
@@ -48,7 +64,12 @@ class Workers(concurrent.futures.ProcessPoolExecutor):
         super().__init__(count, initializer=begin)
 
     def submit(self, work, *given):
-        return super().submit(done, work, *given)
+        # a process that is begun here hears no signal before it is prepared: it would do what the script does
+        before = signal.pthread_sigmask(signal.SIG_BLOCK, HEARD)
+        try:
+            return super().submit(done, work, *given)
+        finally:
+            signal.pthread_sigmask(signal.SIG_SETMASK, before)
 
     def __exit__(self, kind, error, trace):
         if kind:
