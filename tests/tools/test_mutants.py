@@ -44,6 +44,12 @@ class Mutants(Calling):
         self.assertEqual(len(mutants.tests_of(TOP / 'tools/lib' / '_'.join(['named', 'nowhere.py']))),
                          len(list((TOP / 'tests/tools').glob('test_*.py'))))
 
+    def test_what_python_keeps_of_a_file_goes_with_its_text(self):
+        path = self.file('tools/lib/one.py', b'ONE = 1\n')
+        self.file('tools/lib/__pycache__/one.cpython-311.pyc', b'')
+        mutants.write(path, 'ONE = 2\n')
+        self.assertEqual((path.read_text(), os.listdir(path.parent)), ('ONE = 2\n', ['one.py']))
+
     def test_a_copy_is_a_repository_with_the_files_that_git_knows(self):
         top, made = self.folder / 'top', self.folder / 'made'
         for name in ['tools/raw', 'tests/run', 'gone', 'unknown']:
