@@ -3,6 +3,7 @@ import collections
 import re
 import typing
 
+from expanding.names import BARE_FORMS, FILE_FORMS, FORMS
 from lib.repository import TOP, read_text
 from listing.operations import operations
 
@@ -25,11 +26,11 @@ def directives(crate):
 
 
 def assembler():
-    text = definition('instruction_defs', 'Operations')
-    names = re.findall(r'^name_of \((\w+) .*\) = codes "(\w+)"', text, re.M)
+    names = re.findall(r'^(\w+)_row .* = row \w+ \(codes "(\w+)"\)', definition('tms_defs', 'Instructions'), re.M)
     valued = re.findall(r'^has_value (\w+) = true', definition('instruction_defs', 'Operands'), re.M)
-    bare = re.findall(r'is_word text \(codes "(\w+)"\) then Some \(Fixed', text)
-    bare += [name for form, name in names if form == 'Bare' and name not in valued]
+    words = definition('instruction_defs', 'Operations')
+    bare = re.findall(r'is_word text \(codes "(\w+)"\) then Some \(Fixed', words)
+    bare += [name for form, name in names if form == 'bare' and name not in valued]
     quiet = re.findall(r'^directive_statement named\.(\w+) texts = Ok', definition('asm_defs', 'Statements'), re.M)
     named = directives('asm_defs')
     copying = re.findall(r'is_word \(part line operation\) \(codes "(\w+)"\)', definition('shelf_defs', 'CopyLines'))
@@ -45,3 +46,10 @@ def gpl():
     names = [name for name, kind in rows.items() if kind != 'move'] + words + moves
     bare = [name for name, kind in rows.items() if kind == 'plain']
     return Names(*parted(names, bare), *parted([name for name, _ in directives('gpl_source_defs')], []), [])
+
+
+def with_forms(found):
+    """The names of GPL sources with those of the forms that are expanded, as directives."""
+    return found._replace(directives=sorted(FORMS - FILE_FORMS - BARE_FORMS | set(found.directives)),
+                          bare_directives=sorted(BARE_FORMS | set(found.bare_directives)),
+                          file_directives=sorted(FILE_FORMS | set(found.file_directives)))

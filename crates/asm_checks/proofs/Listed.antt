@@ -5,7 +5,7 @@ use Rattle.expression_defs.specs.declared.causes.ExprError.{ExprError}
 use Rattle.source_defs.specs.Refusals.{prepended, ◌>>=◌}
 use Rattle.expression_defs.specs.Expression.{Value}
 use Rattle.asm_defs.specs.declared.location.Location.{Location}
-use Rattle.asm_defs.specs.Locations.{behind}
+use Rattle.asm_defs.specs.Locations.{after}
 use Rattle.asm_defs.specs.SecondChecks.{word_in, data_values, absolute_in, byte_values}
 
 pub after_more : {A E : Type 0} (front : List A) (item : A) (others : Result (List A) E)
@@ -23,8 +23,8 @@ module _ (look : List ℕ → Option Value) (at : Location) where
   byte_error front text texts cause e = rw e refl
 
   pub data_more : (place : Location) (front : List Value) (text : List ℕ) (texts : List (List ℕ)) (word : Value) → word_in look at place text ≡ Ok word
-      → prepended front (data_values look at place (text ∷ texts)) ≡ prepended (front ++ word ∷ []) (data_values look at (behind place 2) texts)
-  data_more place front text texts word e = rw e (after_more front word (data_values look at (behind place 2) texts))
+      → prepended front (data_values look at place (text ∷ texts)) ≡ prepended (front ++ word ∷ []) (data_values look at (after place 2) texts)
+  data_more place front text texts word e = rw e (after_more front word (data_values look at (after place 2) texts))
 
   pub data_error : (place : Location) (front : List Value) (text : List ℕ) (texts : List (List ℕ)) (cause : ExprError) → word_in look at place text ≡ Err cause
       → prepended front (data_values look at place (text ∷ texts)) ≡ Err cause

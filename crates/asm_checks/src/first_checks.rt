@@ -13,7 +13,7 @@ ghost use Rattle.asm_checks.specs.Checks.{ListsNames, listed_in, parsed_as_new, 
 ghost use Rattle.asm_checks.specs.Moves.{MovesWithin};
 
 use crate::failure::Failure;
-use crate::moves::{LocationChange, behind};
+use crate::moves::{LocationChange, after};
 use crate::names::{any_known, is_taken, label_in, names_in, repeats};
 use crate::statement::{Statement, statement_in};
 use crate::titles::title_in;
@@ -165,7 +165,7 @@ impl EarlierLines<'_> {
         ensures { result ≡ spec.is_too_far (model_of_earlier_lines self.now) (model_of_statement parsed.now.statement)
             (model_of_move moved.now) }
     {
-        !is_in_part(location_behind(self.location, moved)) || self.lists_too_many(parsed)
+        !is_in_part(location_after(self.location, moved)) || self.lists_too_many(parsed)
     }
 
     /// Whether DEF or REF lists more names than a module may have.
@@ -209,16 +209,16 @@ fn listed_names(alloc: Global, statement: &Statement<'_>) -> Result<Vec<Name>, A
 }
 
 /// The location after a line.
-pub fn location_behind(here: Location, moved: &LocationChange) -> Location
+pub fn location_after(here: Location, moved: &LocationChange) -> Location
     requires here { here.number ≤ 65536 }
     requires within { MovesWithin moved.now }
-    ensures { result ≡ spec.location_behind here (model_of_move moved.now) }
+    ensures { result ≡ spec.location_after here (model_of_move moved.now) }
 {
     let from = match moved.origin {
         Some(origin) => origin,
         None => here,
     };
-    behind(from, moved.gap + moved.size)
+    after(from, moved.gap + moved.size)
 }
 
 /// Whether a location lies in its part, or just after its last place.

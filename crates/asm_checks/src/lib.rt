@@ -13,8 +13,8 @@ mod titles;
 mod values;
 
 pub use crate::failure::{Failure, is_unresolved};
-pub use crate::first_checks::{Checked, EarlierLines, ParsedLine, location_behind};
-pub use crate::moves::{LocationChange, behind, declared_size};
+pub use crate::first_checks::{Checked, EarlierLines, ParsedLine, location_after};
+pub use crate::moves::{LocationChange, after, declared_size};
 pub use crate::second_checks::Outcome;
 pub use crate::statement::{InstructionLine, Statement, statement_in};
 pub use crate::titles::title_in;

@@ -87,9 +87,9 @@ pub fn declared_size(statement: &Statement<'_>) -> u32
 }
 
 /// The place some bytes after a place.
-pub fn behind(at: Location, bytes: u32) -> Location
+pub fn after(at: Location, bytes: u32) -> Location
     requires { at.number + bytes < 2 ^ 32 }
-    ensures { result ≡ places.behind at bytes }
+    ensures { result ≡ places.after at bytes }
 {
     Location {
         part: at.part,
@@ -123,7 +123,7 @@ fn stays_even(here: Location, size: u32) -> LocationChange
         origin: None,
         gap,
         size,
-        label: value_at(behind(here, gap)),
+        label: value_at(after(here, gap)),
     }
 }
 
@@ -138,7 +138,7 @@ fn ends_block(here: Location, size: u32) -> LocationChange
         origin: None,
         gap: 0,
         size,
-        label: value_at(behind(here, size)),
+        label: value_at(after(here, size)),
     }
 }
 

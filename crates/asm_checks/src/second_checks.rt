@@ -21,7 +21,7 @@ ghost use Rattle.asm_checks.specs.Moves.{MovesLittle};
 ghost use Rattle.asm_checks.specs.Outcomes.{model_of_outcome, byte_answer, known_answer, words_by};
 
 use crate::failure::Failure;
-use crate::moves::behind;
+use crate::moves::after;
 use crate::names::names_in;
 use crate::statement::{InstructionLine, Statement};
 use crate::values::{Scope, value_at};
@@ -126,7 +126,7 @@ impl Scope<'_> {
             if words.push(word).is_err() {
                 return Err(ExprError::Memory);
             }
-            place = behind(place, 2);
+            place = after(place, 2);
         }
         Ok(words)
     }

@@ -1,4 +1,4 @@
--- A builder behind a line that says nothing.
+-- A builder after a line that says nothing.
 use Rattle.std.proofs.Common.{◌≡◌, ℕ, ◌+◌, ◌*◌, ◌≤◌, Bool, true, false, List, [], ◌∷◌, Some, None, Ok, Err, refl, sym, ap, ◌∙◌, arith}
 use Rattle.std.specs.Prelude.{Option, IsSome, max, nat_le, nat_lt, ◌&&◌, ◌||◌, if◌then◌else◌}
 use Rattle.std.proofs.lemmas.Bool.Decides.{nat_tests}
@@ -10,7 +10,7 @@ use Rattle.asm_defs.specs.declared.causes.AsmCause.TheVariants.{Overflow, Overla
 use Rattle.asm_defs.specs.declared.location.Location.{Location}
 use Rattle.asm_defs.specs.declared.location.Part.{Part}
 use Rattle.asm_defs.specs.declared.location.Part.TheVariants as part
-use Rattle.asm_defs.specs.Locations.{Line, location, reached, relocatable, behind, is_in_part}
+use Rattle.asm_defs.specs.Locations.{Line, location, reached, relocatable, after, is_in_part}
 use Rattle.asm_defs.specs.Statements.{Nothing, statement_in}
 use Rattle.asm_defs.specs.FirstChecks.{EarlierLines, Checked, checked, parsed, moved, stays_at}
 use Rattle.asm_defs.specs.SecondChecks as second
@@ -27,7 +27,7 @@ use Rattle.asm_core.specs.Building.{ImageOf}
 abbrev pub nothing_at : Location → Checked
 nothing_at here = record { label = None; statement = Nothing; move = stays_at here 0 }
 
-pub here_again : (here : Location) → behind here 0 ≡ here
+pub here_again : (here : Location) → after here 0 ≡ here
 here_again here =
     let same : here.number + 0 ≡ here.number = omega arith in
     ap (λ number. record { part = here.part; number = number }) same
@@ -36,7 +36,7 @@ pub nothing_said : (before : EarlierLines) (text : List ℕ) → fields text ≡
     → checked before text ≡ Ok (nothing_at before.location)
 unfolding parsed moved statement_in
 nothing_said before text none here =
-    let inside : is_in_part (behind before.location 0) ≡ true = ap is_in_part (here_again before.location) ∙ here in
+    let inside : is_in_part (after before.location 0) ≡ true = ap is_in_part (here_again before.location) ∙ here in
     rw (none, inside) refl
 
 -- a line that comes to nothing covers no place
@@ -111,7 +111,7 @@ no_words = omega (
 pub still_room : (at : Location) (founds : List AssembledLine) → AllStand [] founds → with_room (onto [] founds) (nothing_placed at) ≡ Ok (nothing_placed at)
 still_room at founds stand = room_for_nothing at (onto [] founds) (most_words [] founds no_words stand)
 
--- no location is behind the highest that was reached
+-- no location is after the highest that was reached
 within_reach : (lines : List Line) → relocatable (location lines) ≤ reached lines
 within_reach [] = omega arith
 within_reach (line ∷ lines) = omega arith

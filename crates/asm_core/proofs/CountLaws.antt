@@ -14,7 +14,10 @@ use Rattle.module_image.specs.declared.image.Image.{Image}
 use Rattle.asm_core.specs.declared.pending.Pending.{Pending}
 use Rattle.asm_core.specs.declared.pending.Refused.{Refused}
 use Rattle.asm_core.specs.declared.lines.AsmLines.{AsmLines}
-use Rattle.asm_core.specs.Building.{ImageOf, IsWorked, IsBehind, Takes}
+use Rattle.asm_core.specs.declared.taken.TakenLine.{TakenLine}
+use Rattle.asm_core.specs.TakenLines.{names_in}
+use Rattle.asm_defs.proofs.CheckLaws.{checked_said}
+use Rattle.asm_core.specs.Building.{ImageOf, IsWorked, IsAfter, Takes}
 use Rattle.asm_core.specs.Adding.{Counts}
 use Rattle.asm_core.proofs.BlankLaws.{nothing_at, nothing_said, here_again, image_still, still_reached}
 use Rattle.asm_core.proofs.LineLaws.{location_more}
@@ -32,7 +35,7 @@ module _ (lines : List Line) (names : Names) (line : Line) (says : line.statemen
   worked_on (Some refused) is = worked_stopped names names (unchanged names) lines line (Some refused)
       (Some refused) image image' waiting waiting refl refl refl is
 
-module _ (lines : List Line) (text : List ℕ) (old new : AsmLines) (none : fields text ≡ Ok no_fields) (counts : Counts old new) (is : IsBehind lines old) where
+module _ (lines : List Line) (text : List ℕ) (old new : AsmLines) (none : fields text ≡ Ok no_fields) (counts : Counts old new) (is : IsAfter lines old) where
   abbrev line : Line
   line = line_of (length lines + 1) (nothing_at (location lines))
 
@@ -50,8 +53,8 @@ module _ (lines : List Line) (text : List ℕ) (old new : AsmLines) (none : fiel
       rw (counts.names.symbols, counts.waiting, counts.refused)
       (worked_on lines old.symbols line refl old.image new.image counts.ready counts.image old.waiting.items old.refused is.worked)
 
-  pub counted : {A : Type 0} (value : A) → Takes lines text (Ok value) new
-  counted value = (
+  pub counted : (known : TakenLine) → known.at ≡ new.location → known.origin ≡ None → names_in known ≡ [] → Takes lines text (Ok known) new
+  counted known at no_origin no_names = (
     line,
     checks,
     record {
@@ -64,5 +67,11 @@ module _ (lines : List Line) (text : List ℕ) (old new : AsmLines) (none : fiel
       taken = omega (arith, counts.taken, is.taken);
       ended = counts.ended ∙ is.ended;
       worked = worked;
+    },
+    record {
+      at = at ∙ (counts.location ∙ (is.location ∙ sym (here_again (location lines))));
+      origin = no_origin;
+      names = sym no_names;
+      parsed = checked_said (known_of lines) text (nothing_at (location lines)) (nothing_said (known_of lines) text none here);
     },
   )

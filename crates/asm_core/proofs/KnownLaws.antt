@@ -16,7 +16,7 @@ use Rattle.asm_defs.specs.Modules.{assembled_line, with_room, entry}
 use Rattle.asm_defs.specs.Growing.{is_unresolved}
 use Rattle.asm_defs.proofs.GrowingLaws.{outcome_stays}
 use Rattle.asm_checks.specs.Answers.{Causes}
-use Rattle.module_image.specs.Standing.{StandsBehind, AllStand}
+use Rattle.module_image.specs.Standing.{StandsAfter, AllStand}
 use Rattle.module_image.proofs.SwapLaws.{uses_none, enters_none}
 use Rattle.asm_core.specs.declared.pending.Pending.{Pending}
 use Rattle.asm_core.specs.Building.{IsKnown, IsWaiting, AreKnown, Refuses}
@@ -25,7 +25,7 @@ pub onto_more : {A : Type 0} (before items : List A) (item : A) → onto before 
 onto_more before [] item = refl
 onto_more before (first ∷ items) item = onto_more (first ∷ before) items item
 
-pub stand_more : (earlier founds : List AssembledLine) (found : AssembledLine) → AllStand earlier founds → StandsBehind (onto earlier founds) found
+pub stand_more : (earlier founds : List AssembledLine) (found : AssembledLine) → AllStand earlier founds → StandsAfter (onto earlier founds) found
     → AllStand earlier (founds ++ found ∷ [])
 stand_more earlier [] found all more = (more, tt)
 stand_more earlier (first ∷ founds) found all more = (all.0, stand_more (first ∷ earlier) founds found all.1 more)

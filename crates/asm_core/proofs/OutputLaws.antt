@@ -7,8 +7,8 @@ use Rattle.asm_defs.specs.declared.content.Content.{Content}
 use Rattle.asm_defs.specs.declared.location.Part.TheVariants as part
 use Rattle.asm_defs.specs.declared.location.Location.{Location}
 use Rattle.asm_defs.specs.SecondChecks.{Outcome, Nothing, Words, Bytes, Entry}
-use Rattle.asm_defs.specs.Memory.{AssembledLine, bytes_in, same_part, is_placed_in, contents_by, references_of, behind_by}
-use Rattle.asm_defs.proofs.PlacedWords.{behind_words}
+use Rattle.asm_defs.specs.Memory.{AssembledLine, bytes_in, same_part, is_placed_in, contents_by, references_of, after_by}
+use Rattle.asm_defs.proofs.PlacedWords.{after_words}
 use Rattle.module_image.specs.Images.{IsEmpty, IsImage, IsLaid}
 use Rattle.module_image.specs.declared.image.Image.{Image}
 use Rattle.module_image.proofs.HoldingLaws.{contents_length}
@@ -18,9 +18,9 @@ use Rattle.asm_core.specs.Resolving.{FillsBytes}
 use Rattle.asm_core.specs.declared.second_pass.Output.{Output}
 
 -- no word is a use in the part of dummy lines
-dummy_uses : (at : Location) (references : List Reference) (outcome : Outcome) → is_placed_in at.part ≡ false → behind_by at references outcome ≡ references
+dummy_uses : (at : Location) (references : List Reference) (outcome : Outcome) → is_placed_in at.part ≡ false → after_by at references outcome ≡ references
 dummy_uses at references Nothing e = refl
-dummy_uses at references (Words words) e = ap (λ b. if b then behind_words at.part references at.number words else references) e
+dummy_uses at references (Words words) e = ap (λ b. if b then after_words at.part references at.number words else references) e
 dummy_uses at references (Bytes bytes) e = refl
 dummy_uses at references (Entry entry) e = refl
 
@@ -45,7 +45,7 @@ module _ (unused : List Reference) (at : Location) (found : Outcome) (within : a
       }
 
   pub bytes_filled : (old new : Output) (given : List Content) → given ≡ contents_by at (map model_of_ref old.references.items) found
-      → map model_of_ref new.references.items ≡ behind_by at (map model_of_ref old.references.items) found → IsLaid at given old.image new.image
+      → map model_of_ref new.references.items ≡ after_by at (map model_of_ref old.references.items) found → IsLaid at given old.image new.image
       → FillsBytes unused at found old new
   bytes_filled old new given contents uses laid = λ done others held stand fills holds.
       let line : AssembledLine = record { at = at; outcome = found } in
@@ -54,7 +54,7 @@ module _ (unused : List Reference) (at : Location) (found : Outcome) (within : a
         image = image_filled unused done held line fills others stand given
             (λ placed. contents ∙ ap (λ references. contents_by at references found) holds.references)
             (omega (arith, within, size)) old.image new.image holds.image laid;
-        references = uses ∙ ap (λ references. behind_by at references found) holds.references;
+        references = uses ∙ ap (λ references. after_by at references found) holds.references;
       }
 
 -- the image of no lines

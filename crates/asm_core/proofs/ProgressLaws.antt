@@ -24,7 +24,7 @@ use Rattle.asm_core.proofs.KnownLaws.{NextHeld, next_held, none_held}
 use Rattle.asm_core.proofs.ResolveLaws.{assembled_more, assembled_stops, assembled_stopped, answer_is, assemble_by, assemble_filled, fills_place, fills_held, refuses_by}
 use Rattle.asm_core.proofs.ResolveLaws.{real}
 
--- lines are assembled up to some that wait, and what is known of the others stands behind them
+-- lines are assembled up to some that wait, and what is known of the others stands after them
 pub record IsSoFar (unused : List Reference) (names : Names) (order : List Line) (founds : List AssembledLine) (waiting : List Pending)
     (old new : Output) : Type 0 where
   pub before : List Line

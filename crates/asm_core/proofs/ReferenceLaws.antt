@@ -1,4 +1,4 @@
--- What the last uses become behind one more.
+-- What the last uses become after one more.
 use Rattle.std.proofs.Common.{◌≡◌, ℕ, zero, suc, ◌<◌, true, List, [], ◌∷◌, ◌++◌, length, get_or, set, take, drop, sym, subst, ap, arith}
 use Rattle.std.specs.Prelude.{map}
 use Rattle.object_defs.specs.declared.spot.Spot.{Spot}

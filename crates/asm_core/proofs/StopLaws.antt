@@ -1,4 +1,4 @@
--- The line that is refused, behind those that are assembled.
+-- The line that is refused, after those that are assembled.
 use Rattle.std.proofs.Common.{◌≡◌, ◌∷◌, [], Ok, Err, Some, None, List, sym, ap, subst, ◌∙◌}
 use Rattle.source_defs.specs.Refusals.{◌>>=◌}
 use Rattle.source_defs.specs.Orders.{onto}
@@ -68,7 +68,7 @@ module _ (known : Names) (lines : List Line) (waiting : List Pending) (refused :
       ∙ ap (λ answer. answer >>= λ held. Ok (real known unused before is.line pending refuses.0 old new by)) (sym room ∙ e)))
 
   -- or no value of it was open
-  pub refused_behind : refused.waiting ≡ None → RefusesAt (refusal_at refused.line (failure.Refused refused.cause)) (assembled_lines (assembled_line known) lines)
-  refused_behind none =
+  pub refused_after : refused.waiting ≡ None → RefusesAt (refusal_at refused.line (failure.Refused refused.cause)) (assembled_lines (assembled_line known) lines)
+  refused_after none =
       let refuses = subst (Refuses known before (onto [] is.founds) is.line refused.cause) none is.refuses in
       at_last (subst (Causes refused.cause) (assemble_same known before is.line (onto [] is.founds) done same) refuses.1)

@@ -3,11 +3,12 @@ use Rattle.std.proofs.Common.{◌≡◌, ℕ, ◌+◌, Bool, true, false, ◌||�
 use Rattle.std.specs.Prelude.{Result, if◌then◌else◌}
 use Rattle.source_defs.specs.Lines.{lines, numbered}
 use Rattle.source_defs.specs.Refusals.{Refusal, ◌>>=◌, at_line}
-use Rattle.expression_defs.specs.Layout.{laid, laid_behind}
+use Rattle.expression_defs.specs.Layout.{laid, laid_after}
 use Rattle.asm_defs.specs.declared.causes.AsmCause.{AsmCause}
 use Rattle.asm_defs.specs.Locations.{Line}
 use Rattle.asm_defs.specs.FirstChecks.{check}
 use Rattle.expression_defs.specs.Layout.{has_ended}
+use Rattle.asm_core.specs.declared.taken.TakenLine.{TakenLine}
 use Rattle.asm_core.specs.Building.{Takes, HasAccepted}
 use Rattle.asm_core.specs.Finishing.{AcceptsText}
 use Rattle.asm_core.specs.declared.error.AsmError.{AsmError}
@@ -16,8 +17,8 @@ use Rattle.asm_checks.specs.declared.failure.Failure.TheVariants.{Refused}
 use Rattle.asm_core.specs.declared.lines.AsmLines.{AsmLines}
 use Rattle.asm_core.proofs.ResolveLaws.{refuses_by}
 
-abbrev behind_line : List Line → List (ℕ × List ℕ) → Line → Result (List Line) (Refusal AsmCause)
-behind_line before rest found = if found.last then Ok (found ∷ before) else laid_behind check (found ∷ before) rest
+abbrev after_line : List Line → List (ℕ × List ℕ) → Line → Result (List Line) (Refusal AsmCause)
+after_line before rest found = if found.last then Ok (found ∷ before) else laid_after check (found ∷ before) rest
 
 abbrev answers : Result (List Line) (Refusal AsmCause) → Result (List Line) (Refusal AsmCause) → Type 0
 answers a b = a ≡ b
@@ -31,14 +32,14 @@ module _ (text : List ℕ) where
   last_line lines number = at_line number (check lines number text) >>= λ line. Ok (line ∷ lines)
 
   end_by : (before : List Line) (number : ℕ) (answer : Result Line (Refusal AsmCause))
-      → (answer >>= behind_line before []) ≡ (answer >>= λ line. Ok (line ∷ before))
+      → (answer >>= after_line before []) ≡ (answer >>= λ line. Ok (line ∷ before))
   end_by before number (Ok found) = either found.last (found ∷ before)
   end_by before number (Err refusal) = refl
 
   step_by : (before : List Line) (rest more : List (ℕ × List ℕ)) (whole : Result (List Line) (Refusal AsmCause)) (lines : List Line) (found : Line) (b : Bool)
-      → found.last ≡ b → (if b then Ok (found ∷ before) else laid_behind check (found ∷ before) rest) ≡ Ok lines → has_ended lines ≡ false
-      → (laid_behind check (found ∷ before) rest ≡ Ok lines → laid_behind check (found ∷ before) more ≡ whole)
-      → (if b then Ok (found ∷ before) else laid_behind check (found ∷ before) more) ≡ whole
+      → found.last ≡ b → (if b then Ok (found ∷ before) else laid_after check (found ∷ before) rest) ≡ Ok lines → has_ended lines ≡ false
+      → (laid_after check (found ∷ before) rest ≡ Ok lines → laid_after check (found ∷ before) more ≡ whole)
+      → (if b then Ok (found ∷ before) else laid_after check (found ∷ before) more) ≡ whole
   step_by before rest more whole lines found true last is going next =
       let same : found ∷ before ≡ lines = cc is in
       let ended : has_ended lines ≡ true = sym (ap has_ended same) ∙ ap (λ b. b || has_ended before) last in
@@ -46,17 +47,17 @@ module _ (text : List ℕ) where
   step_by before rest more whole lines found false last is going next = next is
 
   step : (before : List Line) (rest more : List (ℕ × List ℕ)) (whole : Result (List Line) (Refusal AsmCause)) (lines : List Line)
-      (answer : Result Line (Refusal AsmCause)) → (answer >>= behind_line before rest) ≡ Ok lines → has_ended lines ≡ false
-      → ((found : Line) → laid_behind check (found ∷ before) rest ≡ Ok lines → laid_behind check (found ∷ before) more ≡ whole)
-      → (answer >>= behind_line before more) ≡ whole
+      (answer : Result Line (Refusal AsmCause)) → (answer >>= after_line before rest) ≡ Ok lines → has_ended lines ≡ false
+      → ((found : Line) → laid_after check (found ∷ before) rest ≡ Ok lines → laid_after check (found ∷ before) more ≡ whole)
+      → (answer >>= after_line before more) ≡ whole
   step before rest more whole lines (Ok found) is going next =
       step_by before rest more whole lines found found.last refl is going (next found)
   step before rest more whole lines (Err refusal) is going next = cc is
 
   -- one line more, where none of those before ends the source
   pub laid_more : (texts : List (List ℕ)) (before : List Line) (number last : ℕ) (lines : List Line) → last ≡ number + length texts
-      → laid_behind check before (numbered number texts) ≡ Ok lines → has_ended lines ≡ false
-      → laid_behind check before (numbered number (texts ++ text ∷ [])) ≡ last_line lines last
+      → laid_after check before (numbered number texts) ≡ Ok lines → has_ended lines ≡ false
+      → laid_after check before (numbered number (texts ++ text ∷ [])) ≡ last_line lines last
   laid_more [] before number last lines e is going =
       let same : before ≡ lines = cc is in
       let at : number ≡ last = omega (arith, e) in
@@ -75,18 +76,18 @@ module _ (texts : List (List ℕ)) (text : List ℕ) (builder new : AsmLines) (t
   whole_is : laid check (numbered 1 (texts ++ text ∷ [])) ≡ last_line text taken.lines count
   whole_is = laid_more text texts [] 1 count taken.lines (omega (arith, taken.all)) taken.laid going
 
-  pub takes_text : {A : Type 0} (result : Result A AsmError) → Takes taken.lines text result new → AcceptsText texts text result new
+  pub takes_text : (result : Result TakenLine AsmError) → Takes taken.lines text result new → AcceptsText texts text result new
   takes_text (Ok value) takes = record {
     lines = takes.0 ∷ taken.lines;
     laid = whole_is ∙ ap (λ answer. at_line count answer >>= λ line. Ok (line ∷ taken.lines)) takes.1;
     all = omega (arith, taken.all, length-append texts (text ∷ []));
-    behind = takes.2;
+    after_lines = takes.2;
   }
-  takes_text (Err Memory) takes = (tt, record { lines = taken.lines; laid = taken.laid; all = taken.all; behind = takes })
+  takes_text (Err Memory) takes = (tt, record { lines = taken.lines; laid = taken.laid; all = taken.all; after_lines = takes })
   takes_text (Err (At number cause)) takes = (
     refuses_by (Refused cause) number (check taken.lines count text) (laid check (numbered 1 (texts ++ text ∷ []))) takes.1
         (λ refused e.
         whole_is ∙ (ap (λ answer. at_line count answer >>= λ line. Ok (line ∷ taken.lines)) e
         ∙ ap (λ number. Err (record { line = number; cause = refused })) (sym takes.0))),
-    record { lines = taken.lines; laid = taken.laid; all = taken.all; behind = takes.2 },
+    record { lines = taken.lines; laid = taken.laid; all = taken.all; after_lines = takes.2 },
   )

@@ -8,7 +8,7 @@ use Rattle.std.proofs.lemmas.List.{length-map}
 use Rattle.source_defs.specs.Refusals.{at_line}
 use Rattle.expression_defs.specs.Symbols.{Names, look_up}
 use Rattle.expression_defs.specs.Expression.{Value, Absolute, Relocatable, External}
-use Rattle.expression_defs.specs.Layout.{laid, laid_behind, assembled_lines}
+use Rattle.expression_defs.specs.Layout.{laid, laid_after, assembled_lines}
 use Rattle.object_defs.specs.declared.spot.Spot.{Spot}
 use Rattle.object_defs.specs.declared.spot.Piece.{Piece}
 use Rattle.object_defs.specs.Modules.{Module, Definition, Reference, HasText, StandsEven, number_of}
@@ -25,8 +25,8 @@ use Rattle.asm_defs.specs.FirstChecks.{check, names, checked, known_of, line_of,
 use Rattle.asm_defs.specs.SecondChecks.{Outcome, Words, Bytes, Entry, outcome}
 use Rattle.asm_defs.specs.SecondChecks as second
 use Rattle.asm_defs.specs.Memory.{AssembledLine, spot_by, joined, pieces_at, pieces_from, pieces_in, content_at, has_word, words_in, word_count, count_from}
-use Rattle.asm_defs.specs.Memory.{part_words, with_use, behind_word, behind_by, references_of, is_placed_in, overlaps}
-use Rattle.asm_defs.proofs.PlacedWords.{behind_words}
+use Rattle.asm_defs.specs.Memory.{part_words, with_use, after_word, after_by, references_of, is_placed_in, overlaps}
+use Rattle.asm_defs.proofs.PlacedWords.{after_words}
 use Rattle.asm_defs.specs.Modules.{assembled_line, module_by, module_of, definition_in, unused}
 use Rattle.asm_defs.proofs.CheckLaws.{bound, checked_few}
 use Rattle.module_image.proofs.TableLaws.{count_same, count_none}
@@ -96,24 +96,24 @@ use_length (reference ∷ references) name at =
     one_more (same_text reference.name name) (record { name = reference.name; last = at }) references reference (with_use references name at)
     (use_length references name at)
 
-word_length : (references : List Reference) (at : Spot) (value : Value) → length (behind_word references at value) ≡ length references
+word_length : (references : List Reference) (at : Spot) (value : Value) → length (after_word references at value) ≡ length references
 word_length references at (Absolute number) = refl
 word_length references at (Relocatable number) = refl
 word_length references at (External name) = use_length references name at
 
-words_length : (at : Part) (references : List Reference) (from : ℕ) (words : List Value) → length (behind_words at references from words) ≡ length references
+words_length : (at : Part) (references : List Reference) (from : ℕ) (words : List Value) → length (after_words at references from words) ≡ length references
 words_length at references from [] = refl
 words_length at references from (word ∷ words) =
-    words_length at (behind_word references (spot_by at from) word) (from + 2) words ∙ word_length references (spot_by at from) word
+    words_length at (after_word references (spot_by at from) word) (from + 2) words ∙ word_length references (spot_by at from) word
 
 either_length : (b : Bool) (first second : List Reference) → length first ≡ length second → length (if b then first else second) ≡ length second
 either_length true first second same = same
 either_length false first second same = refl
 
-line_length : (at : Location) (references : List Reference) (outcome : Outcome) → length (behind_by at references outcome) ≡ length references
+line_length : (at : Location) (references : List Reference) (outcome : Outcome) → length (after_by at references outcome) ≡ length references
 line_length at references second.Nothing = refl
 line_length at references (Words words) =
-    either_length (is_placed_in at.part) (behind_words at.part references at.number words) references (words_length at.part references at.number words)
+    either_length (is_placed_in at.part) (after_words at.part references at.number words) references (words_length at.part references at.number words)
 line_length at references (Bytes bytes) = refl
 line_length at references (Entry entry) = refl
 
@@ -153,14 +153,14 @@ line_most before number text line most e =
     subst (λ (found : Line). AtMost (found ∷ before)) same (record { defs = fit.defs; refs = fit.refs })
 
 last_by : (b : Bool) (found : Line) (before lines : List Line) (rest : List (ℕ × List ℕ))
-    → (if b then Ok (found ∷ before) else laid_behind check (found ∷ before) rest) ≡ Ok lines
-    → AtMost (found ∷ before) → (laid_behind check (found ∷ before) rest ≡ Ok lines → AtMost (found ∷ before) → AtMost lines) → AtMost lines
+    → (if b then Ok (found ∷ before) else laid_after check (found ∷ before) rest) ≡ Ok lines
+    → AtMost (found ∷ before) → (laid_after check (found ∷ before) rest ≡ Ok lines → AtMost (found ∷ before) → AtMost lines) → AtMost lines
 last_by true found before lines rest e most next =
     let same : found ∷ before ≡ lines = cc e in
     subst AtMost same most
 last_by false found before lines rest e most next = next e most
 
-laid_most : (texts : List (ℕ × List ℕ)) (before lines : List Line) → laid_behind check before texts ≡ Ok lines → AtMost before → AtMost lines
+laid_most : (texts : List (ℕ × List ℕ)) (before lines : List Line) → laid_after check before texts ≡ Ok lines → AtMost before → AtMost lines
 laid_most [] before lines e most =
     let same : before ≡ lines = cc e in
     subst AtMost same most

@@ -10,7 +10,7 @@ use Rattle.asm_checks.specs.declared.failure.Failure.TheVariants as failure
 use Rattle.expression_defs.specs.Symbols.{Names}
 use Rattle.expression_defs.specs.Growing.{Grows}
 use Rattle.asm_defs.specs.declared.location.Location.{Location}
-use Rattle.asm_defs.specs.Locations.{Line, behind}
+use Rattle.asm_defs.specs.Locations.{Line, after}
 use Rattle.asm_defs.specs.Memory.{AssembledLine}
 use Rattle.module_image.specs.declared.image.Image.{Image}
 use Rattle.asm_checks.specs.Defined.{model_of_statement}
@@ -22,7 +22,8 @@ use Rattle.asm_core.specs.declared.lines.AsmLines.{AsmLines}
 use Rattle.asm_core.specs.Assembling.{AssemblesBy}
 use Rattle.asm_core.specs.declared.error.AsmError.{AsmError}
 use Rattle.asm_core.specs.declared.error.AsmError.TheVariants.{Memory}
-use Rattle.asm_core.specs.Building.{IsWorked, ImageOf, IsGoing, IsBehind, Takes, refusal_at}
+use Rattle.asm_core.specs.declared.taken.TakenLine.{TakenLine}
+use Rattle.asm_core.specs.Building.{IsWorked, ImageOf, IsGoing, IsAfter, Takes, refusal_at}
 use Rattle.asm_core.specs.Keeping.{names_with, KnowsLabel, Keeps, IsUnchanged, SameWork, StandsStill}
 use Rattle.asm_core.specs.Emitting.{SameLines, SameKnown, Emits}
 use Rattle.asm_core.specs.Adding.{Adds, IsAsBefore, WorksIn}
@@ -89,8 +90,8 @@ unkept old between new before same work = record {
 }
 
 -- a line of which nothing was added
-pub still_behind : (lines : List Line) (old new : AsmLines) → IsAsBefore old new → StandsStill old new → IsBehind lines old → IsBehind lines new
-still_behind lines old new before still is = record {
+pub still_after : (lines : List Line) (old new : AsmLines) → IsAsBefore old new → StandsStill old new → IsAfter lines old → IsAfter lines new
+still_after lines old new before still is = record {
   names = before.names.symbols ∙ is.names;
   location = still.location ∙ is.location;
   reached = still.reached ∙ is.reached;
@@ -102,18 +103,18 @@ still_behind lines old new before still is = record {
   worked = before.worked lines is.worked;
 }
 
-pub takes_none : {A : Type 0} (lines : List Line) (text : List ℕ) (result : Result A AsmError) (new : AsmLines)
+pub takes_none : (lines : List Line) (text : List ℕ) (result : Result TakenLine AsmError) (new : AsmLines)
     → IsErrAnd result (λ (error : AsmError). error ≡ Memory)
-    → IsBehind lines new → Takes lines text result new
+    → IsAfter lines new → Takes lines text result new
 takes_none lines text (Ok value) new wants is = absurd wants
-takes_none lines text (Err error) new wants is = subst (λ (error : AsmError). Takes {A = Unit {0}} lines text (Err error) new) (sym wants) is
+takes_none lines text (Err error) new wants is = subst (λ (error : AsmError). Takes lines text (Err error) new) (sym wants) is
 
 -- a line whose label stands for something already, or memory was wanting
-pub takes_failed : (A : Type 0) (lines : List Line) (text : List ℕ) (names : Names) (label : Option (List ℕ)) (failure : Failure) (new : AsmLines)
+pub takes_failed : (lines : List Line) (text : List ℕ) (names : Names) (label : Option (List ℕ)) (failure : Failure) (new : AsmLines)
     → KnowsLabel names label failure → (any_known names (label_in label) ≡ true → check lines (length lines + 1) text ≡ Err DuplicateLabel)
-    → new.taken ≡ length lines → IsBehind lines new → Takes {A = A} lines text (Err (refusal_at (new.taken + 1) failure)) new
-takes_failed A lines text names label failure.Memory new knows known count is = is
-takes_failed A lines text names label (failure.Refused cause) new knows known count is = (
+    → new.taken ≡ length lines → IsAfter lines new → Takes lines text (Err (refusal_at (new.taken + 1) failure)) new
+takes_failed lines text names label failure.Memory new knows known count is = is
+takes_failed lines text names label (failure.Refused cause) new knows known count is = (
   ap (λ taken. taken + 1) count,
   subst (λ cause. Causes cause (check lines (length lines + 1) text)) (sym knows.0) (known knows.1),
   is,
@@ -130,7 +131,7 @@ going_is lines names image waiting (Some refused) none is = cc none
 
 pub worked : (old ready kept new : AsmLines) (text : List ℕ) (checked : Checked) (waiting : Option Pending) (emitted : Emitted) (at : Location)
     → is_some old.refused ≡ false
-    → SameLines old ready → ((founds : List AssembledLine) → ImageOf founds old.image → ImageOf founds ready.image) → at ≡ behind ready.location checked.moved.gap
+    → SameLines old ready → ((founds : List AssembledLine) → ImageOf founds old.image → ImageOf founds ready.image) → at ≡ after ready.location checked.moved.gap
     → AssemblesBy ready.symbols (ready.taken + 1) at text (model_of_statement checked.parsed.statement) waiting emitted → Keeps ready waiting checked kept
     → SameWork ready kept
     → StandsStill ready kept → SameKnown kept new → Emits kept at emitted (is_some waiting) new → Adds old text checked new
@@ -145,7 +146,7 @@ worked old ready kept new text checked waiting emitted at none same made is_at a
       rw (same.known.names.symbols, ap (λ (waiting : Vec Pending Global). waiting.items) same.waiting) going_on in
       emits_worked ready.symbols new.symbols (subst (Grows ready.symbols) (sym known.names.symbols) keeps.grows) lines line ready.image ready.waiting.items
       begun
-      kept new at text (is_at ∙ (ap (λ (from : Location). behind from checked.moved.gap) same.known.still.location ∙ next.at)) next.parsed
+      kept new at text (is_at ∙ (ap (λ (from : Location). after from checked.moved.gap) same.known.still.location ∙ next.at)) next.parsed
       (ap (λ taken. taken + 1) (still.taken ∙ same.known.still.taken) ∙ next.number) work.image (work.refused ∙ (same.refused ∙ none_is old.refused none))
       (model_of_statement checked.parsed.statement) next.statement (ready.taken + 1) (ap (λ taken. taken + 1) same.known.still.taken ∙ next.number)
       waiting emitted assembles keeps.waits emits;

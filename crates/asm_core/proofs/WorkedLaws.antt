@@ -19,7 +19,7 @@ use Rattle.asm_defs.specs.Modules.{assembled_line, with_room}
 use Rattle.asm_defs.specs.Growing.{is_unresolved, held_place}
 use Rattle.asm_checks.specs.Answers.{Causes}
 use Rattle.asm_checks.proofs.Failures.{caused, causes_on}
-use Rattle.module_image.specs.Standing.{StandsBehind}
+use Rattle.module_image.specs.Standing.{StandsAfter}
 use Rattle.module_image.specs.declared.image.Image.{Image}
 use Rattle.module_image.proofs.SwapLaws.{stands_alone, no_room, has_own_room, are_causes}
 use Rattle.asm_core.specs.declared.pending.Pending.{Pending}
@@ -55,7 +55,7 @@ module _ (known more : Names) (grows : Grows known more) (lines : List Line) (li
     refuses = refuses_still known more grows (onto [] is.order) (onto [] is.founds) is.line refused.cause refused.waiting is.refuses;
   }
 
-  -- behind a line that is refused, none counts
+  -- after a line that is refused, none counts
   pub worked_stopped : (refused new : Option Refused) (image image' : Option Image) (waiting waiting' : List Pending) → is_some refused ≡ true → new ≡ refused
       → waiting' ≡ waiting → IsWorked lines known image waiting refused → IsWorked (line ∷ lines) more image' waiting' new
   worked_stopped None new image image' waiting waiting' some same rest is = cc some
@@ -72,7 +72,7 @@ module _ (known more : Names) (grows : Grows known more) (lines : List Line) (li
 
     goes_on : (image' : Option Image) (waiting' : List Pending) (found : AssembledLine)
         → AreKnown more [] (going.order ++ line ∷ []) (going.founds ++ found ∷ []) waiting'
-        → StandsBehind earlier found → ImageOf (found ∷ earlier) image' → IsGoing (line ∷ lines) more image' waiting'
+        → StandsAfter earlier found → ImageOf (found ∷ earlier) image' → IsGoing (line ∷ lines) more image' waiting'
     goes_on image' waiting' found known stand placed = record {
       order = going.order ++ line ∷ [];
       founds = going.founds ++ found ∷ [];

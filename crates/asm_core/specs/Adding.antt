@@ -1,6 +1,6 @@
 -- What a builder adds of a line.
 use Rattle.std.specs.Prelude.{◌≡◌, ℕ, ◌+◌, ◌++◌, List, ◌∷◌, Ok, IsSome}
-use Rattle.asm_defs.specs.Locations.{Line, place, behind}
+use Rattle.asm_defs.specs.Locations.{Line, place, after}
 use Rattle.asm_defs.specs.Statements.{parse_line}
 use Rattle.asm_defs.specs.FirstChecks.{defs_in, refs_in}
 use Rattle.asm_defs.specs.Memory.{AssembledLine}
@@ -13,7 +13,7 @@ use Rattle.asm_core.specs.Building.{ImageOf, IsWorked}
 -- a line is the next, after others
 pub record IsNext (builder : AsmLines) (text : List ℕ) (checked : Checked) (lines : List Line)
     (line : Line) : Type 0 where
-  pub at : behind builder.location checked.moved.gap ≡ place lines line
+  pub at : after builder.location checked.moved.gap ≡ place lines line
   pub number : builder.taken + 1 ≡ line.number
   pub parsed : parse_line text ≡ Ok line.statement
   pub statement : model_of_statement checked.parsed.statement ≡ line.statement

@@ -25,6 +25,8 @@ use Rattle.module_image.specs.declared.image.Image.{Image}
 use Rattle.asm_core.specs.declared.lines.AsmLines.{AsmLines}
 use Rattle.asm_core.specs.declared.error.AsmError.{AsmError}
 use Rattle.asm_core.specs.declared.error.AsmError.TheVariants as error
+use Rattle.asm_core.specs.declared.taken.TakenLine.{TakenLine}
+use Rattle.asm_core.specs.TakenLines.{Tells}
 use Rattle.asm_core.specs.declared.pending.Pending.{Pending}
 use Rattle.asm_core.specs.declared.pending.Refused.{Refused}
 
@@ -96,7 +98,7 @@ IsWorked lines known image waiting None = IsGoing lines known image waiting
 IsWorked lines known image waiting (Some refused) = IsStopped refused lines known waiting
 
 -- the builder after lines, of which the nearest stands first
-pub record IsBehind (lines : List Line) (builder : AsmLines) : Type 0 where
+pub record IsAfter (lines : List Line) (builder : AsmLines) : Type 0 where
   pub names : builder.symbols ≡ names lines
   pub location : builder.location ≡ location lines
   pub reached : builder.reached ≡ reached lines
@@ -117,19 +119,20 @@ abbrev pub error_of : Refused → AsmError
 error_of refused = error.At refused.line refused.cause
 
 -- a line was taken after others, or why it is refused there
-abbrev pub Takes : {A : Type 0} → List Line → List ℕ → Result A AsmError → AsmLines → Type 0
-Takes lines text (Ok _) builder =
-    (line : Line) × (check lines (length lines + 1) text ≡ Ok line) × IsBehind (line ∷ lines) builder
+abbrev pub Takes : List Line → List ℕ → Result TakenLine AsmError → AsmLines → Type 0
+Takes lines text (Ok known) builder =
+    (line : Line) × (check lines (length lines + 1) text ≡ Ok line) × IsAfter (line ∷ lines) builder
+    × Tells lines text line known
 Takes lines text (Err (error.At number cause)) builder =
-    (number ≡ length lines + 1) × Causes cause (check lines (length lines + 1) text) × IsBehind lines builder
-Takes lines text (Err error.Memory) builder = IsBehind lines builder
+    (number ≡ length lines + 1) × Causes cause (check lines (length lines + 1) text) × IsAfter lines builder
+Takes lines text (Err error.Memory) builder = IsAfter lines builder
 
 -- The meaning of a builder: the texts of the lines that it has taken.
 pub record HasAccepted (texts : List (List ℕ)) (builder : AsmLines) : Type 0 where
   pub lines : List Line
   pub laid : laid check (numbered 1 texts) ≡ Ok lines
   pub all : length lines ≡ length texts
-  pub behind : IsBehind lines builder
+  pub after_lines : IsAfter lines builder
 
 -- no line that it has taken ends the source
 abbrev pub IsOpen : AsmLines → Type 0

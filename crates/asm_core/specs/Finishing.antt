@@ -50,8 +50,8 @@ ResolvesAll unused order founds known (Err error) old new =
     RefusesAt error (assembled_lines (assembled_line known) (onto [] order))
 
 -- lines are refused where those before the refused one are assembled
-abbrev pub StopsBehind : Names → List Line → List Line → List AssembledLine → List AssembledLine → AsmError → Type 0
-StopsBehind known lines order founds done error =
+abbrev pub StopsAfter : Names → List Line → List Line → List AssembledLine → List AssembledLine → AsmError → Type 0
+StopsAfter known lines order founds done error =
     assembled_lines (assembled_line known) (onto [] order) ≡ Ok done → SamePlaces (onto [] founds) done
     → RefusesAt error (assembled_lines (assembled_line known) lines)
 

@@ -9,6 +9,7 @@ pub use Rattle.asm_defs.specs.Modules
 pub mod Held
 pub mod Assembling
 pub mod Keeping
+pub mod TakenLines
 pub mod Building
 pub mod Emitting
 pub mod Adding

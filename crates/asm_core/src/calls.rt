@@ -3,16 +3,17 @@
 ghost use Rattle.std.specs.Prelude.{◌≡◌, ◌↔◌, ◌<◌, ◌≤◌, ◌-◌, ◌^◌, ℕ, false, List, [], length, IsFalse};
 ghost use Rattle.std.specs.List.{AllByRecursion};
 ghost use Rattle.expression_defs.specs.Layout.{has_ended};
-ghost use Rattle.asm_defs.specs.Locations.{location};
+ghost use Rattle.asm_defs.specs.Locations.{Line};
 ghost use Rattle.asm_defs.specs.FirstChecks.{names};
 ghost use Rattle.asm_defs.specs.Modules.{module_of_lines, module_of_source, title};
-ghost use Rattle.asm_core.specs.Building.{HasAccepted, IsOpen, CanCount};
+ghost use Rattle.asm_core.specs.Building.{HasAccepted, IsAfter, IsOpen, CanCount, Takes};
 ghost use Rattle.asm_core.specs.Finishing.{AcceptsText, GivesModule};
 ghost use Rattle.source_defs.specs.EndedLines.{IsOneLine, text_of};
 
 use crate::error::AsmError;
 use crate::finished::Finished;
 use crate::lines::AsmLines;
+use crate::taken::TakenLine;
 use asm_defs::{Location, Part};
 use asm_text::{SplitLine, Symbols, split_line};
 use object_tags::{Module, ModuleName};
@@ -44,27 +45,30 @@ impl AsmLines {
         }
     }
 
-    /// Takes a line after those that were taken. It is given without its line feed, and no line that ends the source
-    /// was taken before.
+    /// Takes a line after those that were taken, and returns where it is placed. It is given without its line feed, and
+    /// no line that ends the source was taken before.
     ///
     /// # Errors
     /// `At` comes exactly where the first checks refuse the line there, and carries its number, which is the number of
     /// lines taken plus 1. `Memory` means that memory ran out. After an error the builder is as before.
-    pub fn line(&mut self, line: &[u8]) -> Result<(), AsmError>
+    pub fn line(&mut self, line: &[u8]) -> Result<TakenLine, AsmError>
         requires open { IsOpen self.old }
         requires count { CanCount self.old }
-        ensures { (texts : List (List ℕ)) → HasAccepted texts self.old
+        ensures texts { (texts : List (List ℕ)) → HasAccepted texts self.old
             → AcceptsText texts line.now result self.new }
+        ensures lines { (lines : List Line) → IsAfter lines self.old → Takes lines line.now result self.new }
     {
         self.split_line(&split_line(line))
     }
 
     /// Takes a line that is split into its fields already, as [`AsmLines::line`] takes it.
-    pub fn split_line(&mut self, line: &SplitLine<'_>) -> Result<(), AsmError>
+    pub fn split_line(&mut self, line: &SplitLine<'_>) -> Result<TakenLine, AsmError>
         requires open { IsOpen self.old }
         requires count { CanCount self.old }
-        ensures { (texts : List (List ℕ)) → HasAccepted texts self.old
+        ensures texts { (texts : List (List ℕ)) → HasAccepted texts self.old
             → AcceptsText texts line.now.text.now result self.new }
+        ensures lines { (lines : List Line) → IsAfter lines self.old
+            → Takes lines line.now.text.now result self.new }
     {
         self.take(line)
     }
@@ -83,14 +87,6 @@ impl AsmLines {
         ensures count { (result < 2 ^ 32 - 1) ↔ CanCount self.now }
     {
         self.taken
-    }
-
-    /// The location at which the next line is placed.
-    pub fn location(&self) -> Location
-        ensures place { (texts : List (List ℕ)) → (taken : HasAccepted texts self.now) → result ≡ location taken.lines }
-        ensures within { result.number ≤ 65536 }
-    {
-        self.location
     }
 
     /// The module of the lines that were taken, as [`AsmLines::finish`] gives it, and what their names stand for.

@@ -29,7 +29,7 @@ pub(crate) fn contents(
     ensures contents { OnOk result (IfOk result (λ contents. contents.items
         ≡ spec.contents_by at (map model_of_ref references.old.items) (model_of_outcome outcome.now))) }
     ensures uses { OnOk result (map model_of_ref references.new.items
-        ≡ spec.behind_by at (map model_of_ref references.old.items) (model_of_outcome outcome.now)) }
+        ≡ spec.after_by at (map model_of_ref references.old.items) (model_of_outcome outcome.now)) }
 {
     match outcome {
         Outcome::Instruction(placed) => {
@@ -84,7 +84,7 @@ fn word_contents(
 fn spot_of(references: &mut Vec<Ref>, at: Spot, word: &Word) -> Spot
     ensures spot { result ≡ spec.word_of (map model_of_ref references.old.items) (model_of_word word.now) }
     ensures uses { map model_of_ref references.new.items
-        ≡ spec.behind_word (map model_of_ref references.old.items) at (model_of_word word.now) }
+        ≡ spec.after_word (map model_of_ref references.old.items) at (model_of_word word.now) }
 {
     match word {
         Word::Plain(number) => Spot::Absolute(*number),

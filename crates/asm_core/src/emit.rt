@@ -13,7 +13,7 @@ ghost use Rattle.asm_core.specs.Emitting.{SameKnown, SameLines, AreContents, Pla
 use crate::first_pass::{Assembled, Emitted, FirstPass};
 use crate::lines::AsmLines;
 use crate::pending::Refused;
-use asm_checks::{Checked, behind};
+use asm_checks::{Checked, after};
 use asm_defs::{AsmCause, Content, Location};
 use module_image::Image;
 use std::alloc::AllocError;
@@ -41,17 +41,17 @@ impl AsmLines {
         requires taken { self.now.taken < 2 ^ 32 - 1 }
         requires line { IsParsed checked.now.parsed }
         requires within { MovesWithin checked.now.moved }
-        requires room { HasRoom (places.behind self.now.location checked.now.moved.gap) text.now
+        requires room { HasRoom (places.after self.now.location checked.now.moved.gap) text.now
             (model_of_statement checked.now.parsed.statement) }
         ensures { IfOk result (Assembles self.now.symbols (self.now.taken + 1)
-            (places.behind self.now.location checked.now.moved.gap)
+            (places.after self.now.location checked.now.moved.gap)
             text.now (model_of_statement checked.now.parsed.statement)) }
     {
         let first_pass = FirstPass {
             alloc: self.alloc,
             symbols: &self.symbols,
             number: self.taken + 1,
-            at: behind(self.location, checked.moved.gap),
+            at: after(self.location, checked.moved.gap),
         };
         first_pass.assemble_line(text, &checked.parsed)
     }

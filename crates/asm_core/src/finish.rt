@@ -7,13 +7,13 @@ ghost use Rattle.object_tags.specs.Seen.{model_of_def, model_of_ref, model_of_mo
 ghost use Rattle.asm_defs.specs.Locations.{Line};
 ghost use Rattle.asm_defs.specs.FirstChecks as first;
 ghost use Rattle.asm_defs.specs.Memory.{AssembledLine};
-ghost use Rattle.asm_defs.specs.Modules.{unused, module_by, module_behind, definition_in};
+ghost use Rattle.asm_defs.specs.Modules.{unused, module_by, module_after, definition_in};
 ghost use Rattle.asm_checks.specs.Outcomes.{model_of_spot};
 ghost use Rattle.asm_core.specs.declared.pending.Pending.{Pending};
 ghost use Rattle.module_image.specs.Standing.{AllStand};
-ghost use Rattle.asm_core.specs.Building.{AreKnown, ImageOf, IsStopped, IsBehind, refusal_at, error_of};
+ghost use Rattle.asm_core.specs.Building.{AreKnown, ImageOf, IsStopped, IsAfter, refusal_at, error_of};
 ghost use Rattle.asm_core.specs.Resolving.{IsOutput};
-ghost use Rattle.asm_core.specs.Finishing.{GivesModule, Knows, SameEnd, ResolvesAll, StopsBehind};
+ghost use Rattle.asm_core.specs.Finishing.{GivesModule, Knows, SameEnd, ResolvesAll, StopsAfter};
 
 use crate::error::AsmError;
 use crate::lines::AsmLines;
@@ -29,7 +29,7 @@ use std::alloc::{AllocError, Global};
 impl AsmLines {
     /// The module of the lines, or the first that the second checks refuse. The lines are given up.
     pub(crate) fn module(&mut self) -> Result<Module, AsmError>
-        ensures gives { (lines : List Line) → IsBehind lines self.old → GivesModule result (module_behind lines) }
+        ensures gives { (lines : List Line) → IsAfter lines self.old → GivesModule result (module_after lines) }
         ensures names { self.new.symbols ≡ self.old.symbols }
     {
         let mut output = self.output()?;
@@ -96,7 +96,7 @@ impl AsmLines {
 fn stopped(symbols: &Symbols, output: &mut Output, refused: &Refused) -> AsmError
     ensures { (lines : List Line) (waiting : List Pending) (done : List AssembledLine)
         → (is : IsStopped refused.now lines symbols.now waiting) →
-        StopsBehind symbols.now lines is.order is.founds done result }
+        StopsAfter symbols.now lines is.order is.founds done result }
 {
     let Some(pending) = &refused.waiting else {
         return refused_at(refused);

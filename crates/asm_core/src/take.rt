@@ -12,34 +12,51 @@ ghost use Rattle.asm_checks.specs.Checks.{IsParsed, ListsNames};
 ghost use Rattle.asm_core.specs.Assembling.{HasRoom};
 ghost use Rattle.asm_core.specs.Keeping.{KnowsLabel, IsUnchanged, SameWork, StandsStill};
 ghost use Rattle.asm_core.specs.Adding.{Adds, Counts, IsAsBefore};
-ghost use Rattle.asm_core.specs.Building.{IsBehind, Takes, refusal_at};
+ghost use Rattle.asm_core.specs.Building.{IsAfter, Takes, refusal_at};
 
 use crate::error::AsmError;
 use crate::first_pass::Assembled;
 use crate::lines::AsmLines;
-use asm_checks::{Checked, Failure, Statement, behind, location_behind, title_in};
+use crate::returned::{nothing_taken, taken_line};
+use crate::taken::TakenLine;
+use asm_checks::{Checked, Failure, ParsedLine, Statement, after, location_after, title_in};
 use asm_defs::{Location, Part};
 use asm_text::SplitLine;
 use object_tags::ModuleName;
 use std::alloc::AllocError;
 
 impl AsmLines {
-    /// Takes a line after those that were taken. A refused line leaves the builder as before.
-    pub(crate) fn take(&mut self, line: &SplitLine<'_>) -> Result<(), AsmError>
+    /// Takes a line after those that were taken, and returns where it is placed. A refused line leaves the builder as
+    /// before.
+    pub(crate) fn take(&mut self, line: &SplitLine<'_>) -> Result<TakenLine, AsmError>
         requires { self.old.taken < 2 ^ 32 - 1 }
-        ensures { (lines : List places.Line) → IsBehind lines self.old → Takes lines line.now.text.now result self.new }
+        ensures { (lines : List places.Line) → IsAfter lines self.old → Takes lines line.now.text.now result self.new }
     {
         if line.is_comment() {
-            return Ok(self.count()?);
+            self.count()?;
+            return Ok(nothing_taken(self.alloc, self.location));
         }
         let checked = match self.known().checked(line) {
             Ok(checked) => checked,
             Err(failure) => return Err(self.refusal(self.known().failure_of(line, failure))),
         };
+        let at = after(self.location, checked.moved.gap);
         match self.work(line.text, &checked) {
             Ok(()) => {
                 self.advance(&checked);
-                Ok(())
+                let ParsedLine {
+                    label,
+                    statement,
+                    listed,
+                } = checked.parsed;
+                Ok(taken_line(
+                    self.alloc,
+                    at,
+                    checked.moved.origin,
+                    label,
+                    &statement,
+                    listed,
+                ))
             }
             Err(failure) => Err(self.refusal(failure)),
         }
@@ -64,7 +81,7 @@ impl AsmLines {
         requires line { IsParsed checked.now.parsed }
         requires listed { ListsNames checked.now.parsed }
         requires within { MovesWithin checked.now.moved }
-        requires room { HasRoom (places.behind self.old.location checked.now.moved.gap) text.now
+        requires room { HasRoom (places.after self.old.location checked.now.moved.gap) text.now
             (model_of_statement checked.now.parsed.statement) }
         ensures added { OnOk result (Adds self.old text.now checked.now self.new) }
         ensures fresh { OnOk result
@@ -77,7 +94,7 @@ impl AsmLines {
             return self.keep(None, checked);
         }
         self.prepare()?;
-        let at = behind(self.location, checked.moved.gap);
+        let at = after(self.location, checked.moved.gap);
         let Assembled { waiting, emitted } = self.assemble_line(text, checked)?;
         let waits = waiting.is_some();
         self.keep(waiting, checked)?;
@@ -104,10 +121,10 @@ impl AsmLines {
         requires taken { self.old.taken < 2 ^ 32 - 1 }
         requires within { MovesWithin checked.now.moved }
         requires place { IsTrue
-            (places.is_in_part (spec.location_behind self.old.location (model_of_move checked.now.moved))) }
+            (places.is_in_part (spec.location_after self.old.location (model_of_move checked.now.moved))) }
         requires titled { IsTitled (model_of_statement checked.now.parsed.statement) }
         ensures location { self.new.location
-            ≡ spec.location_behind self.old.location (model_of_move checked.now.moved) }
+            ≡ spec.location_after self.old.location (model_of_move checked.now.moved) }
         ensures reached { self.new.reached ≡ max self.old.reached (places.relocatable self.new.location) }
         ensures title { self.new.title ≡ title_by self.old.title (model_of_statement checked.now.parsed.statement) }
         ensures taken { self.new.taken ≡ self.old.taken + 1 }
@@ -116,9 +133,9 @@ impl AsmLines {
         ensures kept { IsUnchanged self.old self.new }
         ensures worked { SameWork self.old self.new }
     {
-        self.location = location_behind(self.location, &checked.moved);
+        self.location = location_after(self.location, &checked.moved);
         self.reached = self.reached.max(relocatable(self.location));
-        self.title = title_behind(self.title, &checked.parsed.statement);
+        self.title = title_after(self.title, &checked.parsed.statement);
         self.taken += 1;
         self.ended = is_end(&checked.parsed.statement) || self.ended;
     }
@@ -135,7 +152,7 @@ fn relocatable(location: Location) -> u32
 }
 
 /// The module's name after a line.
-fn title_behind(title: ModuleName, statement: &Statement<'_>) -> ModuleName
+fn title_after(title: ModuleName, statement: &Statement<'_>) -> ModuleName
     requires { IsTitled (model_of_statement statement.now) }
     ensures { result ≡ title_by title (model_of_statement statement.now) }
 {

@@ -16,9 +16,9 @@ use Rattle.asm_defs.specs.declared.location.Part.TheVariants as part
 use Rattle.asm_defs.specs.declared.location.Location.{Location}
 use Rattle.asm_defs.specs.Statements.{Statement, Aorg, Rorg, Dorg, Bss, Bes, Equ, Idt}
 use Rattle.asm_defs.specs.Statements.{parse_line, statement_in, as_text}
-use Rattle.asm_defs.specs.Locations.{behind, is_in_part, limit}
+use Rattle.asm_defs.specs.Locations.{after, is_in_part, limit}
 use Rattle.asm_defs.specs.FirstChecks.{EarlierLines, ParsedLine, Checked, LocationChange, any_known, label_in, is_taken, refs_in, parsed, moved, checked, move, as_expr}
-use Rattle.asm_defs.specs.FirstChecks.{is_too_far, lists_too_many, is_bad, is_title, location_behind, absolute_in, value, non_external_number, non_external}
+use Rattle.asm_defs.specs.FirstChecks.{is_too_far, lists_too_many, is_bad, is_title, location_after, absolute_in, value, non_external_number, non_external}
 use Rattle.asm_defs.specs.Growing.{declared_size}
 
 -- a value that an answer is made of
@@ -113,7 +113,7 @@ module _ (before : EarlierLines) where
     fits : Fits (declared_size found.statement) found.move
     titled : IsTitled found.statement
     few : lists_too_many before found.statement ≡ false
-    within : is_in_part (location_behind before.location found.move) ≡ true
+    within : is_in_part (location_after before.location found.move) ≡ true
 
   not_false : (a b : Bool) → (not a || b) ≡ false → a ≡ true
   not_false true b e = refl
@@ -133,14 +133,14 @@ module _ (before : EarlierLines) where
       let said_same : line.statement ≡ found.statement = ap (λ (line : Checked). line.statement) d.1 in
       let move_same : a.0 ≡ found.move = c.1 ∙ ap (λ (line : Checked). line.move) d.1 in
       let fits = move_fits before.names before.location before.reached line.statement a.0 (expr_bound _ _ a.1) in
-      let stays = not_false (is_in_part (location_behind before.location a.0)) (lists_too_many before line.statement) c.0 in
+      let stays = not_false (is_in_part (location_after before.location a.0)) (lists_too_many before line.statement) c.0 in
       record {
         statement = said_same;
         fits = subst (λ statement. Fits (declared_size statement) found.move) said_same (subst (Fits (declared_size line.statement)) move_same fits);
         titled = subst IsTitled said_same (named_is line d.0);
         few = subst (λ statement. lists_too_many before statement ≡ false) said_same
-            (second_false (is_in_part (location_behind before.location a.0)) (lists_too_many before line.statement) c.0);
-        within = subst (λ move. is_in_part (location_behind before.location move) ≡ true) move_same stays;
+            (second_false (is_in_part (location_after before.location a.0)) (lists_too_many before line.statement) c.0);
+        within = subst (λ move. is_in_part (location_after before.location move) ≡ true) move_same stays;
       }
 
   pub checked_said : (text : List ℕ) (found : Checked) → checked before text ≡ Ok found → parse_line text ≡ Ok found.statement
@@ -149,11 +149,11 @@ module _ (before : EarlierLines) where
       said_is text a.0 a.1 ∙ ap Ok (moved_is a.0 found a.2).statement
 
   room_by : (location : Location) (statement : Statement) (move : LocationChange) → is_in_part location ≡ true → Fits (declared_size statement) move
-      → is_in_part (location_behind location move) ≡ true → location.number + move.gap + declared_size statement ≤ 65536
+      → is_in_part (location_after location move) ≡ true → location.number + move.gap + declared_size statement ≤ 65536
   room_by location statement move here (inl (none, le)) there =
-      let behind_it : nat_le (location.number + (move.gap + move.size)) (limit location.part) ≡ true =
-      subst (λ origin. is_in_part (behind (set_or origin location) (move.gap + move.size)) ≡ true) none there in
-      grind (arith, nat_tests, behind_it, limit_le location.part, le)
+      let after_it : nat_le (location.number + (move.gap + move.size)) (limit location.part) ≡ true =
+      subst (λ origin. is_in_part (after (set_or origin location) (move.gap + move.size)) ≡ true) none there in
+      grind (arith, nat_tests, after_it, limit_le location.part, le)
   room_by location statement move here (inr (nothing, gap)) there =
       grind (arith, nat_tests, here, limit_le location.part, nothing, gap)
 
@@ -165,7 +165,7 @@ module _ (before : EarlierLines) where
       room_by before.location found.statement found.move here leads.fits leads.within
 
   pub checked_within : (text : List ℕ) (found : Checked) → checked before text ≡ Ok found
-      → is_in_part (location_behind before.location found.move) ≡ true
+      → is_in_part (location_after before.location found.move) ≡ true
   checked_within text found e =
       let a = bound (parsed before text) _ found e in
       (moved_is a.0 found a.2).within

@@ -12,7 +12,7 @@ use Rattle.instruction_defs.specs.SecondChecks.{second_checks}
 use Rattle.instruction_defs.specs.Growing as instructions
 use Rattle.instruction_defs.proofs.GrowingLaws.{words_stay}
 use Rattle.asm_defs.specs.declared.location.Location.{Location}
-use Rattle.asm_defs.specs.Locations.{behind, value_of}
+use Rattle.asm_defs.specs.Locations.{after, value_of}
 use Rattle.asm_defs.specs.Statements.{Statement, Instruction, Data, Byte, Def, End, as_form}
 use Rattle.asm_defs.specs.FirstChecks.{as_expr}
 use Rattle.asm_defs.specs.SecondChecks.{used_at, entry_at, value, word_in, data_values, absolute_in, byte_values, defined_here}
@@ -40,8 +40,8 @@ module _ (look more : List ℕ → Option Value) (grows : (name : List ℕ) (val
   data_stays place (text ∷ texts) =
       stays_then expressions.is_unresolved (word_in look at place text) (word_in more at place text) _ _ (word_stays place text)
       (λ first.
-      stays_then expressions.is_unresolved (data_values look at (behind place 2) texts) (data_values more at (behind place 2) texts) _ _
-      (data_stays (behind place 2) texts) (λ others. stays_same expressions.is_unresolved _))
+      stays_then expressions.is_unresolved (data_values look at (after place 2) texts) (data_values more at (after place 2) texts) _ _
+      (data_stays (after place 2) texts) (λ others. stays_same expressions.is_unresolved _))
 
   absolute_stays : (text : List ℕ) → Stays expressions.is_unresolved (absolute_in look at text) (absolute_in more at text)
   absolute_stays text =

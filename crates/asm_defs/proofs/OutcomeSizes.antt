@@ -9,7 +9,7 @@ use Rattle.instruction_defs.specs.FirstChecks.{Skeleton, first_checks, line_size
 use Rattle.instruction_defs.specs.SecondChecks.{second_checks}
 use Rattle.asm_defs.specs.declared.location.Location.{Location}
 use Rattle.asm_defs.specs.Statements.{Statement, Instruction, Data, Byte, Text, Def, End, as_form}
-use Rattle.asm_defs.specs.Locations.{behind, value_of}
+use Rattle.asm_defs.specs.Locations.{after, value_of}
 use Rattle.asm_defs.specs.FirstChecks.{as_expr}
 use Rattle.asm_defs.specs.SecondChecks.{Outcome, Nothing, Words, Bytes, Entry, checked_byte, checked_bytes, word_in, data_values, absolute_in, byte_values, defs_known}
 use Rattle.asm_defs.specs.SecondChecks.{defined_here, entry_in, outcome}
@@ -44,8 +44,8 @@ module _ (look : List ℕ → Option Value) (at : Location) where
   data_size place (text ∷ texts) words e =
       given length (length (text ∷ texts)) (word_in look at place text) _ words e
       (λ word is f.
-      given length (length (text ∷ texts)) (data_values look at (behind place 2) texts) _ words f
-      (λ others are g. is_ok length (length (text ∷ texts)) (word ∷ others) words g (omega (arith, data_size (behind place 2) texts others are))))
+      given length (length (text ∷ texts)) (data_values look at (after place 2) texts) _ words f
+      (λ others are g. is_ok length (length (text ∷ texts)) (word ∷ others) words g (omega (arith, data_size (after place 2) texts others are))))
 
   values_size : (texts : List (List ℕ)) (numbers : List ℕ) → byte_values look at texts ≡ Ok numbers → length numbers ≡ length texts
   values_size [] numbers e = is_ok length 0 _ numbers e refl

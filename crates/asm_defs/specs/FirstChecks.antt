@@ -23,7 +23,7 @@ use Rattle.asm_defs.specs.declared.location.Location.{Location}
 use Rattle.asm_defs.specs.declared.location.Part.TheVariants as part
 use Rattle.asm_defs.specs.Statements.{Statement, Nothing, Instruction, Aorg, Rorg, Dorg, Bss, Bes, Even, Equ, Data}
 use Rattle.asm_defs.specs.Statements.{Byte, Text, Def, Ref, Idt, Titl, End, statement_in, as_text}
-use Rattle.asm_defs.specs.Locations.{Line, location, reached, behind, to_even, value_of, is_in_part}
+use Rattle.asm_defs.specs.Locations.{Line, location, reached, after, to_even, value_of, is_in_part}
 use Rattle.source_defs.specs.Names.{same_text}
 
 -- an expression's refusal is one of the line
@@ -91,7 +91,7 @@ stays_at here size = record { origin = None; gap = 0; size = size; label = value
 -- Editor/Assembler manual, "Word Boundary": an instruction and DATA stand at an even place, and so does their label.
 abbrev pub stays_even : Location → ℕ → LocationChange
 stays_even here size =
-    record { origin = None; gap = to_even here; size = size; label = value_of (behind here (to_even here)) }
+    record { origin = None; gap = to_even here; size = size; label = value_of (after here (to_even here)) }
 
 -- Editor/Assembler manual, "Absolute Origin", "Relocatable Origin", "Dummy Origin": the label is the new location.
 abbrev pub set_to : Location → LocationChange
@@ -99,7 +99,7 @@ set_to location = record { origin = Some location; gap = 0; size = 0; label = va
 
 -- Editor/Assembler manual, "Block Ending with Symbol": the label is the location after the block.
 abbrev pub ends_block : Location → ℕ → LocationChange
-ends_block here size = record { origin = None; gap = 0; size = size; label = value_of (behind here size) }
+ends_block here size = record { origin = None; gap = 0; size = size; label = value_of (after here size) }
 
 abbrev pub equals : Value → LocationChange
 equals value = record { origin = None; gap = 0; size = 0; label = value }
@@ -181,8 +181,8 @@ known_of before =
     }
 
 -- the location after a line
-abbrev pub location_behind : Location → LocationChange → Location
-location_behind here move = behind (set_or move.origin here) (move.gap + move.size)
+abbrev pub location_after : Location → LocationChange → Location
+location_after here move = after (set_or move.origin here) (move.gap + move.size)
 
 abbrev pub has_too_many : List (List ℕ) → List (List ℕ) → Bool
 has_too_many before names = not (nat_le (length before + length names) most_names)
@@ -196,7 +196,7 @@ lists_too_many before _ = false
 -- Profile: a location past the end of its part is refused.
 abbrev pub is_too_far : EarlierLines → Statement → LocationChange → Bool
 is_too_far before statement move =
-    not (is_in_part (location_behind before.location move)) || lists_too_many before statement
+    not (is_in_part (location_after before.location move)) || lists_too_many before statement
 
 -- the module's name that a quoted text gives, filled up with blanks
 abbrev pub title_in : List ℕ → List ℕ
@@ -206,8 +206,8 @@ title_in text = padded 8 (characters text)
 abbrev pub is_title : List ℕ → Bool
 is_title text = is_module_name (title_in text)
 
--- Profile: a directive that cannot stand as it is: EQU without a label, IDT or TITL without a quoted text, a name of a
--- module that is none, and a name that DEF has already.
+-- Profile: a directive that cannot stand as it is: EQU without a label, IDT or TITL without a quoted text, a text that
+-- is no module's name, and a name that DEF has already.
 abbrev pub is_bad : EarlierLines → Option (List ℕ) → Statement → Bool
 is_bad before None (Equ text) = true
 is_bad before label (Idt text) = not (is_quoted text && is_title text)

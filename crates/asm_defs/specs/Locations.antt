@@ -16,14 +16,14 @@ Line = Laid Location Statement
 abbrev pub start : Location
 start = record { part = part.Relocatable; number = 0 }
 
-abbrev pub behind : Location → ℕ → Location
-behind location bytes = record { part = location.part; number = location.number + bytes }
+abbrev pub after : Location → ℕ → Location
+after location bytes = record { part = location.part; number = location.number + bytes }
 
 abbrev pub location : List Line → Location
-location before = layout.location start behind before
+location before = layout.location start after before
 
 abbrev pub place : List Line → Line → Location
-place before line = layout.place start behind before line
+place before line = layout.place start after before line
 
 -- the value of a number in a part
 abbrev pub value_by : Part → ℕ → Value

@@ -106,16 +106,16 @@ word_of references (Relocatable number) = spot.Relocatable number
 word_of references (External name) = last_use references name
 
 -- the last uses after a word at a place
-abbrev pub behind_word : List Reference → Spot → Value → List Reference
-behind_word references at (Absolute number) = references
-behind_word references at (Relocatable number) = references
-behind_word references at (External name) = with_use references name at
+abbrev pub after_word : List Reference → Spot → Value → List Reference
+after_word references at (Absolute number) = references
+after_word references at (Relocatable number) = references
+after_word references at (External name) = with_use references name at
 
 -- what words hold, of which the first stands at a place, and the last uses after them
 abbrev pub words_at : Part → List Reference → ℕ → List Value → List Spot × List Reference
 words_at part uses at [] = ([], uses)
 words_at part uses at (word ∷ words) =
-    let others = words_at part (behind_word uses (spot_by part at) word) (at + 2) words in
+    let others = words_at part (after_word uses (spot_by part at) word) (at + 2) words in
     (word_of uses word ∷ others.0, others.1)
 
 abbrev pub contents_by : Location → List Reference → Outcome → List Content
@@ -125,15 +125,15 @@ contents_by at references (Words words) =
 contents_by at references (Bytes bytes) = map content.Byte bytes
 contents_by at references (Entry entry) = []
 
-abbrev pub behind_by : Location → List Reference → Outcome → List Reference
-behind_by at references (Words words) =
+abbrev pub after_by : Location → List Reference → Outcome → List Reference
+after_by at references (Words words) =
     if is_placed_in at.part then (words_at at.part references at.number words).1 else references
-behind_by at references _ = references
+after_by at references _ = references
 
 -- The last uses after lines. Profile: a word under DORG is no use.
 abbrev pub references_of : List Reference → List AssembledLine → List Reference
 references_of references [] = references
-references_of references (line ∷ before) = behind_by line.at (references_of references before) line.outcome
+references_of references (line ∷ before) = after_by line.at (references_of references before) line.outcome
 
 -- what a line places, by the names that others define
 abbrev pub contents : List Reference → List AssembledLine → AssembledLine → List Content

@@ -83,8 +83,8 @@ module_by lines assembled_lines =
       entry = entry assembled_lines;
     }
 
-abbrev pub module_behind : List Line → Result Module (Refusal AsmCause)
-module_behind lines = do
+abbrev pub module_after : List Line → Result Module (Refusal AsmCause)
+module_after lines = do
   found ← assembled_lines (assembled_line (names lines)) lines
   Ok (module_by lines found)
 
@@ -92,7 +92,7 @@ module_behind lines = do
 abbrev pub module_of : List (ℕ × List ℕ) → Result Module (Refusal AsmCause)
 module_of lines = do
   found ← laid check lines
-  module_behind found
+  module_after found
 
 -- the module of some lines, which count from 1
 abbrev pub module_of_lines : List (List ℕ) → Result Module (Refusal AsmCause)

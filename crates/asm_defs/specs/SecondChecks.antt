@@ -19,7 +19,7 @@ use Rattle.asm_defs.specs.declared.location.Part.{Part}
 use Rattle.asm_defs.specs.declared.location.Part.TheVariants as part
 use Rattle.asm_defs.specs.Statements.{Statement, Instruction, Data, Byte, Text, Def, End, as_form}
 use Rattle.asm_defs.specs.FirstChecks.{as_expr}
-use Rattle.asm_defs.specs.Locations.{behind, value_of}
+use Rattle.asm_defs.specs.Locations.{after, value_of}
 
 -- what a line places, or the entry that it gives
 pub data Outcome : Type 0 where
@@ -72,7 +72,7 @@ module _ (look : List ℕ → Option Value) (at : Location) where
   data_values place [] = Ok []
   data_values place (text ∷ texts) = do
     first ← word_in place text
-    others ← data_values (behind place 2) texts
+    others ← data_values (after place 2) texts
     Ok (first ∷ others)
 
   abbrev pub absolute_in : List ℕ → Result ℕ ExprError

@@ -90,6 +90,7 @@ instruction_statement operation field = do
   size ← line_size operation field
   Ok (Instruction size operation field)
 
+-- the statement of an operation and its operand field: of a directive, if the operation is one, else of an instruction
 abbrev pub statement_by : Option Directive → List ℕ → List ℕ → Result Statement FormError
 statement_by (Some found) operation field = as_operands (directive_statement found (operand_texts field))
 statement_by None operation field = instruction_statement operation field

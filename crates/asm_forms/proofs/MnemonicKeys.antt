@@ -5,12 +5,13 @@ use Rattle.std.specs.Option.{option_map}
 use Rattle.std.proofs.lemmas.Bool.Decides.{nat_tests}
 use Rattle.source_defs.specs.Names.{is_word}
 use Rattle.tms_defs.specs.Instructions.{operations}
-use Rattle.instruction_defs.specs.Operations.{name_of, mnemonic}
+use Rattle.tms_defs.specs.Instructions.{name_of}
+use Rattle.instruction_defs.specs.Operations.{mnemonic}
 use Rattle.instruction_defs.specs.declared.mnemonic.Mnemonic.{Mnemonic}
 use Rattle.instruction_defs.specs.declared.mnemonic.Mnemonic.TheVariants.{Of, Fixed}
 use Rattle.asm_text.specs.WordKeys.{word_key, is_of_key, with_key}
 use Rattle.asm_forms.specs.Named.{named}
-use Rattle.asm_text.proofs.WordKeys.{AreBytes, word_told, words_found}
+use Rattle.asm_text.proofs.WordKeys.{AreBytes, word_by_key, words_found}
 
 -- what a number names
 abbrev pub named_by : Option ℕ → Option Mnemonic
@@ -22,10 +23,10 @@ by_key : (text : List ℕ) → AreBytes text → mnemonic text ≡ named_by (wor
 unfolding mnemonic
 by_key text bytes =
     ap (λ same. cond same (Some (Fixed 0x1000)) (cond (is_word text (codes "RT")) (Some (Fixed 0x045B))
-    (option_map Of (find (λ operation. is_word text (name_of operation)) operations)))) (word_told text (codes "NOP") bytes refl)
+    (option_map Of (find (λ operation. is_word text (name_of operation)) operations)))) (word_by_key text (codes "NOP") bytes refl)
     ∙ (ap (λ same. cond (is_of_key (word_key text) (codes "NOP")) (Some (Fixed 0x1000))
     (cond same (Some (Fixed 0x045B)) (option_map Of (find (λ operation. is_word text (name_of operation)) operations))))
-    (word_told text (codes "RT") bytes refl)
+    (word_by_key text (codes "RT") bytes refl)
     ∙ ap (λ found. cond (is_of_key (word_key text) (codes "NOP")) (Some (Fixed 0x1000))
     (cond (is_of_key (word_key text) (codes "RT")) (Some (Fixed 0x045B)) (option_map Of found))) (words_found name_of text operations bytes refl))
 

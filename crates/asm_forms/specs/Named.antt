@@ -2,7 +2,7 @@
 use Rattle.std.specs.Prelude.{ℕ, List, map}
 use Rattle.tms_defs.specs.Instructions.{operations}
 use Rattle.tms_defs.specs.declared.instruction.Operation.{Operation}
-use Rattle.instruction_defs.specs.Operations.{name_of}
+use Rattle.tms_defs.specs.Instructions.{name_of}
 use Rattle.asm_text.specs.WordKeys.{key_of}
 
 -- the operations, each after the number of its name

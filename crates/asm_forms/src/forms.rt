@@ -69,9 +69,9 @@ pub(crate) fn first_text(mode: Mode, text: &[u8]) -> &[u8]
 {
     match mode {
         Mode::Plain => text,
-        Mode::Indirect | Mode::Symbolic => behind_sign(text),
-        Mode::Increment => without_last(behind_sign(text)),
-        Mode::Indexed(place) => &behind_sign(text)[..usize::from(place)],
+        Mode::Indirect | Mode::Symbolic => after_sign(text),
+        Mode::Increment => without_last(after_sign(text)),
+        Mode::Indexed(place) => &after_sign(text)[..usize::from(place)],
     }
 }
 
@@ -80,12 +80,12 @@ pub(crate) fn index_text(place: u16, text: &[u8]) -> &[u8]
     requires { place + 3 ≤ length text.now }
     ensures { result.now ≡ slice_range (drop 1 text.now) (place + 1) (last_place (drop 1 text.now)) }
 {
-    let rest = behind_sign(text);
+    let rest = after_sign(text);
     &rest[usize::from(place) + 1..rest.len() - 1]
 }
 
 /// A text without its first byte.
-fn behind_sign(text: &[u8]) -> &[u8]
+fn after_sign(text: &[u8]) -> &[u8]
     requires { 1 ≤ length text.now }
     ensures { result.now ≡ drop 1 text.now }
 {

@@ -3,7 +3,7 @@
 ghost use Rattle.std.specs.Prelude.{◌≡◌, ◌≤◌, false, length, true};
 ghost use Rattle.tms_defs.specs.Instructions.{operation_of};
 ghost use Rattle.tms_defs.specs.declared.instruction.Operation.TheVariants.{Two, Reg, Shift, One, Jump, Imm, Bare};
-ghost use Rattle.instruction_defs.specs.Operations as spec;
+ghost use Rattle.tms_defs.specs.Instructions as spec;
 
 use tms_defs::{BareOp, ImmOp, Instr, JumpOp, OneOp, Operation, RegOp, ShiftOp, TwoOp};
 

@@ -3,67 +3,50 @@ use Rattle.std.proofs.Common.{◌≡◌, ℕ, zero, suc, ◌-◌, List, [], ◌�
 use Rattle.std.proofs.Common.{append-nil}
 use Rattle.std.specs.Prelude.{Option, Result}
 use Rattle.std.specs.List.{flat_map}
-use Rattle.std.proofs.lemmas.List.{length-map}
 use Rattle.source_defs.specs.Refusals.{Refusal}
 use Rattle.expression_defs.specs.Symbols.{Names}
 use Rattle.expression_defs.specs.Layout.{assembled_lines}
 use Rattle.asm_defs.specs.declared.causes.AsmCause.{AsmCause}
-use Rattle.asm_defs.specs.declared.location.Location.{Location}
 use Rattle.asm_defs.specs.Locations.{Line}
 use Rattle.asm_defs.specs.FirstChecks.{names}
 use Rattle.asm_defs.specs.Memory.{AssembledLine}
 use Rattle.asm_defs.specs.Modules.{assembled_line}
 use Rattle.shelf_defs.specs.Copied as spec
 use Rattle.shelf_defs.specs.Copied.{PlacedLine, CopyRefusal, Copied, copied_by}
-use Rattle.shelf_defs.specs.Assembly.{texts, laid_copied}
-use Rattle.asm_list_defs.specs.Listed.{front, shown, paired, defined, first_answer, lines_in}
-use Rattle.asm_list_defs.specs.Listed.{Listing, names_of_line, listing_before, listing_behind, listing_by, listing_of}
+use Rattle.shelf_defs.specs.Assembly.{laid_copied}
+use Rattle.asm_list_defs.specs.Listed.{lines_let_through, shown, paired, defined, first_answer, lines_in}
+use Rattle.asm_list_defs.specs.Listed.{Listing, names_of_line, listing_before, listing_after, listing_by, listing_of}
 use Rattle.asm_list_defs.specs.Rows.{lines_rows, name_row, listing_rows}
-use Rattle.asm_list_defs.specs.ByText.{shown_line, names_text}
-use Rattle.asm_list_defs.proofs.TextLaws.{shown_by_texts, defined_by_texts}
 use Rattle.bench_shelf.specs.States.{ShelfState}
 use Rattle.bench_shelf.specs.declared.copy_error.CopyError.{CopyError}
 use Rattle.bench_shelf.specs.declared.copy_error.CopyError.TheVariants.{At, TooLarge, Fault, Memory}
 use Rattle.bench_shelf.specs.declared.kept_line.KeptLine.{KeptLine}
 use Rattle.bench_shelf.specs.declared.listed.ListedEnding.{ListedEnding}
-use Rattle.bench_shelf.specs.declared.listed.ListedEnding.TheVariants.{Whole, Behind, Before}
+use Rattle.bench_shelf.specs.declared.listed.ListedEnding.TheVariants.{Whole, After, Before}
 use Rattle.bench_shelf.specs.declared.listed.ListedSource.{ListedSource}
 use Rattle.bench_shelf.specs.CopyAnswers.{CopyRefuses, model_of_cause}
-use Rattle.bench_shelf.specs.Kept.{model_of_kept}
-use Rattle.bench_shelf.specs.Listed.{KeepsFront, EndsListed, GivesListed, ListAnswered, RefusedBehind, IsTold}
+use Rattle.bench_shelf.specs.Kept.{model_of_kept, shown_of, names_of}
+use Rattle.bench_shelf.specs.Listed.{KeepsFront, EndsListed, GivesListed, ListAnswered, RefusedAfter, GivesReport}
 use Rattle.asm_list.specs.declared.listing.AsmListing.{AsmListing}
 use Rattle.asm_list.specs.Adding.{listed_line, named_line, rows_of_names, all_rows, refused_in}
 use Rattle.asm_list.specs.Listings.{rows_of, RefusedAs, Lists, ListingAnswered}
 
--- what is shown of kept lines
-module _ (known : Option Names) where
-  pairs_by : (kept : List KeptLine)
-      → paired (map model_of_kept kept) (map (shown_line known) (paired (map (λ line. line.here) kept) (texts (map model_of_kept kept))))
-      ≡ map (listed_line known) kept
-  pairs_by [] = refl
-  pairs_by (line ∷ kept) = ap (λ others. listed_line known line ∷ others) (pairs_by kept)
+-- items side by side, as they are made of others
+side_by_side : {A B C : Type 0} (f : A → B) (g : A → C) (items : List A) → paired (map f items) (map g items) ≡ map (λ item. (f item, g item)) items
+side_by_side f g [] = refl
+side_by_side f g (item ∷ items) = ap (λ others. (f item, g item) ∷ others) (side_by_side f g items)
 
-  pub pairs : (all : List PlacedLine) (lines : List Line) (kept : List KeptLine) → KeepsFront all lines kept
-      → paired (front all) (shown known lines) ≡ map (listed_line known) kept
-  pairs all lines kept keeps =
-      let size : length lines ≡ length (texts (front all)) = keeps.size ∙ sym (length-map (front all) (λ line. line.text)) in
-      ap (paired (front all)) (shown_by_texts known (texts (front all)) lines keeps.laid size)
-      ∙ (ap (λ (hs : List Location). paired (front all) (map (shown_line known) (paired hs (texts (front all))))) (sym keeps.heres)
-      ∙ (ap (λ (lines : List PlacedLine). paired lines (map (shown_line known) (paired (map (λ line. line.here) kept) (texts lines)))) (sym keeps.are)
-      ∙ pairs_by kept))
+-- what is shown of kept lines, and the names that they define
+module _ (all : List PlacedLine) (lines : List Line) (kept : List KeptLine) (keeps : KeepsFront all lines kept) where
+  pub pairs : (known : Option Names) → paired (lines_let_through all) (shown known lines) ≡ map (listed_line known) kept
+  pairs known =
+      ap (λ all. paired all (shown known lines)) (sym keeps.are)
+      ∙ (ap (paired (map model_of_kept kept)) (sym (keeps.shown known)) ∙ side_by_side model_of_kept (shown_of known) kept)
 
--- the names that they define
-names_by : (kept : List KeptLine) → paired (map model_of_kept kept) (map names_text (texts (map model_of_kept kept))) ≡ map named_line kept
-names_by [] = refl
-names_by (line ∷ kept) = ap (λ others. named_line line ∷ others) (names_by kept)
-
-pub names_are : (all : List PlacedLine) (lines : List Line) (kept : List KeptLine) → KeepsFront all lines kept
-    → paired (front all) (defined lines) ≡ map named_line kept
-names_are all lines kept keeps =
-    let size : length lines ≡ length (texts (front all)) = keeps.size ∙ sym (length-map (front all) (λ line. line.text)) in
-    ap (paired (front all)) (defined_by_texts (texts (front all)) lines keeps.laid size)
-    ∙ (ap (λ (lines : List PlacedLine). paired lines (map names_text (texts lines))) (sym keeps.are)
-    ∙ names_by kept)
+  pub names_are : paired (lines_let_through all) (defined lines) ≡ map named_line kept
+  names_are =
+      ap (λ all. paired all (defined lines)) (sym keeps.are)
+      ∙ (ap (paired (map model_of_kept kept)) (sym keeps.names) ∙ side_by_side model_of_kept names_of kept)
 
 map_take : {A B : Type 0} (f : A → B) (n : ℕ) (items : List A) → map f (take n items) ≡ take n (map f items)
 map_take f zero items = refl
@@ -76,17 +59,17 @@ pub record IsRefused {B : Type 0} (error : CopyError) (answer : Result B CopyRef
   pub is : answer ≡ Err refusal
   pub refuses : CopyRefuses {B = Unit {0}} error (Err refusal)
 
-is_refused : {B : Type 0} (error : CopyError) (answer : Result B CopyRefusal) → CopyRefuses error answer → IsTold error → IsRefused error answer
-is_refused (At file line cause) answer refuses told = record {
+is_refused : {B : Type 0} (error : CopyError) (answer : Result B CopyRefusal) → CopyRefuses error answer → GivesReport error → IsRefused error answer
+is_refused (At file line cause) answer refuses reported = record {
   refusal = spec.At (record { file = file; line = line }) (model_of_cause cause);
   is = refuses.1;
   refuses = (refuses.0, refl);
 }
-is_refused TooLarge answer refuses told = record { refusal = spec.TooLarge; is = refuses; refuses = refl }
-is_refused Fault answer refuses told = absurd (told tt)
-is_refused Memory answer refuses told = absurd (told tt)
+is_refused TooLarge answer refuses reported = record { refusal = spec.TooLarge; is = refuses; refuses = refl }
+is_refused Fault answer refuses reported = absurd reported
+is_refused Memory answer refuses reported = absurd reported
 
--- the listing of copied lines, by what stands behind those that are kept
+-- the listing of copied lines, by what stands after those that are kept
 module _ (found : Copied) (lines : List Line) (kept : List KeptLine) (keeps : KeepsFront found.lines lines kept) where
   pub record IsListing (ending : ListedEnding) : Type 0 where
     pub rows : all_rows kept ending ≡ listing_rows (listing_of found)
@@ -100,13 +83,13 @@ module _ (found : Copied) (lines : List Line) (kept : List KeptLine) (keeps : Ke
   }
 
   -- all lines, with their names
-  module _ (laid : laid_copied found ≡ Ok lines) (whole : front found.lines ≡ found.lines) where
+  module _ (laid : laid_copied found ≡ Ok lines) (whole : lines_let_through found.lines ≡ found.lines) where
     listing_is : (answer : Result (List AssembledLine) (Refusal AsmCause)) → assembled_lines (assembled_line (names lines)) lines ≡ answer
-        → listing_of found ≡ listing_behind found.lines lines answer
-    listing_is answer is = ap (listing_by found.lines) laid ∙ ap (listing_behind found.lines lines) is
+        → listing_of found ≡ listing_after found.lines lines answer
+    listing_is answer is = ap (listing_by found.lines) laid ∙ ap (listing_after found.lines lines) is
 
     all_pairs : (known : Option Names) → paired found.lines (shown known lines) ≡ map (listed_line known) kept
-    all_pairs known = ap (λ all. paired all (shown known lines)) (sym whole) ∙ pairs known found.lines lines kept keeps
+    all_pairs known = ap (λ all. paired all (shown known lines)) (sym whole) ∙ pairs found.lines lines kept keeps known
 
     all_names : paired found.lines (defined lines) ≡ map named_line kept
     all_names = ap (λ all. paired all (defined lines)) (sym whole) ∙ names_are found.lines lines kept keeps
@@ -114,44 +97,44 @@ module _ (found : Copied) (lines : List Line) (kept : List KeptLine) (keeps : Ke
     whole_listing : (known : Names) → known ≡ names lines → (assembled_as : List AssembledLine) → assembled_lines (assembled_line (names lines)) lines ≡ Ok assembled_as
         → IsListing (Whole known)
     whole_listing known same assembled_as is =
-        by_listing (Whole known) (listing_behind found.lines lines (Ok assembled_as)) (listing_is (Ok assembled_as) is)
+        by_listing (Whole known) (listing_after found.lines lines (Ok assembled_as)) (listing_is (Ok assembled_as) is)
         (ap (λ known. all_rows kept (Whole known)) same
         ∙ (ap (λ pairs. lines_rows None pairs ++ rows_of_names (names lines) kept) (sym (all_pairs (Some (names lines))))
         ∙ ap (λ named. lines_rows None (paired found.lines (shown (Some (names lines)) lines))
         ++ map name_row (flat_map (names_of_line (names lines)) named)) (sym all_names)))
         refl
 
-    behind_listing : (known : Names) (number : ℕ) (error : CopyError) → known ≡ names lines → RefusedBehind found.lines lines number error
-        → IsListing (Behind known number error)
-    behind_listing known number error same refused =
+    after_listing : (known : Names) (number : ℕ) (error : CopyError) → known ≡ names lines → RefusedAfter found.lines lines number error
+        → IsListing (After known number error)
+    after_listing known number error same refused =
         let refusal : Refusal AsmCause = record { line = number; cause = refused.cause } in
-        let listing = listing_behind found.lines lines (Err refusal) in
-        by_listing (Behind known number error) listing (listing_is (Err refusal) refused.assembled_lines)
-        (ap (λ known. all_rows kept (Behind known number error)) same
+        let listing = listing_after found.lines lines (Err refusal) in
+        by_listing (After known number error) listing (listing_is (Err refusal) refused.assembled_lines)
+        (ap (λ known. all_rows kept (After known number error)) same
         ∙ (ap (lines_rows None) (map_take (listed_line (Some (names lines))) (number - 1) kept ∙ ap (take (number - 1)) (sym (all_pairs (Some (names lines)))))
         ∙ sym (append-nil (lines_rows None (take (number - 1) (paired found.lines (shown (Some (names lines)) lines)))))))
         (subst (λ error. RefusedAs (Some error) listing.refusal) (sym refused.is)
-        ((refused.own, ap (λ (place : spec.Place). Err (spec.At place (spec.Asm refused.cause))) (sym refused.place)), λ untold. untold))
+        ((refused.own, ap (λ (place : spec.Place). Err (spec.At place (spec.Asm refused.cause))) (sym refused.place)), tt))
 
   -- those up to the first that is refused before
-  before_listing : (error : CopyError) → IsRefused error (laid_copied found) → IsTold error → IsListing (Before error)
-  before_listing error refused told =
-      let all = front found.lines in
+  before_listing : (error : CopyError) → IsRefused error (laid_copied found) → GivesReport error → IsListing (Before error)
+  before_listing error refused reported =
+      let all = lines_let_through found.lines in
       by_listing (Before error) (listing_before all refused.refusal) (ap (listing_by found.lines) refused.is)
-      (ap (lines_rows None) (sym (pairs None found.lines lines kept keeps))
+      (ap (lines_rows None) (sym (pairs found.lines lines kept keeps None))
       ∙ (ap (λ answer. lines_rows None (paired all (shown None (lines_in answer)))) (sym keeps.laid)
       ∙ sym (append-nil (lines_rows None (paired all (shown None (lines_in (first_answer all))))))))
-      (refused.refuses, told)
+      (refused.refuses, reported)
 
   pub ends_listing : (asked : ℕ) (ending : ListedEnding) → EndsListed asked found lines ending → IsListing ending
   ends_listing asked (Whole known) ends = whole_listing ends.0 ends.1 known ends.2.0 ends.2.1.0 ends.2.1.1
-  ends_listing asked (Behind known number error) ends = behind_listing ends.0 ends.1 known number error ends.2.0 ends.2.1
+  ends_listing asked (After known number error) ends = after_listing ends.0 ends.1 known number error ends.2.0 ends.2.1
   ends_listing asked (Before error) ends = before_listing error (is_refused error (laid_copied found) ends.0 ends.1) ends.1
 
   pub ends_copies : (asked : ℕ) (ending : ListedEnding) → EndsListed asked found lines ending → (others : List Line) → laid_copied found ≡ Ok others
       → asked ≡ found.copies
   ends_copies asked (Whole known) ends others laid = ends.3
-  ends_copies asked (Behind known number error) ends others laid = ends.3
+  ends_copies asked (After known number error) ends others laid = ends.3
   ends_copies asked (Before error) ends others laid =
       let refused = is_refused error (laid_copied found) ends.0 ends.1 in
       cc (laid, refused.is)

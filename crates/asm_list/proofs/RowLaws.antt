@@ -32,7 +32,7 @@ one_row at (byte ∷ text) some =
     ap (λ rows. row_below at (take 24 (byte ∷ text)) ∷ rows)
     (rows_enough (length text) (length (drop 24 (byte ∷ text))) (eight_on at) (drop 24 (byte ∷ text)) (omega (arith, left)) (omega arith))
 
--- those behind the first row of a line
+-- those after the first row of a line
 pub rows_are : (at : Location) (text : List ℕ) → rows_below (length text) at (drop 24 text) ≡ below at (drop 24 text)
 rows_are at text = let left = length-drop 24 text in rows_enough (length text) (length (drop 24 text)) at (drop 24 text) (omega (arith, left)) (omega arith)
 

@@ -12,7 +12,7 @@ use Rattle.asm_defs.specs.SecondChecks.{Outcome, Nothing}
 use Rattle.asm_defs.specs.Memory.{is_placed_in}
 use Rattle.asm_checks.specs.Answers.{Causes}
 use Rattle.asm_list_defs.specs.Listed.{found_or}
-use Rattle.asm_list_defs.specs.ByText.{shown_text}
+use Rattle.bench_shelf.specs.Kept.{shown_by}
 use Rattle.asm_list_defs.specs.Rows.{outcome_text}
 
 pub dummy_text : (at : Location) (answer : Result Outcome AsmCause) → is_placed_in at.part ≡ false → [] ≡ outcome_text (found_or at answer)
@@ -31,12 +31,12 @@ refused_text at (cause.Form (form.Expr expr.Memory)) answer is = absurd is
 refused_text at _ answer is = none_text at _ answer is
 
 -- nothing is shown of a line that says nothing
-pub nothing_said : (known : Option Names) (here : Location) (cause : AsmCause) (answer : Result Statement AsmCause) → Causes cause answer
-    → record { at = here; outcome = Nothing } ≡ shown_text known here answer
-nothing_said known here (cause.Expr expr.Memory) answer is = absurd is
-nothing_said known here (cause.Form form.Memory) answer is = absurd is
-nothing_said known here (cause.Form (form.Expr expr.Memory)) answer is = absurd is
-nothing_said known here _ answer is = ap (shown_text known here) (sym is)
+pub nothing_said : (known : Option Names) (at : Location) (origin : Option Location) (cause : AsmCause) (answer : Result Statement AsmCause) → Causes cause answer
+    → record { at = at; outcome = Nothing } ≡ shown_by known at origin answer
+nothing_said known at origin (cause.Expr expr.Memory) answer is = absurd is
+nothing_said known at origin (cause.Form form.Memory) answer is = absurd is
+nothing_said known at origin (cause.Form (form.Expr expr.Memory)) answer is = absurd is
+nothing_said known at origin _ answer is = ap (shown_by known at origin) (sym is)
 
 pub nothing_text : [] ≡ outcome_text Nothing
 unfolding outcome_text

@@ -11,12 +11,11 @@ use Rattle.shelf_defs.specs.Copied.{PlacedLine}
 use Rattle.asm_list_defs.specs.Listed as listed
 use Rattle.asm_list_defs.specs.Listed.{ListedName, found_or, names_of_line}
 use Rattle.asm_list_defs.specs.Rows.{outcome_text, lines_rows, rows_below, name_row}
-use Rattle.asm_list_defs.specs.ByText.{shown_line, names_text}
-use Rattle.bench_shelf.specs.Kept.{model_of_kept}
+use Rattle.bench_shelf.specs.Kept.{model_of_kept, shown_of, names_of}
 use Rattle.bench_shelf.specs.declared.copy_error.CopyError.{CopyError}
 use Rattle.bench_shelf.specs.declared.kept_line.KeptLine.{KeptLine}
 use Rattle.bench_shelf.specs.declared.listed.ListedEnding.{ListedEnding}
-use Rattle.bench_shelf.specs.declared.listed.ListedEnding.TheVariants.{Whole, Behind, Before}
+use Rattle.bench_shelf.specs.declared.listed.ListedEnding.TheVariants.{Whole, After, Before}
 use Rattle.asm_list.specs.declared.shown.Lister.{Lister}
 use Rattle.asm_list.specs.declared.shown.Shown.{Shown}
 
@@ -35,14 +34,14 @@ pub record Shows (shown : Shown) (defined : listed.Shown) : Type 0 where
 
 -- a kept line with what is shown of it
 abbrev pub listed_line : Option Names → KeptLine → PlacedLine × listed.Shown
-listed_line known kept = (model_of_kept kept, shown_line known (kept.here, kept.text.items))
+listed_line known kept = (model_of_kept kept, shown_of known kept)
 
 abbrev pub rows_by_names : Option Names → List KeptLine → List (List ℕ)
 rows_by_names known lines = lines_rows None (map (listed_line known) lines)
 
 -- a kept line with the names that it defines
 abbrev pub named_line : KeptLine → PlacedLine × List (List ℕ)
-named_line kept = (model_of_kept kept, names_text kept.text.items)
+named_line kept = (model_of_kept kept, names_of kept)
 
 abbrev pub named_rows : Names → KeptLine → List (List ℕ) → List ListedName
 named_rows known kept names = names_of_line known (model_of_kept kept, names)
@@ -53,13 +52,13 @@ rows_of_names known lines = map name_row (flat_map (names_of_line known) (map na
 -- all rows, by what stands after the kept lines
 abbrev pub all_rows : List KeptLine → ListedEnding → List (List ℕ)
 all_rows lines (Whole known) = rows_by_names (Some known) lines ++ rows_of_names known lines
-all_rows lines (Behind known number error) = rows_by_names (Some known) (take (number - 1) lines)
+all_rows lines (After known number error) = rows_by_names (Some known) (take (number - 1) lines)
 all_rows lines (Before error) = rows_by_names None lines
 
 -- what is refused, by what stands after the kept lines
 abbrev pub refused_in : ListedEnding → Option CopyError
 refused_in (Whole known) = None
-refused_in (Behind known number error) = Some error
+refused_in (After known number error) = Some error
 refused_in (Before error) = Some error
 
 -- what a line places by all names, at its place

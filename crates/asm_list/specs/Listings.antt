@@ -13,7 +13,7 @@ use Rattle.bench_shelf.specs.declared.copy_error.CopyError.TheVariants.{At, TooL
 use Rattle.bench_shelf.specs.CopyAnswers.{CopyRefuses}
 use Rattle.bench_shelf.specs.Causes.{ShelfCauses, ReadOverLimit, ReadWithinLimit}
 use Rattle.bench_shelf.specs.Dialogue.{CopyDialogue}
-use Rattle.bench_shelf.specs.Listed.{IsTold}
+use Rattle.bench_shelf.specs.Listed.{GivesReport}
 use Rattle.asm_list.specs.declared.listing.AsmListing.{AsmListing}
 
 -- the rows that are written, each by one call
@@ -28,7 +28,7 @@ as_result (Some refusal) = Err refusal
 -- the refusal that the definitions have, or none
 abbrev pub RefusedAs : Option CopyError → Option CopyRefusal → Type 0
 RefusedAs None defined = defined ≡ None
-RefusedAs (Some error) defined = CopyRefuses error (as_result defined) × IsTold error
+RefusedAs (Some error) defined = CopyRefuses error (as_result defined) × GivesReport error
 
 -- The listing of copied lines. Where no line is refused by the first checks, as many files were copied as were asked
 -- for.

@@ -3,7 +3,7 @@
 ghost use Rattle.std.specs.Prelude.{◌≡◌, ◌≤◌, ◌-◌, List, IfOk, IfErr, length, take};
 ghost use Rattle.bench_io.specs.Written.{Written};
 ghost use Rattle.bench_shelf.specs.Causes.{CountsGrew};
-ghost use Rattle.bench_shelf.specs.Listed.{IsUntold};
+ghost use Rattle.bench_shelf.specs.Listed.{GivesNoReport};
 ghost use Rattle.asm_list.specs.Adding.{texts_in, all_rows, refused_in};
 ghost use Rattle.asm_list.specs.Listings.{rows_of, ListingAnswered, ListingCauses};
 
@@ -35,7 +35,7 @@ pub fn list_source<F: Shelf>(
 ) -> Result<AsmListing, CopyError>
     requires { length source.now ≤ 1048576 }
     ensures answered { ListingAnswered (F.shelf shelf.old) (F.shelf shelf.new) source.now result }
-    ensures untold { IfErr result IsUntold }
+    ensures no_report { IfErr result GivesNoReport }
     ensures causes { ListingCauses result (F.shelf shelf.old) (F.shelf shelf.new) }
     ensures later { CountsGrew (F.shelf shelf.old) (F.shelf shelf.new) }
 {
@@ -70,7 +70,7 @@ fn all_rows(
             lister.put_lines(lines, &mut rows)?;
             put_names(alloc, names, lines, &mut rows)?;
         }
-        ListedEnding::Behind { names, number, .. } => {
+        ListedEnding::After { names, number, .. } => {
             let lister = Lister {
                 alloc,
                 names: Some(names),
@@ -102,7 +102,7 @@ fn refused_by(ending: &ListedEnding) -> Option<CopyError>
 {
     match ending {
         ListedEnding::Whole(_) => None,
-        ListedEnding::Behind { error, .. } => Some(*error),
+        ListedEnding::After { error, .. } => Some(*error),
         ListedEnding::Before(error) => Some(*error),
     }
 }

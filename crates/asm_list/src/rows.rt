@@ -5,6 +5,7 @@ ghost use Rattle.std.specs.Option.{option_map};
 ghost use Rattle.arrayvec.specs.ArrayVec.{array_vec_len};
 ghost use Rattle.asm_text.specs.GivenValues.{model_of_value};
 ghost use Rattle.object_defs.specs.Digits.{padded};
+ghost use Rattle.source_defs.specs.Digits.{right_in};
 ghost use Rattle.asm_list_defs.specs.Rows as spec;
 ghost use Rattle.bench_shelf.specs.Kept.{model_of_kept};
 
@@ -108,10 +109,10 @@ fn append_file(line: &mut Line, file: &Option<FileName>)
 }
 
 /// Appends a number, right in seven columns.
-#[tactic(auto, using(std::proofs::Common::append_assoc), unfolding(asm_list_defs::specs::Rows::number_text))]
+#[tactic(auto, using(std::proofs::Common::append_assoc), unfolding(source_defs::specs::Digits::right_in))]
 fn append_number(line: &mut Line, number: u32)
     requires { array_vec_len line.old + 47 ≤ 192 }
-    ensures text { line.new.items ≡ line.old.items ++ spec.number_text number }
+    ensures text { line.new.items ≡ line.old.items ++ right_in 7 number }
     ensures len { array_vec_len line.new ≤ array_vec_len line.old + 47 }
 {
     let mut buffer = Buffer::new();

@@ -6,12 +6,13 @@ ghost use Rattle.asm_defs.specs.Statements as parsed;
 ghost use Rattle.asm_checks.specs.Answers.{Gives};
 ghost use Rattle.asm_checks.specs.Defined.{model_of_statement, KeepsSkeleton, NamesOnly};
 ghost use Rattle.asm_checks.specs.Moves.{MovesLittle};
-ghost use Rattle.asm_list_defs.specs.ByText as spec;
+ghost use Rattle.asm_list_defs.specs.Listed as spec;
 ghost use Rattle.asm_list_defs.specs.Rows.{outcome_text};
+ghost use Rattle.bench_shelf.specs.Kept.{shown_of};
 ghost use Rattle.asm_list.specs.Adding.{Shows, found_in, known_to};
 
 use crate::text::outcome_text;
-use asm_checks::{Failure, Scope, Statement, behind, statement_in};
+use asm_checks::{Failure, Scope, Statement, statement_in};
 use asm_defs::{AsmCause, Location, Part};
 use asm_text::{Symbols, fields};
 use bench_shelf::KeptLine;
@@ -38,34 +39,34 @@ pub(crate) struct Lister<'a> {
 impl Lister<'_> {
     /// What is shown of a line.
     pub(crate) fn shown_line(&self, line: &KeptLine) -> Result<Shown, AllocError>
-        ensures { IfOk result (λ shown.
-            Shows shown (spec.shown_line (known_to self.now) (line.now.here, line.now.text.items))) }
+        ensures { IfOk result (λ shown. Shows shown (shown_of (known_to self.now) line.now)) }
     {
+        let at = line.taken.at;
         match parse_line(line.text.as_slice()) {
-            Ok(statement) => self.shown_statement(line.here, &statement),
+            Ok(statement) => self.shown_statement(at, line.taken.origin, &statement),
             Err(Failure::Refused(_)) => Ok(Shown {
-                at: line.here,
+                at,
                 placed: Vec::new(self.alloc),
             }),
             Err(Failure::Memory) => Err(AllocError),
         }
     }
 
-    /// What is shown of what a line says, at the location before it.
+    /// What is shown of what a line says, at its place, or at the location that it sets.
     #[tactic(auto, unfolding(asm_list_defs::specs::Rows::outcome_text))]
     fn shown_statement(
         &self,
-        here: Location,
+        at: Location,
+        origin: Option<Location>,
         statement: &Statement<'_>,
     ) -> Result<Shown, AllocError>
-        requires here { here.number ≤ 65536 }
+        requires at { at.number ≤ 65536 }
         requires little { MovesLittle statement.now }
         requires names { NamesOnly statement.now }
         requires skeleton { KeepsSkeleton statement.now }
         ensures { IfOk result (λ shown.
-            Shows shown (spec.shown_said (known_to self.now) here (model_of_statement statement.now))) }
+            Shows shown (spec.shown_at (known_to self.now) at origin (model_of_statement statement.now))) }
     {
-        let at = place_said(here, statement);
         match self.names {
             Some(symbols) => {
                 let scope = Scope {
@@ -74,10 +75,13 @@ impl Lister<'_> {
                     at,
                 };
                 let placed = placed_text(&scope, statement)?;
-                Ok(Shown { at, placed })
+                Ok(Shown {
+                    at: origin.unwrap_or(at),
+                    placed,
+                })
             }
             None => Ok(Shown {
-                at,
+                at: origin.unwrap_or(at),
                 placed: Vec::new(self.alloc),
             }),
         }
@@ -94,20 +98,6 @@ fn parse_line(text: &[u8]) -> Result<Statement<'_>, Failure>
     match fields(text) {
         Ok(found) => statement_in(text, &found),
         Err(error) => Err(Failure::Refused(AsmCause::Text(error))),
-    }
-}
-
-/// The place of a line, by the location before it.
-fn place_said(here: Location, statement: &Statement<'_>) -> Location
-    requires { here.number ≤ 65536 }
-    ensures place { result ≡ spec.place_said here (model_of_statement statement.now) }
-    ensures within { result.number ≤ 65536 }
-{
-    match statement {
-        Statement::Instruction(_) | Statement::Data(_) | Statement::Even => {
-            behind(here, here.number % 2)
-        }
-        _ => here,
     }
 }
 

@@ -6,7 +6,7 @@ use Rattle.std.proofs.lemmas.Bool.Decides.{nat_tests}
 use Rattle.std.proofs.lemmas.Bool.{and_parts, or_parts, or_right, cases_lt}
 use Rattle.source_defs.specs.Refusals.{Refusal, at_line}
 use Rattle.expression_defs.specs.Symbols.{Names, look_up}
-use Rattle.expression_defs.specs.Layout.{assembled_lines}
+use Rattle.expression_defs.specs.Layout.{assembled_lines, set_or}
 use Rattle.object_defs.specs.Modules.{Module, Reference, most_words}
 use Rattle.asm_defs.specs.declared.causes.AsmCause.{AsmCause}
 use Rattle.asm_defs.specs.declared.causes.AsmCause.TheVariants.{Overflow, Overlap}
@@ -16,12 +16,12 @@ use Rattle.asm_defs.specs.Locations.{Line, place}
 use Rattle.asm_defs.specs.FirstChecks.{names, refs}
 use Rattle.asm_defs.specs.SecondChecks.{outcome}
 use Rattle.asm_defs.specs.Memory.{AssembledLine, bytes_in, is_placed_in, same_part, covers, is_placed, any_from, overlaps, word_count, contents, content_at}
-use Rattle.asm_defs.specs.Modules.{assembled_line, with_room, unused, module_behind}
+use Rattle.asm_defs.specs.Modules.{assembled_line, with_room, unused, module_after}
 use Rattle.asm_defs.proofs.CheckLaws.{bound}
 use Rattle.shelf_defs.specs.Files.{Contents}
 use Rattle.shelf_defs.specs.Copied.{PlacedLine, Copied, copied_by}
 use Rattle.shelf_defs.specs.Assembly.{in_place, laid_copied, module_of_copied}
-use Rattle.asm_list_defs.specs.Listed.{Shown, shown_at, shown, found_or, paired, listed_names, listing_behind, listing_by, listing_of}
+use Rattle.asm_list_defs.specs.Listed.{Shown, shown_at, shown, found_or, paired, listed_names, listing_after, listing_by, listing_of}
 use Rattle.asm_list_defs.specs.Laws.{shown_assembled, shown_in_order, StandAtTheirPlaces, IsListed, ListingsShowModules}
 
 -- what has room stays as it is, and nothing of it was placed before
@@ -37,27 +37,27 @@ room_by _ _ earlier line found is e = cc e
 has_room : (earlier : List AssembledLine) (line found : AssembledLine) → with_room earlier line ≡ Ok found → HasRoom earlier line found
 has_room earlier line found e = room_by (nat_lt most_words (word_count (line ∷ earlier))) (overlaps earlier line) earlier line found refl e
 
-pub at_line_ok : {A : Type 0} (number : ℕ) (answer : Result A AsmCause) (found : A) → at_line number answer ≡ Ok found → answer ≡ Ok found
+at_line_ok : {A : Type 0} (number : ℕ) (answer : Result A AsmCause) (found : A) → at_line number answer ≡ Ok found → answer ≡ Ok found
 at_line_ok number (Ok value) found e = cc e
 at_line_ok number (Err refused) found e = cc e
 
--- each of the lines has room behind those before it
+-- each of the lines has room after those before it
 abbrev AllRoom : List AssembledLine → Type 0
 AllRoom [] = ⊤
 AllRoom (line ∷ before) = (overlaps before line ≡ false) × AllRoom before
 
 module _ (known : Names) where
   pub record Assembles (lines : List Line) (found : List AssembledLine) : Type 0 where
-    pub shows : shown (Some known) lines ≡ shown_in_order found
+    pub shows : shown (Some known) lines ≡ shown_in_order lines found
     pub room : AllRoom found
 
   one_assembled : (before : List Line) (earlier : List AssembledLine) (line : Line) (found : AssembledLine) → assembled_line known before earlier line ≡ Ok found
-      → (shown_at (Some known) (place before line) line ≡ shown_assembled found) × (overlaps earlier found ≡ false)
+      → (shown_at (Some known) (place before line) line.origin line.statement ≡ shown_assembled line found) × (overlaps earlier found ≡ false)
   one_assembled before earlier line found e =
       let at = place before line in
       let a = bound (outcome (look_up known) at line.statement) _ found e in
       let room = has_room earlier (record { at = at; outcome = a.0 }) found a.2 in (
-        ap (λ answer. record { at = at; outcome = found_or at answer }) a.1 ∙ ap shown_assembled room.same,
+        ap (λ answer. record { at = set_or line.origin at; outcome = found_or at answer }) a.1 ∙ ap (shown_assembled line) room.same,
         subst (λ found. overlaps earlier found ≡ false) room.same room.free,
       )
 
@@ -70,8 +70,8 @@ module _ (known : Names) where
       let others = all_assembled before a.0 a.1 in
       let same : b.0 ∷ a.0 ≡ found = cc b.2 in
       subst (Assembles (line ∷ before)) same (record {
-        shows = ap (λ (shows : List Shown). shows ++ shown_at (Some known) (place before line) line ∷ []) others.shows
-            ∙ ap (λ (show : Shown). shown_in_order a.0 ++ show ∷ []) one.0;
+        shows = ap (λ (shows : List Shown). shows ++ shown_at (Some known) (place before line) line.origin line.statement ∷ []) others.shows
+            ∙ ap (λ (show : Shown). shown_in_order before a.0 ++ show ∷ []) one.0;
         room = (one.1, others.room);
       })
 
@@ -103,7 +103,7 @@ covers_own line k placed lt =
     let to : nat_lt (line.at.number + k) (line.at.number + bytes_in line.outcome) ≡ true = grind (arith, nat_tests, lt) in
     rw (placed_same line.at.part placed, from, to) refl
 
--- they are placed behind it too
+-- they are placed after it too
 still_placed : (later before : List AssembledLine) (line : AssembledLine) (p : Part) (n : ℕ) → covers line p n ≡ true → is_placed (later ++ line ∷ before) p n ≡ true
 still_placed [] before line p n own = rw own refl
 still_placed (other ∷ later) before line p n own = or_right (covers other p n) (is_placed (later ++ line ∷ before) p n) (still_placed later before line p n own)
@@ -157,17 +157,17 @@ of_copied : (copied : Copied) (m : Module) (contents : Contents) (source : List 
     → IsListed m contents source (listing_of copied)
 of_copied copied m contents source same e =
     let a = bound (laid_copied copied) _ m e in
-    let b = bound (assembled_lines (assembled_line (names a.0)) a.0) _ m (in_place_ok copied.lines (module_behind a.0) m a.2) in
+    let b = bound (assembled_lines (assembled_line (names a.0)) a.0) _ m (in_place_ok copied.lines (module_after a.0) m a.2) in
     let is = all_assembled (names a.0) a.0 b.0 b.1 in
-    let found : listing_of copied ≡ listing_behind copied.lines a.0 (Ok b.0) =
-    ap (listing_by copied.lines) a.1 ∙ ap (listing_behind copied.lines a.0) b.1 in
+    let found : listing_of copied ≡ listing_after copied.lines a.0 (Ok b.0) =
+    ap (listing_by copied.lines) a.1 ∙ ap (listing_after copied.lines a.0) b.1 in
     record {
       lines = a.0;
       laid = ap laid_copied (sym same) ∙ a.1;
       assembled_lines = b.0;
       is = cc b.2;
       shows = ap (λ listing. listing.lines) found
-          ∙ (ap (paired copied.lines) is.shows ∙ ap (λ (copied : Copied). paired copied.lines (shown_in_order b.0)) same);
+          ∙ (ap (paired copied.lines) is.shows ∙ ap (λ (copied : Copied). paired copied.lines (shown_in_order a.0 b.0)) same);
       names = ap (λ listing. listing.names) found ∙ ap (λ (copied : Copied). listed_names copied.lines a.0) same;
       whole = ap (λ listing. listing.refusal) found;
       stand = all_stand (map unused (refs a.0)) b.0 is.room;

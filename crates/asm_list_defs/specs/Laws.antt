@@ -1,24 +1,26 @@
 -- What holds of the listings of all sources.
 use Rattle.std.specs.Prelude.{◌≡◌, ℕ, ◌+◌, ◌<◌, List, [], ◌∷◌, ◌++◌, map, slice_get, None, Ok, IsTrue}
 use Rattle.object_defs.specs.Modules.{Module, Reference}
+use Rattle.expression_defs.specs.Layout.{set_or}
 use Rattle.asm_defs.specs.Locations.{Line}
 use Rattle.asm_defs.specs.FirstChecks.{refs}
 use Rattle.asm_defs.specs.Memory.{AssembledLine, bytes_in, is_placed_in, contents, content_at}
 use Rattle.asm_defs.specs.Modules as modules
-use Rattle.asm_defs.specs.Modules.{assembled_line, unused}
+use Rattle.asm_defs.specs.Modules.{unused}
 use Rattle.shelf_defs.specs.Files.{Contents}
 use Rattle.shelf_defs.specs.Copied.{copied_by}
 use Rattle.shelf_defs.specs.Assembly.{module_by, laid_copied}
 use Rattle.asm_list_defs.specs.Listed.{Shown, Listing, placed_at, paired, listed_names, listing}
 
--- what is shown of a line that came to something
-abbrev pub shown_assembled : AssembledLine → Shown
-shown_assembled line = record { at = line.at; outcome = placed_at line.at line.outcome }
+-- What is shown of a line that came to something. Profile: a line that sets a location is shown at that.
+abbrev pub shown_assembled : Line → AssembledLine → Shown
+shown_assembled line found = record { at = set_or line.origin found.at; outcome = placed_at found.at found.outcome }
 
--- in their order
-abbrev pub shown_in_order : List AssembledLine → List Shown
-shown_in_order [] = []
-shown_in_order (line ∷ before) = shown_in_order before ++ shown_assembled line ∷ []
+-- lines and what they came to, in the order of the lines
+abbrev pub shown_in_order : List Line → List AssembledLine → List Shown
+shown_in_order [] others = []
+shown_in_order (line ∷ before) [] = []
+shown_in_order (line ∷ before) (found ∷ others) = shown_in_order before others ++ shown_assembled line found ∷ []
 
 -- The bytes of each line stand in the module's parts at the line's places: no line after it covers one of them.
 abbrev pub StandAtTheirPlaces : List Reference → List AssembledLine → Type 0
@@ -33,7 +35,7 @@ pub record IsListed (module_ : Module) (contents : Contents) (source : List ℕ)
   pub laid : laid_copied (copied_by contents source) ≡ Ok lines
   pub assembled_lines : List AssembledLine
   pub is : module_ ≡ modules.module_by lines assembled_lines
-  pub shows : found.lines ≡ paired (copied_by contents source).lines (shown_in_order assembled_lines)
+  pub shows : found.lines ≡ paired (copied_by contents source).lines (shown_in_order lines assembled_lines)
   pub names : found.names ≡ listed_names (copied_by contents source).lines lines
   pub whole : found.refusal ≡ None
   pub stand : StandAtTheirPlaces (map unused (refs lines)) assembled_lines

@@ -1,4 +1,3 @@
 pub mod Listed
 pub mod Rows
-pub mod ByText
 pub mod Laws

@@ -10,10 +10,11 @@ use Rattle.source_defs.specs.Refusals.{Refusal}
 use Rattle.expression_defs.specs.Expression.{Value}
 use Rattle.expression_defs.specs.Symbols.{Names, look_up}
 use Rattle.source_defs.specs.Lines.{numbered}
-use Rattle.expression_defs.specs.Layout.{laid, assembled_lines}
+use Rattle.expression_defs.specs.Layout.{laid, assembled_lines, set_or}
 use Rattle.asm_defs.specs.declared.causes.AsmCause.{AsmCause}
 use Rattle.asm_defs.specs.declared.location.Location.{Location}
-use Rattle.asm_defs.specs.Locations.{Line, location, place}
+use Rattle.asm_defs.specs.Locations.{Line, place}
+use Rattle.asm_defs.specs.Statements.{Statement}
 use Rattle.asm_defs.specs.FirstChecks.{check, names}
 use Rattle.asm_defs.specs.SecondChecks.{Outcome, Nothing, outcome}
 use Rattle.asm_defs.specs.Memory.{AssembledLine, is_placed_in}
@@ -47,20 +48,17 @@ abbrev pub found_or : Location → Result Outcome AsmCause → Outcome
 found_or at (Ok found) = placed_at at found
 found_or at (Err cause) = Nothing
 
--- what a line at a place places, by all names; nothing of a source of which a line is refused before
-abbrev pub shown_at : Option Names → Location → Line → Shown
-shown_at None at line = record { at = at; outcome = Nothing }
-shown_at (Some known) at line = record { at = at; outcome = found_or at (outcome (look_up known) at line.statement) }
+-- What a line at a place places, by all names; nothing of a source of which a line is refused before.
+-- Profile: AORG, RORG and DORG are listed at the place that they set.
+abbrev pub shown_at : Option Names → Location → Option Location → Statement → Shown
+shown_at None at origin statement = record { at = set_or origin at; outcome = Nothing }
+shown_at (Some known) at origin statement =
+    record { at = set_or origin at; outcome = found_or at (outcome (look_up known) at statement) }
 
 -- the lines in their order
 abbrev pub shown : Option Names → List Line → List Shown
 shown known [] = []
-shown known (line ∷ before) = shown known before ++ shown_at known (place before line) line ∷ []
-
--- the locations before lines, in the order of the lines
-abbrev pub heres : List Line → List Location
-heres [] = []
-heres (line ∷ before) = heres before ++ location before ∷ []
+shown known (line ∷ before) = shown known before ++ shown_at known (place before line) line.origin line.statement ∷ []
 
 -- items side by side, as many as the shorter list has
 abbrev pub paired : {A B : Type 0} → List A → List B → List (A × B)
@@ -82,16 +80,16 @@ abbrev pub listed_names : List PlacedLine → List Line → List ListedName
 listed_names all lines = flat_map (names_of_line (names lines)) (paired all (defined lines))
 
 -- how many lines the checks let through
-abbrev pub let_through : {A C : Type 0} → Result (List A) (Refusal C) → ℕ
-let_through (Ok lines) = length lines
-let_through (Err refusal) = refusal.line - 1
+abbrev pub number_let_through : {A C : Type 0} → Result (List A) (Refusal C) → ℕ
+number_let_through (Ok lines) = length lines
+number_let_through (Err refusal) = refusal.line - 1
 
 abbrev pub first_answer : List PlacedLine → Result (List Line) (Refusal AsmCause)
 first_answer all = laid check (numbered 1 (texts all))
 
--- the copied lines up to the first that the first checks refuse
-abbrev pub front : List PlacedLine → List PlacedLine
-front all = take (let_through (first_answer all)) all
+-- the copied lines that the first checks let through
+abbrev pub lines_let_through : List PlacedLine → List PlacedLine
+lines_let_through all = take (number_let_through (first_answer all)) all
 
 abbrev pub lines_in : {A C : Type 0} → Result (List A) C → List A
 lines_in (Ok lines) = lines
@@ -103,10 +101,10 @@ listing_before all refusal =
     record { lines = paired all (shown None (lines_in (first_answer all))); names = []; refusal = Some refusal }
 
 -- a source by its second checks
-abbrev pub listing_behind : List PlacedLine → List Line → Result (List AssembledLine) (Refusal AsmCause) → Listing
-listing_behind all lines (Ok found) =
+abbrev pub listing_after : List PlacedLine → List Line → Result (List AssembledLine) (Refusal AsmCause) → Listing
+listing_after all lines (Ok found) =
     record { lines = paired all (shown (Some (names lines)) lines); names = listed_names all lines; refusal = None }
-listing_behind all lines (Err refusal) =
+listing_after all lines (Err refusal) =
     record {
       lines = take (refusal.line - 1) (paired all (shown (Some (names lines)) lines));
       names = [];
@@ -114,8 +112,8 @@ listing_behind all lines (Err refusal) =
     }
 
 abbrev pub listing_by : List PlacedLine → Result (List Line) CopyRefusal → Listing
-listing_by all (Ok lines) = listing_behind all lines (assembled_lines (assembled_line (names lines)) lines)
-listing_by all (Err refusal) = listing_before (front all) refusal
+listing_by all (Ok lines) = listing_after all lines (assembled_lines (assembled_line (names lines)) lines)
+listing_by all (Err refusal) = listing_before (lines_let_through all) refusal
 
 -- the listing of copied lines
 abbrev pub listing_of : Copied → Listing

@@ -4,11 +4,10 @@
 -- part that it belongs to; a blank; what it places, in 24 columns; and the line. What does not fit in 24 columns stands
 -- in rows below it, each with its own place and without a number. Where a line stands in another file than the line
 -- before it, a row says so. The rows of the names come last.
-use Rattle.std.specs.Prelude.{ℕ, zero, suc, ◌+◌, ◌-◌, if◌then◌else◌, Bool, true, false, List, [], ◌∷◌, ◌++◌}
-use Rattle.std.specs.Prelude.{length, take, drop, map, replicate, codes, Option, Some, None}
-use Rattle.std.specs.List.{flat_map, concat}
-use Rattle.std.specs.Fmt.{decimal}
-use Rattle.source_defs.specs.Digits.{byte_digits, word_digits, hex_word}
+use Rattle.std.specs.Prelude.{ℕ, zero, suc, ◌+◌, if◌then◌else◌, Bool, true, false, List, [], ◌∷◌, ◌++◌}
+use Rattle.std.specs.Prelude.{length, take, drop, map, codes, Option, Some, None}
+use Rattle.std.specs.List.{flat_map}
+use Rattle.source_defs.specs.Digits.{byte_digits, word_digits, hex_word, right_in}
 use Rattle.source_defs.specs.Names.{same_text}
 use Rattle.expression_defs.specs.Expression.{Value, Absolute, Relocatable, External, to_word}
 use Rattle.object_defs.specs.Digits.{padded}
@@ -18,10 +17,6 @@ use Rattle.asm_defs.specs.declared.location.Part.TheVariants as part
 use Rattle.asm_defs.specs.SecondChecks.{Outcome, Nothing, Words, Bytes, Entry}
 use Rattle.shelf_defs.specs.Copied.{PlacedLine}
 use Rattle.asm_list_defs.specs.Listed.{Shown, ListedName, Listing}
-
--- a number, right in seven columns
-unfoldable pub number_text : ℕ → List ℕ
-number_text number = replicate (7 - length (decimal number)) 0x20 ++ decimal number
 
 -- Profile: a relocatable place has the mark `'`, one in a dummy section `-`, and an absolute one a blank.
 abbrev pub part_mark : Part → ℕ
@@ -62,7 +57,7 @@ row_below at text = codes "        " ++ (placed_text at text ++ codes "\n")
 -- the row of a line, with the first of what it places
 unfoldable pub first_row : PlacedLine → Location → List ℕ → List ℕ
 first_row line at text =
-    number_text line.place.line ++ (codes " " ++ (placed_text at text ++ (line.text ++ codes "\n")))
+    right_in 7 line.place.line ++ (codes " " ++ (placed_text at text ++ (line.text ++ codes "\n")))
 
 -- the place eight bytes on
 abbrev pub eight_on : Location → Location
@@ -119,12 +114,8 @@ abbrev pub name_row : ListedName → List ℕ
 name_row found =
     codes "name "
     ++ (value_text found.value
-    ++ (0x20 ∷ (number_text found.place.line ++ (0x20 ∷ (found.name ++ of_file found.place.file)))))
+    ++ (0x20 ∷ (right_in 7 found.place.line ++ (0x20 ∷ (found.name ++ of_file found.place.file)))))
 
 -- the rows of a listing
 abbrev pub listing_rows : Listing → List (List ℕ)
 listing_rows found = lines_rows None found.lines ++ map name_row found.names
-
--- one after the other
-abbrev pub listing_text : Listing → List ℕ
-listing_text found = concat (listing_rows found)

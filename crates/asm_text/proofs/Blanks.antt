@@ -18,9 +18,9 @@ module _ (line : List ℕ) (at : ℕ) (inside : at < length line) where
   word_goes_on above =
       least_place_step (λ k. is_blank (get_or line k 0)) line at inside ∙ ap (λ b. cond b at (word_end line (at + 1))) (no_blank (get_or line at 0) above)
 
-  module _ (start : ℕ) (behind : start ≤ at) (above : 39 < get_or line at 0) where
+  module _ (start : ℕ) (after : start ≤ at) (above : 39 < get_or line at 0) where
     pub quotes_stay : in_quotes line start (at + 1) ≡ in_quotes line start at
-    quotes_stay = in_quotes_more_no line start at behind inside (no_quote (get_or line at 0) above)
+    quotes_stay = in_quotes_more_no line start at after inside (no_quote (get_or line at 0) above)
 
     pub field_goes_on : least_place (ends_field line start) line at ≡ least_place (ends_field line start) line (at + 1)
     field_goes_on =

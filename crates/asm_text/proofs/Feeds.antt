@@ -13,14 +13,14 @@ use Rattle.source_defs.specs.Lines.{feed_place}
 use Rattle.source_defs.proofs.LeastLaws.{least_place_step}
 
 -- places that do not pass are passed over
-least_behind : (p : ℕ → Bool) (bytes : List ℕ) (from n : ℕ) → from + n ≤ length bytes → ((k : ℕ) → from ≤ k → k < from + n → p k ≡ false)
+least_after : (p : ℕ → Bool) (bytes : List ℕ) (from n : ℕ) → from + n ≤ length bytes → ((k : ℕ) → from ≤ k → k < from + n → p k ≡ false)
     → least_place p bytes from ≡ least_place p bytes (from + n)
-least_behind p bytes from zero room fails = let same : from ≡ from + 0 = omega arith in ap (least_place p bytes) same
-least_behind p bytes from (suc n) room fails =
+least_after p bytes from zero room fails = let same : from ≡ from + 0 = omega arith in ap (least_place p bytes) same
+least_after p bytes from (suc n) room fails =
     let same : from + 1 + n ≡ from + suc n = omega arith in
     let here : p from ≡ false = fails from (omega arith) (omega arith) in
     least_place_step p bytes from (omega (arith, room)) ∙ (ap (λ b. cond b from (least_place p bytes (from + 1))) here
-    ∙ (least_behind p bytes (from + 1) n (omega (arith, room)) (λ k ge lt. fails k (omega (arith, ge)) (omega (arith, lt)))
+    ∙ (least_after p bytes (from + 1) n (omega (arith, room)) (λ k ge lt. fails k (omega (arith, ge)) (omega (arith, lt)))
     ∙ ap (least_place p bytes) same))
 
 -- the least place is one that passes itself
@@ -41,9 +41,9 @@ module _ (text : List ℕ) (from : ℕ) (room : from + 32 ≤ length text) where
   abbrev pub feeds : ℕ
   feeds = mask_l (map is_line_feed (chunk from 32 text))
 
-  -- where the mask is empty, the search goes on behind these bytes
+  -- where the mask is empty, the search goes on after these bytes
   pub no_feed : feeds ≡ 0 → feed_place text from ≡ feed_place text (from + 32)
-  no_feed none = least_behind _ text from 32 room (none_from_empty_mask is_line_feed text from 32 0 room none)
+  no_feed none = least_after _ text from 32 room (none_from_empty_mask is_line_feed text from 32 0 room none)
 
   abbrev before : ℕ
   before = count_trailing_zeros 64 feeds
@@ -67,5 +67,5 @@ module _ (text : List ℕ) (from : ℕ) (room : from + 32 ≤ length text) where
   first_feed some =
       let lt = within some in
       let passes = run_in_chunk_stops is_line_feed text from 32 before 0 room (counted some) lt in
-      least_behind _ text from before (omega (arith, lt, room)) (run_in_chunk_fails is_line_feed text from 32 before 0 room (counted some))
+      least_after _ text from before (omega (arith, lt, room)) (run_in_chunk_fails is_line_feed text from 32 before 0 room (counted some))
       ∙ least_here _ text (from + before) (omega (arith, lt, room)) passes

@@ -35,11 +35,11 @@ either : (b : Bool) (value : defined.Value) (first second : Option defined.Value
 either true value first second = refl
 either false value first second = refl
 
-found-append : (name : List ℕ) (front behind : List (List ℕ × defined.Value)) → found name (front ++ behind) ≡ or_else (found name front) (found name behind)
-found-append name [] behind = refl
-found-append name (entry ∷ front) behind =
-    ap (cond (eq_by_cmp (slice_cmp nat_cmp) name entry.0) (Some entry.1)) (found-append name front behind)
-    ∙ either (eq_by_cmp (slice_cmp nat_cmp) name entry.0) entry.1 (found name front) (found name behind)
+found-append : (name : List ℕ) (front after : List (List ℕ × defined.Value)) → found name (front ++ after) ≡ or_else (found name front) (found name after)
+found-append name [] after = refl
+found-append name (entry ∷ front) after =
+    ap (cond (eq_by_cmp (slice_cmp nat_cmp) name entry.0) (Some entry.1)) (found-append name front after)
+    ∙ either (eq_by_cmp (slice_cmp nat_cmp) name entry.0) entry.1 (found name front) (found name after)
 
 mapped : (b : Bool) (value : Value) (other : Option Value) → cond b (Some (model_of_value value)) (option_map model_of_value other)
     ≡ option_map model_of_value (cond b (Some value) other)

@@ -29,9 +29,9 @@ exchanged true false c = refl
 exchanged false true c = refl
 exchanged false false c = refl
 
-word_behind : (letter : ℕ) (rest : List ℕ) (first : ℕ) (name : List ℕ)
+word_after : (letter : ℕ) (rest : List ℕ) (first : ℕ) (name : List ℕ)
     → is_word (letter ∷ rest) (first ∷ name) ≡ ((upper_case letter == first) && is_word rest name)
-word_behind letter rest first name =
+word_after letter rest first name =
     ap (λ same. same && ((upper_case letter == first) && same_letters rest name)) (eqb-suc-suc (length rest) (length name))
     ∙ exchanged (length rest == length name) (upper_case letter == first) (same_letters rest name)
 
@@ -60,13 +60,13 @@ keys_tell (byte ∷ text) (letter ∷ word) p q =
     let here : nat_lt letter 256 ≡ true = first_so (nat_lt letter 256) (list_all (λ letter. nat_lt letter 256) word) q in
     let there : list_all (λ letter. nat_lt letter 256) word ≡ true = second_so (nat_lt letter 256) (list_all (λ letter. nat_lt letter 256) word) q in
     let low : letter < 256 = grind (arith, nat_tests) in
-    word_behind byte text letter word
+    word_after byte text letter word
     ∙ (ap (λ same. (upper_case byte == letter) && same) (keys_tell text word (λ at. p (suc at)) there)
     ∙ digits_same (upper_case byte) letter (key_of (map upper_case text)) (key_of word) (upper_case_byte byte (omega (arith, p 0))) low)
 
 -- a text is a word where its key, if it has one, is the word's
-pub word_told : (text word : List ℕ) → AreBytes text → is_short word ≡ true → is_word text word ≡ is_of_key (word_key text) word
-word_told text word p short = by (nat_le (length text) 5) refl
+pub word_by_key : (text word : List ℕ) → AreBytes text → is_short word ≡ true → is_word text word ≡ is_of_key (word_key text) word
+word_by_key text word p short = by (nat_le (length text) 5) refl
   where
     few : nat_le (length word) 5 ≡ true
     few = first_so (nat_le (length word) 5) (list_all (λ letter. nat_lt letter 256) word) short
@@ -83,16 +83,16 @@ word_told text word p short = by (nat_le (length text) 5) refl
 -- the same of each thing that has a name
 pub words_found : {A : Type 0} (name : A → List ℕ) (text : List ℕ) (things : List A) → AreBytes text → list_all (λ thing. is_short (name thing)) things ≡ true
     → find (λ thing. is_word text (name thing)) things ≡ with_key (word_key text) (map (λ thing. (key_of (name thing), thing)) things)
-words_found {A} name text things p short = told things short ∙ rows (word_key text) things
+words_found {A} name text things p short = word_is things short ∙ rows (word_key text) things
   where
-    told : (some : List A) → list_all (λ thing. is_short (name thing)) some ≡ true
+    word_is : (some : List A) → list_all (λ thing. is_short (name thing)) some ≡ true
         → find (λ thing. is_word text (name thing)) some ≡ find (λ thing. is_of_key (word_key text) (name thing)) some
-    told [] q = refl
-    told (thing ∷ others) q =
+    word_is [] q = refl
+    word_is (thing ∷ others) q =
         let here = first_so (is_short (name thing)) (list_all (λ it. is_short (name it)) others) q in
         let there = second_so (is_short (name thing)) (list_all (λ it. is_short (name it)) others) q in
-        ap (λ found. cond found (Some thing) (find (λ it. is_word text (name it)) others)) (word_told text (name thing) p here)
-        ∙ ap (cond (is_of_key (word_key text) (name thing)) (Some thing)) (told others there)
+        ap (λ found. cond found (Some thing) (find (λ it. is_word text (name it)) others)) (word_by_key text (name thing) p here)
+        ∙ ap (cond (is_of_key (word_key text) (name thing)) (Some thing)) (word_is others there)
 
     either : (b : Bool) (thing : A) (others : List A) (key : ℕ) (rest : Option A)
         → rest ≡ option_map (λ (row : ℕ × A). row.1) (find (λ row. key == row.0) (map (λ it. (key_of (name it), it)) others))
@@ -111,7 +111,7 @@ words_found {A} name text things p short = told things short ∙ rows (word_key 
 -- what a text names in a table of words, by its number in the table of their numbers
 pub first_by_key : {A : Type 0} (text : List ℕ) (rows : List (List ℕ × A)) → AreBytes text → list_all (λ (row : List ℕ × A). is_short row.0) rows ≡ true
     → named_in rows text ≡ with_key (word_key text) (map (λ (row : List ℕ × A). (key_of row.0, row.1)) rows)
-first_by_key {A} text rows p short = told rows short
+first_by_key {A} text rows p short = word_is rows short
   where
     keyed : List (List ℕ × A) → List (ℕ × A)
     keyed some = map (λ (row : List ℕ × A). (key_of row.0, row.1)) some
@@ -130,28 +130,28 @@ first_by_key {A} text rows p short = told rows short
         by true = refl
         by false = refl
 
-    told : (some : List (List ℕ × A)) → list_all (λ (row : List ℕ × A). is_short row.0) some ≡ true
+    word_is : (some : List (List ℕ × A)) → list_all (λ (row : List ℕ × A). is_short row.0) some ≡ true
         → named_in some text ≡ with_key (word_key text) (keyed some)
-    told [] q = none (word_key text)
-    told (row ∷ others) q =
+    word_is [] q = none (word_key text)
+    word_is (row ∷ others) q =
         let here = first_so (is_short row.0) (list_all (λ (it : List ℕ × A). is_short it.0) others) q in
         let there = second_so (is_short row.0) (list_all (λ (it : List ℕ × A). is_short it.0) others) q in
-        ap (λ found. cond found (Some row.1) (named_in others text)) (word_told text row.0 p here)
-        ∙ (ap (cond (is_of_key (word_key text) row.0) (Some row.1)) (told others there) ∙ more (word_key text) row others)
+        ap (λ found. cond found (Some row.1) (named_in others text)) (word_by_key text row.0 p here)
+        ∙ (ap (cond (is_of_key (word_key text) row.0) (Some row.1)) (word_is others there) ∙ more (word_key text) row others)
 
 -- a row of a table that has the key, and one that has another
 module _ {A : Type 0} (rows : List (ℕ × A)) (at key : ℕ) (none : ℕ × A) (within : at < length rows) where
   abbrev row : ℕ × A
   row = get_or rows at none
 
-  told : (b : Bool) → (key == row.0) ≡ b
+  word_is : (b : Bool) → (key == row.0) ≡ b
       → with_key (Some key) (drop at rows) ≡ option_map (λ (row : ℕ × A). row.1) (cond b (Some row) (find (λ (row : ℕ × A). key == row.0) (drop (at + 1) rows)))
-  told b is =
+  word_is b is =
       ap (with_key (Some key)) (drop_more rows at none within)
       ∙ ap (λ found. option_map (λ (row : ℕ × A). row.1) (cond found (Some row) (find (λ (row : ℕ × A). key == row.0) (drop (at + 1) rows)))) is
 
   pub key_here : key ≡ row.0 → Some row.1 ≡ with_key (Some key) (drop at rows)
-  key_here same = let is : (key == row.0) ≡ true = grind (arith, nat_tests) in sym (told true is)
+  key_here same = let is : (key == row.0) ≡ true = grind (arith, nat_tests) in sym (word_is true is)
 
   pub key_later : (key ≡ row.0 → ⊥) → with_key (Some key) (drop (at + 1) rows) ≡ with_key (Some key) (drop at rows)
-  key_later other = let is : (key == row.0) ≡ false = grind (arith, nat_tests) in sym (told false is)
+  key_later other = let is : (key == row.0) ≡ false = grind (arith, nat_tests) in sym (word_is false is)

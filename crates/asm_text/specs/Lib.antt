@@ -18,5 +18,6 @@ pub mod GivenTokens
 pub mod GivenValues
 pub mod Yielded
 pub mod Kept
+pub mod ValueCode
 pub mod Padding
 pub mod WordKeys

@@ -5,10 +5,10 @@ use Rattle.std.proofs.Common.{ap, sym}
 use Rattle.source_defs.specs.Names.{is_kept_name}
 
 -- a number, with a number of bytes of a name after it as its lower digits; after the name they are 0
-unfoldable pub key_behind : ℕ → ℕ → List ℕ → ℕ
-key_behind key zero name = key
-key_behind key (suc places) [] = key_behind (256 * key) places []
-key_behind key (suc places) (byte ∷ name) = key_behind (256 * key + byte) places name
+unfoldable pub key_after : ℕ → ℕ → List ℕ → ℕ
+key_after key zero name = key
+key_after key (suc places) [] = key_after (256 * key) places []
+key_after key (suc places) (byte ∷ name) = key_after (256 * key + byte) places name
 
 -- the eight bytes of a name: its own, zeros, and how many it has
 abbrev pub kept_bytes : List ℕ → List ℕ
@@ -16,7 +16,7 @@ kept_bytes name = name ++ (replicate (7 - length name) 0 ++ (length name ∷ [])
 
 -- these bytes as one number, the first highest
 unfoldable pub name_key : List ℕ → ℕ
-name_key name = 256 * key_behind 0 7 name + length name
+name_key name = 256 * key_after 0 7 name + length name
 
 -- eight bytes are the bytes of the name that their first `len` are
 pub record IsPadded (bytes : List ℕ) (len : ℕ) : Type 0 where

@@ -31,11 +31,11 @@ pub fn word_key(text: &[u8]) -> Option<u64>
 {
     match text {
         [] => Some(1),
-        [a] => Some(behind(*a, 1)),
-        [a, b] => Some(behind(*a, behind(*b, 1))),
-        [a, b, c] => Some(behind(*a, behind(*b, behind(*c, 1)))),
-        [a, b, c, d] => Some(behind(*a, behind(*b, behind(*c, behind(*d, 1))))),
-        [a, b, c, d, e] => Some(behind(*a, behind(*b, behind(*c, behind(*d, behind(*e, 1)))))),
+        [a] => Some(after(*a, 1)),
+        [a, b] => Some(after(*a, after(*b, 1))),
+        [a, b, c] => Some(after(*a, after(*b, after(*c, 1)))),
+        [a, b, c, d] => Some(after(*a, after(*b, after(*c, after(*d, 1))))),
+        [a, b, c, d, e] => Some(after(*a, after(*b, after(*c, after(*d, after(*e, 1)))))),
         _ => None,
     }
 }
@@ -60,7 +60,7 @@ macro_rules! keyed {
 }
 
 /// The number of a word by its first letter and the number of the others.
-fn behind(letter: u8, others: u64) -> u64
+fn after(letter: u8, others: u64) -> u64
     requires { others < 2 ^ 48 }
     ensures key { result ≡ upper_case letter + 256 * others }
     ensures bound { result < 256 * (others + 1) }

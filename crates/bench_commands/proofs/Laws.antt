@@ -25,7 +25,7 @@ use Rattle.bench_commands.specs.Laws.{LawsOfRuns}
 -- a report on bytes that were taken is one on all bytes of the input
 pub on_all : (Accepted : List ℕ → Report → Type 0) (before after : SourceState) (bytes input : List ℕ) (report : Report) → before.left ≡ Some input → ReadsInput before after bytes
     → OnInput Accepted bytes report → OnInput Accepted input report
-on_all Accepted before after bytes input report told reading on = left after.left refl
+on_all Accepted before after bytes input report shown reading on = left after.left refl
   where
     by : (rest : List ℕ) → after.left ≡ Some rest → input ≡ bytes ++ rest → (large : Bool) → nat_lt largest_input (length bytes) ≡ large → MatchBool large (report ≡ Faulty TooLarge) (Accepted bytes report) → OnInput Accepted input report
     by rest is all true large found =
@@ -41,10 +41,10 @@ on_all Accepted before after bytes input report told reading on = left after.lef
 
     left : (l : Option (List ℕ)) → after.left ≡ l → OnInput Accepted input report
     left None is =
-        let e : Some input ≡ None = sym told ∙ (reading.took.told ∙ ap (option_map (λ rest. bytes ++ rest)) is) in
+        let e : Some input ≡ None = sym shown ∙ (reading.took.gave ∙ ap (option_map (λ rest. bytes ++ rest)) is) in
         absurd (cc)
     left (Some rest) is =
-        let e : Some input ≡ Some (bytes ++ rest) = sym told ∙ (reading.took.told ∙ ap (option_map (λ rest. bytes ++ rest)) is) in
+        let e : Some input ≡ Some (bytes ++ rest) = sym shown ∙ (reading.took.gave ∙ ap (option_map (λ rest. bytes ++ rest)) is) in
         let all : input ≡ bytes ++ rest = cc in
         by rest is all (nat_lt largest_input (length bytes)) refl on
 

@@ -28,7 +28,7 @@ ended_lines : (stop : Option Reason) (last : GplState) (x : MachineState) → Is
 ended_lines stop last x memory ends =
     ap₂ (λ (p : ℕ) (lines : List (List ℕ)). stop_lines stop p ++ lines) (same_pc last x memory stop ends) (same_state last x memory stop ends)
 
--- The end of a session is that of the run of its program, behind what was shown of its steps.
+-- The end of a session is that of the run of its program, after what was shown of its steps.
 pub ends_alike : (shown : List (List ℕ)) (r : GplRun) (t : SessionState) → t.ended ≡ r.stop → IsMemory t.machine.cpu.memory → EndsAs r.stop r.last t.machine →
     Whole (program_status t.ended) (shown ++ program_lines t.ended (gpl_state_of t) t.machine) ≡ Whole (program_status r.stop) (shown ++ program_lines r.stop r.last t.machine)
 ends_alike shown r t ended memory ends =

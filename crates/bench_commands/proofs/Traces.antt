@@ -117,13 +117,13 @@ module _ (command : Command) (before after : SourceState) (o : Outputs) (bytes :
 
 -- ---- a trace is written
 
--- what ends behind lines that were written ends with these in front of it
-ends_behind : (o : Outputs) (middle : SinkState) (first lines : List (List ℕ)) (own st : Status) → Wrote o.out middle first → EndsWith (record o { out = middle }) (spec.Whole own lines) st →
+-- what ends after lines that were written ends with these in front of it
+ends_after : (o : Outputs) (middle : SinkState) (first lines : List (List ℕ)) (own st : Status) → Wrote o.out middle first → EndsWith (record o { out = middle }) (spec.Whole own lines) st →
     EndsWith o (spec.Whole own (first ++ lines)) st
-ends_behind o middle first lines own status.ReadFault w e = absurd e
-ends_behind o middle first lines own status.WriteFault w e = (missed_more o.out middle o.out' first lines w e.0, e.1)
-ends_behind o middle first lines own status.Memory w e = absurd e
-ends_behind o middle first lines own _ w e = (e.0, (wrote_more o.out middle o.out' first lines w e.1.0, e.1.1))
+ends_after o middle first lines own status.ReadFault w e = absurd e
+ends_after o middle first lines own status.WriteFault w e = (missed_more o.out middle o.out' first lines w e.0, e.1)
+ends_after o middle first lines own status.Memory w e = absurd e
+ends_after o middle first lines own _ w e = (e.0, (wrote_more o.out middle o.out' first lines w e.1.0, e.1.1))
 
 not_both : (b : Bool) → b ≡ true → b ≡ false → ⊥
 not_both b e f = cc
@@ -141,7 +141,7 @@ traces_whole shows o trace left middle before after (Ok done) st p none memory e
       count = p.runs.count;
       runs = p.runs.runs;
       ended = p.runs.stop_is;
-      ends = ends_behind o middle (step_lines shows s (run trace.limit s).done) (program_lines left.ended (gpl_state_of left) left.machine) (program_status left.ended) st wrote ends;
+      ends = ends_after o middle (step_lines shows s (run trace.limit s).done) (program_lines left.ended (gpl_state_of left) left.machine) (program_status left.ended) st wrote ends;
     })
 traces_whole shows o trace left middle before after (Err error) st p none memory ends = absurd (not_both true refl none)
 

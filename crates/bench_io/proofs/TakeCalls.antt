@@ -28,7 +28,7 @@ pub took_once : (a b : SourceState) (count : ℕ) (buffer : List ℕ)
 took_once a b count buffer within gave calls taken empty faults more =
     let size : length (take count buffer) ≡ count = simp length-take (omega arith) in
     record {
-      told = gave;
+      gave = gave;
       number = rw size taken;
       made = (1, omega (arith, size), calls);
       none = empty;
@@ -48,7 +48,7 @@ pub failed_once : (a b : SourceState)
     → GaveNoMore a b
     → Took a b [] 1
 failed_once a b left calls taken empty faults more = record {
-  told = rw left (gave_none a.left);
+  gave = rw left (gave_none a.left);
   number = omega (arith, taken);
   made = (1, omega arith, calls);
   none = empty;
@@ -61,7 +61,7 @@ failed_once a b left calls taken empty faults more = record {
 -- calls after calls
 pub took_then : (a b c : SourceState) (x y : List ℕ) (m n : ℕ) → Took a b x m → Took b c y n → Took a c (x ++ y) (m + n)
 took_then a b c x y m n first then = record {
-  told = gave_more a.left b.left c.left x y first.told then.told;
+  gave = gave_more a.left b.left c.left x y first.gave then.gave;
   number = omega (arith, length-append x y, first.number, then.number);
   made = (
     first.made.0 + then.made.0,

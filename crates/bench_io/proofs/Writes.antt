@@ -21,7 +21,7 @@ grew_more (Some held) b c x y h k = k ∙ (ap (option_map (λ held. held ++ y)) 
 pub wrote_none : (a : SinkState) → Wrote a a []
 wrote_none a = record { held = grew_none a.held; puts = omega arith; faults = omega arith }
 
--- more pieces are written behind others
+-- more pieces are written after others
 pub wrote_more : (a b c : SinkState) (xs ys : List (List ℕ)) → Wrote a b xs → Wrote b c ys → Wrote a c (xs ++ ys)
 wrote_more a b c xs ys p q = record {
   held = rw concat-append (grew_more a.held b.held c.held (concat xs) (concat ys) p.held q.held);
@@ -29,7 +29,7 @@ wrote_more a b c xs ys p q = record {
   faults = omega (arith, p.faults, q.faults);
 }
 
--- a call fails behind others that did not
+-- a call fails after others that did not
 pub missed_more : (a b c : SinkState) (xs ys : List (List ℕ)) → Wrote a b xs → Missed b c ys → Missed a c (xs ++ ys)
 missed_more a b c xs ys p q = record {
   done = xs ++ q.done;
@@ -64,7 +64,7 @@ wrote_one a b x held puts faults = record { held = rw append-nil held; puts = pu
 pub missed_one : (a b : SinkState) (x : List ℕ) → GrewByPrefix a.held b.held x → b.puts ≡ saturating_sum a.puts 1 → Rose a.faults b.faults → Missed a b (x ∷ [])
 missed_one a b x held puts rose = record { done = []; piece = x; left = []; are = refl; held = held; puts = puts; rose = rose }
 
--- what comes of pieces that are written behind others
+-- what comes of pieces that are written after others
 pub written_more : {T E : Type 0} (r : Result T E) (a b c : SinkState) (xs ys : List (List ℕ)) → Wrote a b xs → Written r b c ys → Written r a c (xs ++ ys)
 written_more (Ok done) a b c xs ys p q = wrote_more a b c xs ys p q
 written_more (Err error) a b c xs ys p q = missed_more a b c xs ys p q
@@ -76,10 +76,10 @@ pub written_one : {T E : Type 0} (r : Result T E) (a b : SinkState) (x : List �
 written_one (Ok done) a b x grew failed puts faults rose = wrote_one a b x grew puts faults
 written_one (Err error) a b x grew failed puts faults rose = missed_one a b x failed puts rose
 
--- what comes of pieces that are written behind one
-pub written_behind : {T E : Type 0} (r : Result T E) (a b c : SinkState) (x : List ℕ) (ys : List (List ℕ)) → Wrote a b (x ∷ []) → Written r b c ys
+-- what comes of pieces that are written after one
+pub written_after : {T E : Type 0} (r : Result T E) (a b c : SinkState) (x : List ℕ) (ys : List (List ℕ)) → Wrote a b (x ∷ []) → Written r b c ys
     → Written r a c (x ∷ ys)
-written_behind r a b c x ys p q = written_more r a b c (x ∷ []) ys p q
+written_after r a b c x ys p q = written_more r a b c (x ∷ []) ys p q
 
 -- the first of several pieces was missed
 pub missed_at : (a b : SinkState) (x : List ℕ) (ys : List (List ℕ)) → Missed a b (x ∷ []) → Missed a b (x ∷ ys)

@@ -8,7 +8,7 @@ use Rattle.bench_io.specs.declared.whole.ReadError.TheVariants.{Fault, TooLarge,
 -- A source before and after some calls of `take` that gave these bytes and no others. So many of the calls gave no
 -- byte, and each other call a byte or more. All of it counts as given of what was opened last.
 pub record Took (before after : SourceState) (bytes : List ℕ) (empty : ℕ) : Type 0 where
-  pub told : Gave before.left after.left bytes
+  pub gave : Gave before.left after.left bytes
   pub number : after.taken ≡ saturating_sum before.taken (length bytes)
   pub made : (calls : ℕ) × (calls ≤ length bytes + empty) × (after.calls ≡ saturating_sum before.calls calls)
   pub none : after.empty ≡ saturating_sum before.empty empty

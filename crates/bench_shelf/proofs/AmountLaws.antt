@@ -1,7 +1,7 @@
 -- How much is taken of the files that are asked for.
 use Rattle.std.proofs.Common.{◌≡◌, ◌≤◌, ℕ, ◌+◌, ◌-◌, ◌*◌, List, [], ◌∷◌, ◌++◌, length, subst, arith, mul-suc, mul-le-mul_left}
 use Rattle.count_defs.specs.Counts.{saturating_sum}
-use Rattle.shelf_defs.specs.Questions.{Answer, Bytes, Question}
+use Rattle.shelf_defs.specs.Questions.{FileAnswer, Bytes, Question}
 use Rattle.shelf_defs.specs.Amounts.{IsTaken, AreTaken}
 use Rattle.bench_shelf.specs.States.{ShelfState}
 use Rattle.bench_shelf.specs.Dialogue.{Dialogue}
@@ -24,7 +24,7 @@ taken_then limit (x ∷ xs) ys a b c d (n, m, one, few, less, rest) others =
     )
 
 -- of one file no more is taken than one byte past the limit
-one_most : (limit : ℕ) (answer : Answer) (bytes empty : ℕ) → IsTaken limit answer bytes empty → bytes ≤ limit + 1
+one_most : (limit : ℕ) (answer : FileAnswer) (bytes empty : ℕ) → IsTaken limit answer bytes empty → bytes ≤ limit + 1
 one_most limit (Bytes all) bytes empty taken = omega (arith, taken.1)
 one_most limit _ bytes empty taken = omega (arith, taken.0)
 

@@ -3,7 +3,7 @@ use Rattle.std.proofs.Common.{◌≡◌, ℕ, zero, suc, ◌+◌, ◌<◌, List,
 use Rattle.std.specs.Prelude.{Option}
 use Rattle.std.proofs.lemmas.List.{length-replicate}
 use Rattle.shelf_defs.specs.Files.{Contents}
-use Rattle.shelf_defs.specs.Questions.{Answer, Bytes, NoFile, OverLimit, Unanswered, Question, Agrees, Fits}
+use Rattle.shelf_defs.specs.Questions.{FileAnswer, Bytes, NoFile, OverLimit, Unanswered, Question, Agrees, Fits}
 
 -- more bytes than a number
 more_than : (n : ℕ) → (bytes : List ℕ) × (n < length bytes)
@@ -11,7 +11,7 @@ more_than n = (replicate (n + 1) 0, omega (arith, length-replicate {A = ℕ} (n 
 
 -- there are contents that have the answers of any questions
 module _ (limit : ℕ) where
-  content_of : (answer : Answer) → (content : Option (List ℕ)) × Fits limit answer content
+  content_of : (answer : FileAnswer) → (content : Option (List ℕ)) × Fits limit answer content
   content_of (Bytes bytes) = (Some bytes, refl)
   content_of NoFile = (None, refl)
   content_of OverLimit = let long = more_than limit in (Some long.0, (long.0, refl, long.1))

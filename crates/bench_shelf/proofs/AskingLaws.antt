@@ -5,7 +5,7 @@ use Rattle.std.specs.Prelude.{Option, IfSome}
 use Rattle.std.specs.FinMap.{get}
 use Rattle.shelf_defs.specs.Files.{Files, Contents, of_files}
 use Rattle.shelf_defs.specs.Copied.{Copied, most_bytes}
-use Rattle.shelf_defs.specs.Questions.{names_of, Answer, Bytes, Question, Fits, Agrees, MayFollow, InTurn}
+use Rattle.shelf_defs.specs.Questions.{names_of, FileAnswer, Bytes, Question, Fits, Agrees, MayFollow, InTurn}
 use Rattle.bench_shelf.specs.declared.copying.Copying.{Copying}
 use Rattle.bench_shelf.specs.declared.copy_error.CopyError.{CopyError}
 use Rattle.bench_shelf.specs.declared.copy_error.CopyError.TheVariants.{At, Fault}
@@ -50,7 +50,7 @@ pub shown_none : (limit : ℕ) (shown : Option Files) → IfSome shown (λ files
 shown_none limit None = tt
 shown_none limit (Some files) = tt
 
-pub shown_one : (limit : ℕ) (shown : Option Files) (name : List ℕ) (answer : Answer) → IfSome shown (λ files. Fits limit answer (get files name))
+pub shown_one : (limit : ℕ) (shown : Option Files) (name : List ℕ) (answer : FileAnswer) → IfSome shown (λ files. Fits limit answer (get files name))
     → IfSome shown (λ files. Agrees limit (of_files files) 0 (record { name = name; answer = answer } ∷ []))
 shown_one limit None name answer fits = tt
 shown_one limit (Some files) name answer fits = (fits, tt)
@@ -102,11 +102,11 @@ reads_then limit xs ys s t u first next =
       none = λ none. let both = none_of_both xs ys none in next.none both.1 ∙ first.none both.0;
     }
 
-may_follow : (answer : Answer) (rest : List Question) → IsGiven answer → MayFollow answer rest
+may_follow : (answer : FileAnswer) (rest : List Question) → IsGiven answer → MayFollow answer rest
 may_follow (Bytes bytes) rest given = tt
 may_follow _ rest given = absurd given
 
-pub none_follow : (answer : Answer) → MayFollow answer []
+pub none_follow : (answer : FileAnswer) → MayFollow answer []
 none_follow (Bytes bytes) = tt
 none_follow _ = refl
 

@@ -20,7 +20,7 @@ use Rattle.bench_shelf.specs.Leading.{IsHeld, HasRoom, count}
 held_count : (state : Copying) → IsHeld state → state.builder.taken ≡ count state
 held_count state held =
     let holds = held.1 in
-    holds.taken.behind.taken
+    holds.taken.after_lines.taken
     ∙ (holds.taken.all
     ∙ (length-map held.0 (λ line. line.text)
     ∙ (sym (length-map held.0 (λ line. line.place))

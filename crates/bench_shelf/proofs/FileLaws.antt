@@ -20,14 +20,14 @@ use Rattle.bench_shelf.specs.declared.copy_error.CopyError.{CopyError}
 use Rattle.bench_shelf.specs.declared.copy_error.CopyCause.{CopyCause}
 use Rattle.bench_shelf.specs.declared.copy_error.CopyCause.TheVariants as cause
 use Rattle.bench_shelf.specs.CopyAnswers.{CopyRefuses, IsNoMemory, model_of_cause, model_of_place, refused_at, unread_at}
-use Rattle.shelf_defs.specs.Questions.{Answer, Bytes, Unanswered, Question, Agrees, Fits}
+use Rattle.shelf_defs.specs.Questions.{FileAnswer, Bytes, Unanswered, Question, Agrees, Fits}
 use Rattle.bench_shelf.specs.Leading.{Holds, CopiesTo, LeadsTo, Copies, Asking, EndsBy}
 use Rattle.bench_shelf.specs.Causes.{AsksOne, answer_by, IsOfName}
 use Rattle.bench_shelf.specs.States.{ShelfState}
-use Rattle.bench_shelf.proofs.StoppingLaws.{told_by}
+use Rattle.bench_shelf.proofs.StoppingLaws.{reported_if}
 use Rattle.bench_shelf.proofs.AskingLaws.{agrees_front, none_follow, shown_one, asking_then, ends_then, asking_none}
 
--- what is refused behind lines that were taken
+-- what is refused after lines that were taken
 pub leads_refusal : (old last : Copying) (copies : ℕ) (refusal : CopyRefusal) (error : CopyError) → CopyRefuses {B = List Line} error (Err refusal)
     → ((done : List PlacedLine) → Holds done old → Holds done last) → CopiesTo old (refused copies refusal) (Some error) last
 leads_refusal old last copies refusal error refuses same done holds =
@@ -36,7 +36,7 @@ leads_refusal old last copies refusal error refuses same done holds =
     ap (λ all. in_place all (laid check (numbered 1 (texts all))) >>= λ lines. unless_refused (Refused refusal) lines) none
     ∙ ap (λ answer. in_place done answer >>= λ lines. unless_refused (Refused refusal) lines) holds.taken.laid in (
       subst (CopyRefuses error) (sym whole) refuses,
-      told_by _ error (record { taken = done; holds = same done holds; halts = inl (none, tt) }),
+      reported_if _ error (record { taken = done; holds = same done holds; halts = inl (none, tt) }),
     )
 
 -- a COPY line for which no file is asked; its error has the place of the line
@@ -122,7 +122,7 @@ module _ (old : Copying) (levels : ℕ) (place : Place) (name : List ℕ) (some 
       (λ contents. too_many contents (model_of_place place) old.copies name levels some many)
 
   module _ (few : old.copies < 64) where
-    abbrev question : Answer → Question
+    abbrev question : FileAnswer → Question
     question answer = record { name = name; answer = answer }
 
     by_more : (contents : Contents) (error : Option CopyError) (last : Copying)
@@ -134,7 +134,7 @@ module _ (old : Copying) (levels : ℕ) (place : Place) (name : List ℕ) (some 
     not_read contents error last same is fits =
         by_more contents (Some (unread_at place error)) last (leads_not_read old last contents (levels - 1) place name error (contents old.copies name) same is fits)
 
-    asking_first : (mid : Copying) (t : ShelfState) (answer : Answer) → mid.copies ≡ old.copies + 1 → AsksOne most_bytes name answer s t
+    asking_first : (mid : Copying) (t : ShelfState) (answer : FileAnswer) → mid.copies ≡ old.copies + 1 → AsksOne most_bytes name answer s t
         → Asking old mid line_by (question answer ∷ []) s t
     asking_first mid t answer copies asks = record {
       number = omega (arith, copies);

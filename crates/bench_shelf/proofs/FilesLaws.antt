@@ -1,4 +1,4 @@
--- What the contents of a shelf tell, where its files are told, and where they are not.
+-- What the contents of a shelf show where it shows its files, and where it does not.
 use Rattle.std.proofs.Common.{◌≡◌, ℕ, List, Some, None, Ok, Err, sym, ◌∙◌, subst}
 use Rattle.std.specs.Prelude.{Option, Result, IfSome}
 use Rattle.object_tags.specs.Seen.{model_of_module}

@@ -6,9 +6,9 @@ use Rattle.bench_shelf.specs.declared.error.OpenError.TheVariants.{Failed, Missi
 use Rattle.bench_shelf.specs.Opening.{Refuses, KeepsOther, SameCounts, StartsAnew}
 use Rattle.bench_shelf.specs.FolderShelf.{Folder, hidden_state, OpensFrom}
 
-pub nothing_told : {A E : Type 0} (r : Result A E) → OnOk r ⊤
-nothing_told (Ok value) = tt
-nothing_told (Err error) = tt
+pub nothing_said : {A E : Type 0} (r : Result A E) → OnOk r ⊤
+nothing_said (Ok value) = tt
+nothing_said (Err error) = tt
 
 pub nothing_left : {A E : Type 0} (r : Result A E) → OnErr r ⊤
 nothing_left (Ok value) = tt

@@ -19,7 +19,7 @@ use Rattle.bench_shelf.specs.declared.copy_error.CopyError.TheVariants as error
 use Rattle.bench_shelf.specs.CopyAnswers.{CopyRefuses}
 use Rattle.bench_shelf.specs.Leading.{Holds, EndsAs, GoesOn, LeadsTo, CopiesTo}
 use Rattle.bench_shelf.proofs.LaidLonger.{laid_longer}
-use Rattle.bench_shelf.proofs.StoppingLaws.{where_told, halted, stopped_behind}
+use Rattle.bench_shelf.proofs.StoppingLaws.{if_reported, halted, stopped_after}
 
 place_kept : (first more : List PlacedLine) (number : ℕ) → number - 1 < length first
     → place_of (places (first ++ more)) number ≡ place_of (places first) number
@@ -29,7 +29,7 @@ place_kept first more number lt =
     rw (unwrap_or-slice_get (places (first ++ more)) (number - 1) none, unwrap_or-slice_get (places first) (number - 1) none)
     (rw (map-append (λ line. line.place) first more) (get_or_append_left (places first) (places more) none (number - 1) size))
 
--- the first checks refuse a line, whatever lines come behind it
+-- the first checks refuse a line, whatever lines come after it
 laid_stays : (first more : List PlacedLine) (ending : Ending) (refusal : CopyRefusal)
     → (in_place first (laid check (numbered 1 (texts first))) >>= λ lines. unless_refused Open lines) ≡ Err refusal
     → (in_place (first ++ more) (laid check (numbered 1 (texts (first ++ more)))) >>= λ lines. unless_refused ending lines) ≡ Err refusal
@@ -77,7 +77,7 @@ leads_refused old new found next error leads done holds =
     let refused = leads done holds in (
       refuses_by error (laid_copied (prepend done found)) (laid_copied (prepend done (followed found next)))
           (λ refusal e. stops_by done found.lines found.copies found.ending next refusal e) refused.0,
-      where_told _ _ error (halted done found.lines found.copies found.ending next new) refused.1,
+      if_reported _ _ error (halted done found.lines found.copies found.ending next new) refused.1,
     )
 
 ended_by : (ending : Ending) (found : Copied) (next : ℕ → Copied) (done : List PlacedLine) (new : Copying)
@@ -93,7 +93,7 @@ leads_ended old new found next closed leads done holds =
     let goes = leads done holds in
     ended_by found.ending found next done new goes.ending closed goes
 
--- others behind lines that were taken
+-- others after lines that were taken
 module _ (done : List PlacedLine) (found rest : Copied) (new : Copying) where
   joined : (error : Option CopyError) → LeadsTo error (done ++ found.lines) rest new → LeadsTo error done (prepend found.lines rest) new
   joined None goes = record {
@@ -104,7 +104,7 @@ module _ (done : List PlacedLine) (found rest : Copied) (new : Copying) where
   joined (Some error) refused = (
     subst (λ all. CopyRefuses error (in_place all (laid check (numbered 1 (texts all))) >>= λ lines. unless_refused rest.ending lines))
         (append_assoc done found.lines rest.lines) refused.0,
-    where_told _ _ error (stopped_behind done found.lines rest new) refused.1,
+    if_reported _ _ error (stopped_after done found.lines rest new) refused.1,
   )
 
 open_by : (ending : Ending) (found : Copied) (next : ℕ → Copied) (done : List PlacedLine) (mid new : Copying) (error : Option CopyError)

@@ -10,7 +10,7 @@ use Rattle.object_tags.specs.declared.parts.Module.{Module}
 use Rattle.asm_defs.specs.declared.causes.AsmCause.{AsmCause}
 use Rattle.asm_defs.specs.Locations.{Line}
 use Rattle.asm_defs.specs.FirstChecks.{check}
-use Rattle.asm_defs.specs.Modules.{module_behind, module_of_lines}
+use Rattle.asm_defs.specs.Modules.{module_after, module_of_lines}
 use Rattle.shelf_defs.specs.Files.{Contents}
 use Rattle.shelf_defs.specs.Copied.{most_bytes, most_copies, copy_line, copied_by, PlacedLine, CopyRefusal, Ending, Refused, Copied, lines_in}
 use Rattle.shelf_defs.specs.Assembly.{texts, in_place, unless_refused, laid_copied, module_of_copied, module_by}
@@ -36,7 +36,7 @@ contents a b = a ≡ b
 
 -- none of the lines is refused
 going_by : (ending : Ending) (lines : List Line) (all : List PlacedLine) (builder : AsmLines) → EndsAs ending builder
-    → contents (in_place all (module_behind lines)) (unless_refused ending lines >>= λ lines. in_place all (module_behind lines))
+    → contents (in_place all (module_after lines)) (unless_refused ending lines >>= λ lines. in_place all (module_after lines))
 going_by (Refused refusal) lines all builder ends = absurd ends
 going_by _ lines all builder ends = refl
 
@@ -46,18 +46,18 @@ module_is found new goes =
 
 -- a module is that of the copied lines as one text
 module_by_lines : (found : Copied) (answer : Result (List Line) (Refusal AsmCause)) (module_ : object.Module)
-    → (in_place found.lines answer >>= unless_refused found.ending >>= λ lines. in_place found.lines (module_behind lines)) ≡ Ok module_
-    → (answer >>= module_behind) ≡ Ok module_
+    → (in_place found.lines answer >>= unless_refused found.ending >>= λ lines. in_place found.lines (module_after lines)) ≡ Ok module_
+    → (answer >>= module_after) ≡ Ok module_
 module_by_lines found (Ok lines) module_ e = by_ending found.ending e
   where
-    by_behind : (answer : Result object.Module (Refusal AsmCause)) → contents (in_place found.lines answer) (Ok module_) → answer ≡ Ok module_
-    by_behind (Ok found_module) f = cc f
-    by_behind (Err refusal) f = cc f
+    by_after : (answer : Result object.Module (Refusal AsmCause)) → contents (in_place found.lines answer) (Ok module_) → answer ≡ Ok module_
+    by_after (Ok found_module) f = cc f
+    by_after (Err refusal) f = cc f
 
-    by_ending : (ending : Ending) → contents (unless_refused ending lines >>= λ lines. in_place found.lines (module_behind lines)) (Ok module_)
-        → module_behind lines ≡ Ok module_
+    by_ending : (ending : Ending) → contents (unless_refused ending lines >>= λ lines. in_place found.lines (module_after lines)) (Ok module_)
+        → module_after lines ≡ Ok module_
     by_ending (Refused refusal) f = cc f
-    by_ending _ f = by_behind (module_behind lines) f
+    by_ending _ f = by_after (module_after lines) f
 module_by_lines found (Err refusal) module_ e = cc e
 
 abbrev pub whole_by : ℕ → List ℕ → Contents → Copied
@@ -67,7 +67,7 @@ whole_by copies source contents = lines_in (copy_line contents 4) None copies (l
 refusal_by : (found : Copied) (error : CopyError) → CopyRefuses error (laid_copied found) → CopyRefuses error (module_of_copied found)
 refusal_by found error refuses =
     refuses_by error (laid_copied found) (module_of_copied found)
-    (λ refusal e. ap (λ answer. answer >>= λ lines. in_place found.lines (module_behind lines)) e) refuses
+    (λ refusal e. ap (λ answer. answer >>= λ lines. in_place found.lines (module_after lines)) e) refuses
 
 pub agrees_first : (old : Copying) (contents : Contents) (questions : List Question) → old.copies ≡ 0 → Agrees most_bytes contents 0 questions → Agrees most_bytes contents old.copies questions
 agrees_first old contents questions first agrees = subst (λ n. Agrees most_bytes contents n questions) (sym first) agrees

@@ -23,15 +23,15 @@ name_here name first bytes others same =
     ∙ ap (λ b. cond b (Some bytes) (find (slice_cmp nat_cmp) name others)) (sym (texts_ties name first) ∙ same)
 
 -- it has another
-pub name_behind : (name first bytes : List ℕ) (others : List (List ℕ × List ℕ)) → pointwise nat_eq name first ≡ false
+pub name_after : (name first bytes : List ℕ) (others : List (List ℕ × List ℕ)) → pointwise nat_eq name first ≡ false
     → file_bytes ((first, bytes) ∷ others) name ≡ file_bytes others name
-name_behind name first bytes others same =
+name_after name first bytes others same =
     by_first name ((first, bytes) ∷ others)
     ∙ (ap (λ b. cond b (Some bytes) (find (slice_cmp nat_cmp) name others)) (sym (texts_ties name first) ∙ same)
     ∙ sym (by_first name others))
 
 module _ {B : Type 0} (see : B → List ℕ) (name : List ℕ) where
-  -- the files behind the first, which has another name
+  -- the files after the first, which has another name
   pub name_past : (files : List (List ℕ × B)) (item : List ℕ × B) → 1 ≤ length files → item ≡ get_or files 0 item
       → pointwise nat_eq name item.0 ≡ false
       → file_bytes (named see (take (length files - 1) (drop 1 files))) name ≡ file_bytes (named see files) name
@@ -39,7 +39,7 @@ module _ {B : Type 0} (see : B → List ℕ) (name : List ℕ) where
   name_past (first ∷ others) item some is other =
       let rest : take (length (first ∷ others) - 1) (drop 1 (first ∷ others)) ≡ others = take_all (length (first ∷ others) - 1) others (omega arith) in
       ap (λ files. file_bytes (named see files) name) rest
-      ∙ sym (name_behind name first.0 (see first.1) (named see others) (ap (λ (file : List ℕ × B). pointwise nat_eq name file.0) (sym is) ∙ other))
+      ∙ sym (name_after name first.0 (see first.1) (named see others) (ap (λ (file : List ℕ × B). pointwise nat_eq name file.0) (sym is) ∙ other))
 
   -- no files are left
   pub name_none : (files : List (List ℕ × B)) → length files < 1 → None ≡ file_bytes (named see files) name

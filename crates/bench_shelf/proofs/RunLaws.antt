@@ -46,12 +46,12 @@ places_grown runs at last longer place size is next same first count =
     let within : at < length runs = omega arith in
     let rest : drop (suc at) runs ≡ [] = drop_of_length-le runs {i = suc at} (omega arith) in
     let old : runs ≡ take at runs ++ last ∷ [] =
-    split_at runs at last within ∙ (ap (λ (found : Run). take at runs ++ found ∷ drop (suc at) runs) (sym is) ∙ ap (λ behind. take at runs ++ last ∷ behind) rest) in
+    split_at runs at last within ∙ (ap (λ (found : Run). take at runs ++ found ∷ drop (suc at) runs) (sym is) ∙ ap (λ after. take at runs ++ last ∷ after) rest) in
     let new : set runs at longer ≡ take at runs ++ longer ∷ [] =
-    set_split runs at longer within ∙ ap (λ behind. take at runs ++ longer ∷ behind) rest in
+    set_split runs at longer within ∙ ap (λ after. take at runs ++ longer ∷ after) rest in
     places_next runs (take at runs) (set runs at longer) last longer place old next same first count new
 
--- a place of a run, and one behind it
+-- a place of a run, and one after it
 get_in : (file : Option (List ℕ)) (line count left : ℕ) (others : List spec.Place) → left < count
     → slice_get (places_from file line count ++ others) left ≡ Some (record { file = file; line = line + left })
 get_in file line zero left others lt = absurd (omega (arith, lt))
@@ -60,13 +60,13 @@ get_in file line (suc count) (suc left) others lt =
     let next : line + 1 + left ≡ line + suc left = omega arith in
     get_in file (line + 1) count left others (omega (arith, lt)) ∙ ap (λ n. Some (record { file = file; line = n })) next
 
-get_behind : (file : Option (List ℕ)) (line count left : ℕ) (others : List spec.Place) → count ≤ left
+get_after : (file : Option (List ℕ)) (line count left : ℕ) (others : List spec.Place) → count ≤ left
     → slice_get (places_from file line count ++ others) left ≡ slice_get others (left - count)
-get_behind file line zero left others le = let here : left ≡ left - 0 = omega arith in ap (slice_get others) here
-get_behind file line (suc count) zero others le = absurd (omega (arith, le))
-get_behind file line (suc count) (suc left) others le =
+get_after file line zero left others le = let here : left ≡ left - 0 = omega arith in ap (slice_get others) here
+get_after file line (suc count) zero others le = absurd (omega (arith, le))
+get_after file line (suc count) (suc left) others le =
     let next : left - count ≡ suc left - suc count = omega arith in
-    get_behind file (line + 1) count left others (omega (arith, le)) ∙ ap (slice_get others) next
+    get_after file (line + 1) count left others (omega (arith, le)) ∙ ap (slice_get others) next
 
 -- the place that so many others of the runs stand before
 abbrev pub place_at : spec.Place → List Run → ℕ → spec.Place
@@ -78,8 +78,8 @@ at_here none runs at left line run lt is inside line_is =
     let rest : drop at runs ≡ run ∷ drop (at + 1) runs = drop_more runs at run lt ∙ ap (λ (found : Run). found ∷ drop (at + 1) runs) (sym is) in
     rw (line_is, rest, get_in run.file run.line run.count left (places_of (drop (at + 1) runs)) inside) refl
 
-pub at_behind : (none : spec.Place) (runs : List Run) (at left : ℕ) (run : Run) → at < length runs → run ≡ get_or runs at run → run.count ≤ left
+pub at_after : (none : spec.Place) (runs : List Run) (at left : ℕ) (run : Run) → at < length runs → run ≡ get_or runs at run → run.count ≤ left
     → place_at none (drop (at + 1) runs) (left - run.count) ≡ place_at none (drop at runs) left
-at_behind none runs at left run lt is past =
+at_after none runs at left run lt is past =
     let rest : drop at runs ≡ run ∷ drop (at + 1) runs = drop_more runs at run lt ∙ ap (λ (found : Run). found ∷ drop (at + 1) runs) (sym is) in
-    rw (rest, get_behind run.file run.line run.count left (places_of (drop (at + 1) runs)) past) refl
+    rw (rest, get_after run.file run.line run.count left (places_of (drop (at + 1) runs)) past) refl

@@ -1,4 +1,4 @@
--- A line that is taken behind others.
+-- A line that is taken after others.
 use Rattle.std.proofs.Common.{◌≡◌, ℕ, ◌+◌, ◌-◌, Bool, true, false, ◌||◌, List, [], ◌∷◌, ◌++◌, None, Ok, Err, length, refl, sym, ap, ◌∙◌, arith, subst, inr}
 use Rattle.std.proofs.Common.{Vec, Global}
 use Rattle.std.specs.Prelude.{⊤, Result, if◌then◌else◌, Option, Some, map}
@@ -14,8 +14,10 @@ use Rattle.expression_defs.proofs.LaidLaws.{laid_more, last_line}
 use Rattle.instruction_defs.specs.declared.causes.FormError.TheVariants as form
 use Rattle.asm_defs.specs.declared.causes.AsmCause.{AsmCause}
 use Rattle.asm_defs.specs.declared.causes.AsmCause.TheVariants as cause
-use Rattle.asm_defs.specs.declared.location.Location.{Location}
-use Rattle.asm_defs.specs.Locations.{Line, location}
+use Rattle.expression_defs.specs.Symbols.{Names}
+use Rattle.asm_defs.specs.Statements.{parse_line}
+use Rattle.asm_defs.specs.Locations.{Line}
+use Rattle.asm_defs.specs.Locations as locations
 use Rattle.asm_defs.specs.FirstChecks.{check, checked, known_of, line_of}
 use Rattle.asm_defs.proofs.CheckLaws.{bound, checked_said}
 use Rattle.shelf_defs.specs.CopyLines.{says_end, ends_source}
@@ -23,7 +25,9 @@ use Rattle.shelf_defs.specs.Copied as spec
 use Rattle.shelf_defs.specs.Copied.{Place, PlacedLine, Open, Ended, own_line, prepend}
 use Rattle.shelf_defs.specs.Assembly.{texts, places, place_of, laid_copied}
 use Rattle.asm_checks.specs.Answers.{Causes}
-use Rattle.asm_core.specs.Building.{HasAccepted, IsOpen}
+use Rattle.asm_core.specs.TakenLines.{names_in, Tells}
+use Rattle.asm_core.specs.declared.taken.TakenLine.{TakenLine}
+use Rattle.asm_core.specs.Building.{HasAccepted, IsAfter, IsOpen, Takes}
 use Rattle.asm_core.specs.Finishing.{RefusesAt}
 use Rattle.asm_core.specs.declared.lines.AsmLines.{AsmLines}
 use Rattle.asm_core.specs.declared.error.AsmError.TheVariants as asm
@@ -34,8 +38,8 @@ use Rattle.bench_shelf.specs.declared.copy_error.CopyCause.TheVariants.{Asm}
 use Rattle.bench_shelf.specs.CopyAnswers.{model_of_place, refused_at}
 use Rattle.bench_shelf.specs.Runs.{places_of}
 use Rattle.bench_shelf.specs.declared.kept_line.KeptLine.{KeptLine}
-use Rattle.bench_shelf.specs.Kept.{model_of_kept, IsKept, KeepsLine}
-use Rattle.asm_list_defs.specs.Listed.{heres}
+use Rattle.bench_shelf.specs.Kept.{model_of_kept, shown_by, shown_of, names_of, IsKept, KeepsLine}
+use Rattle.asm_list_defs.specs.Listed as listed
 use Rattle.bench_shelf.specs.Leading.{Holds, EndsAs, GoesOn, LeadsTo}
 
 -- a refusal of the assembler is the definitions' own
@@ -79,7 +83,7 @@ module _ (done : List PlacedLine) (place : Place) (text : List ℕ) where
 
   module _ (builder : AsmLines) (taken : HasAccepted (texts done) builder) (going : IsOpen builder) where
     still : has_ended taken.lines ≡ false
-    still = sym taken.behind.ended ∙ going
+    still = sym taken.after_lines.ended ∙ going
 
     whole_is : laid check (numbered 1 (texts done ++ text ∷ [])) ≡ last_line check text taken.lines (1 + length (texts done))
     whole_is = laid_more check text (texts done) [] 1 (1 + length (texts done)) taken.lines refl taken.laid still
@@ -89,25 +93,26 @@ module _ (done : List PlacedLine) (place : Place) (text : List ℕ) where
     ends_by new true is = λ still_open. (cc (is, still_open))
     ends_by new false is = is
 
-    -- the lines behind it
-    pub heres_more : (new : AsmLines) (behind : HasAccepted (texts done ++ text ∷ []) new)
-        → heres behind.lines ≡ heres taken.lines ++ location taken.lines ∷ []
-    heres_more new behind =
-        let e : last_line check text taken.lines (1 + length (texts done)) ≡ Ok behind.lines = sym whole_is ∙ behind.laid in
-        let a = bound (at_line (1 + length (texts done)) (check taken.lines (1 + length (texts done)) text)) _ behind.lines e in
-        let lines_are : a.0 ∷ taken.lines ≡ behind.lines = cc a.2 in
-        sym (ap heres lines_are)
+    -- the lines after it
+    pub lines_more : (new : AsmLines) (after : HasAccepted (texts done ++ text ∷ []) new) (line : Line)
+        → check taken.lines (length taken.lines + 1) text ≡ Ok line → line ∷ taken.lines ≡ after.lines
+    lines_more new after line is =
+        let count : length taken.lines + 1 ≡ 1 + length (texts done) = omega (arith, taken.all) in
+        let e : last_line check text taken.lines (1 + length (texts done)) ≡ Ok after.lines = sym whole_is ∙ after.laid in
+        let found = ap (λ number. at_line number (check taken.lines number text) >>= λ line. Ok (line ∷ taken.lines)) count in
+        let there = ap (λ answer. at_line (length taken.lines + 1) answer >>= λ line. Ok (line ∷ taken.lines)) is in
+        cc (sym there ∙ (found ∙ e))
 
     pub taken_ends : (new : AsmLines) → HasAccepted (texts done ++ text ∷ []) new → EndsAs (if ends_source text then Ended else Open) new
-    taken_ends new behind =
-        let e : last_line check text taken.lines (1 + length (texts done)) ≡ Ok behind.lines = sym whole_is ∙ behind.laid in
-        let a = bound (at_line (1 + length (texts done)) (check taken.lines (1 + length (texts done)) text)) _ behind.lines e in
+    taken_ends new after =
+        let e : last_line check text taken.lines (1 + length (texts done)) ≡ Ok after.lines = sym whole_is ∙ after.laid in
+        let a = bound (at_line (1 + length (texts done)) (check taken.lines (1 + length (texts done)) text)) _ after.lines e in
         let found : check taken.lines (1 + length (texts done)) text ≡ Ok a.0 =
         at_line_ok (1 + length (texts done)) (check taken.lines (1 + length (texts done)) text) a.0 a.1 in
-        let lines_are : a.0 ∷ taken.lines ≡ behind.lines = cc a.2 in
-        let last : has_ended behind.lines ≡ ends_source text =
+        let lines_are : a.0 ∷ taken.lines ≡ after.lines = cc a.2 in
+        let last : has_ended after.lines ≡ ends_source text =
         sym (ap has_ended lines_are) ∙ (ap (λ b. a.0.last || b) still ∙ (or-false a.0.last ∙ last_is taken.lines _ text a.0 found)) in
-        ends_by new (ends_source text) (behind.behind.ended ∙ last)
+        ends_by new (ends_source text) (after.after_lines.ended ∙ last)
 
     -- or it is refused
     pub refused_last : (refusal : Refusal AsmCause) → laid check (numbered 1 (texts done ++ text ∷ [])) ≡ Err refusal → refusal.line ≡ 1 + length (texts done)
@@ -130,37 +135,52 @@ module _ (done : List PlacedLine) (place : Place) (text : List ℕ) where
         rw (texts_are, e, refused_last refusal e, last_place) refl
 
 -- the line is kept with the others
-kept_more : (done : List PlacedLine) (lines next : List Line) (place : KeptPlace) (text : List ℕ) (here : Location) (old new : Option (Vec KeptLine Global))
-    → heres next ≡ heres lines ++ here ∷ [] → IsKept done lines old → KeepsLine old place here text new
-    → IsKept (done ++ record { place = model_of_place place; text = text } ∷ []) next new
-kept_more done lines next place text here None None same kept keeps = tt
-kept_more done lines next place text here None (Some new) same kept keeps = absurd keeps
-kept_more done lines next place text here (Some old) None same kept keeps = absurd keeps
-kept_more done lines next place text here (Some old) (Some new) same kept keeps = record {
+kept_more : (done : List PlacedLine) (lines : List Line) (line : Line) (place : KeptPlace) (text : List ℕ) (own : TakenLine) (old new : Option (Vec KeptLine Global))
+    → Tells lines text line own → IsKept done lines old → KeepsLine old place own text new
+    → IsKept (done ++ record { place = model_of_place place; text = text } ∷ []) (line ∷ lines) new
+kept_more done lines line place text own None None tells kept keeps = tt
+kept_more done lines line place text own None (Some new) tells kept keeps = absurd keeps
+kept_more done lines line place text own (Some old) None tells kept keeps = absurd keeps
+kept_more done lines line place text own (Some old) (Some new) tells kept keeps = record {
   are = ap (map model_of_kept) keeps.are
       ∙ (map-append model_of_kept old.items (keeps.line ∷ [])
       ∙ (ap (λ (front : List PlacedLine). front ++ model_of_kept keeps.line ∷ []) kept.are ∙ ap (λ (line : PlacedLine). done ++ line ∷ []) keeps.is));
-  heres = ap (map (λ line. line.here)) keeps.are
-      ∙ (map-append (λ line. line.here) old.items (keeps.line ∷ [])
-      ∙ (ap (λ (front : List Location). front ++ keeps.line.here ∷ []) kept.heres
-      ∙ (ap (λ (at : Location). heres lines ++ at ∷ []) keeps.here ∙ sym same)));
+  shown = λ known.
+      ap (map (shown_of known)) keeps.are
+      ∙ (map-append (shown_of known) old.items (keeps.line ∷ [])
+      ∙ (ap (λ front. front ++ shown_of known keeps.line ∷ []) (kept.shown known)
+      ∙ ap (λ one. listed.shown known lines ++ one ∷ []) (shown_is known)));
+  names = ap (map names_of) keeps.are
+      ∙ (map-append names_of old.items (keeps.line ∷ [])
+      ∙ (ap (λ front. front ++ names_of keeps.line ∷ []) kept.names
+      ∙ ap (λ one. listed.defined lines ++ one ∷ []) (ap names_in keeps.taken ∙ sym tells.names)));
 }
+  where
+    shown_is : (known : Option Names) → shown_of known keeps.line ≡ listed.shown_at known (locations.place lines line) line.origin line.statement
+    shown_is known =
+        ap (λ (taken : TakenLine). shown_by known taken.at taken.origin (parse_line keeps.line.text.items)) keeps.taken
+        ∙ (ap (λ at. shown_by known at own.origin (parse_line keeps.line.text.items)) tells.at
+        ∙ (ap (λ origin. shown_by known (locations.place lines line) origin (parse_line keeps.line.text.items)) tells.origin
+        ∙ ap (shown_by known (locations.place lines line) line.origin) (ap (λ (line : PlacedLine). parse_line line.text) keeps.is ∙ tells.parsed)))
 
 -- a line that stands for itself and is taken
 pub own_taken : (old new : Copying) (place : KeptPlace) (text : List ℕ) (done : List PlacedLine) → IsOpen old.builder → Holds done old
     → HasAccepted (texts done ++ text ∷ []) new.builder → places_of new.runs.items ≡ places_of old.runs.items ++ model_of_place place ∷ [] → new.copies ≡ old.copies
-    → ((taken : HasAccepted (texts done) old.builder) → KeepsLine old.kept place (location taken.lines) text new.kept)
+    → (own : TakenLine) → ((lines : List Line) → IsAfter lines old.builder → Takes lines text (Ok own) new.builder) → KeepsLine old.kept place own text new.kept
     → GoesOn done (own_line (model_of_place place) old.copies text) new
-own_taken old new place text done going holds taken kept copies keeps = record {
+own_taken old new place text done going holds taken kept copies own takes keeps = record {
   holds = record {
     taken = record {
       lines = taken.lines;
       laid = ap (λ found. laid check (numbered 1 found)) (texts_are done (model_of_place place) text) ∙ taken.laid;
       all = taken.all ∙ sym (ap length (texts_are done (model_of_place place) text));
-      behind = taken.behind;
+      after_lines = taken.after_lines;
     };
-    kept = kept_more done holds.taken.lines taken.lines place text (location holds.taken.lines) old.kept new.kept
-        (heres_more done (model_of_place place) text old.builder holds.taken going new.builder taken) holds.kept (keeps holds.taken);
+    kept =
+        let line = takes holds.taken.lines holds.taken.after_lines in
+        subst (λ lines. IsKept (done ++ record { place = model_of_place place; text = text } ∷ []) lines new.kept)
+        (lines_more done (model_of_place place) text old.builder holds.taken going new.builder taken line.0 line.1)
+        (kept_more done holds.taken.lines line.0 place text own old.kept new.kept line.3 holds.kept keeps);
     places = kept
         ∙ (ap (λ (found : List Place). found ++ model_of_place place ∷ []) holds.places
         ∙ sym (map-append (λ line. line.place) done (record { place = model_of_place place; text = text } ∷ [])));

@@ -4,7 +4,7 @@ use Rattle.std.specs.Prelude.{IfSome}
 use Rattle.std.specs.FinMap.{get}
 use Rattle.count_defs.specs.Counts.{saturating_sum, Rose}
 use Rattle.shelf_defs.specs.Copied.{most_bytes}
-use Rattle.shelf_defs.specs.Questions.{Answer, NoFile, OverLimit, Unanswered, Question, Fits, names_of}
+use Rattle.shelf_defs.specs.Questions.{FileAnswer, NoFile, OverLimit, Unanswered, Question, Fits, names_of}
 use Rattle.shelf_defs.specs.Amounts.{AreTaken}
 use Rattle.bench_shelf.specs.States.{ShelfState, asked_more}
 use Rattle.bench_shelf.specs.declared.error.FileError.{FileError}
@@ -57,7 +57,7 @@ ShelfCauses Fault before after =
 ShelfCauses Memory before after = ReadWithinLimit most_bytes before after
 
 -- the answer to a question for a file that was not read
-abbrev pub answer_by : FileError → Answer
+abbrev pub answer_by : FileError → FileAnswer
 answer_by (unread.Missing name) = NoFile
 answer_by unread.TooLarge = OverLimit
 answer_by unread.Fault = Unanswered
@@ -90,6 +90,6 @@ pub record ReadsOnce (limit : ℕ) (questions : List Question) (before after : S
 
 -- The file of a name was asked for, and this is the answer. Where the shelf shows its files, it is the answer of the
 -- file.
-pub record AsksOne (limit : ℕ) (name : List ℕ) (answer : Answer) (before after : ShelfState) : Type 0 where
+pub record AsksOne (limit : ℕ) (name : List ℕ) (answer : FileAnswer) (before after : ShelfState) : Type 0 where
   pub reads : ReadsOnce limit (record { name = name; answer = answer } ∷ []) before after
   pub fits : IfSome before.files (λ files. Fits limit answer (get files name))

@@ -5,7 +5,7 @@ use Rattle.shelf_defs.specs.Files.{Contents, of_files}
 use Rattle.shelf_defs.specs.Copied as spec
 use Rattle.shelf_defs.specs.Copied.{PlacedLine, Ending, Open, Ended, Refused, Copied, prepend, most_copies, most_bytes}
 use Rattle.shelf_defs.specs.Assembly.{texts, places, laid_copied}
-use Rattle.shelf_defs.specs.Questions.{Answer, Bytes, Unanswered, Question, Agrees, InTurn, EndsWith}
+use Rattle.shelf_defs.specs.Questions.{FileAnswer, Bytes, Unanswered, Question, Agrees, InTurn, EndsWith}
 use Rattle.source_defs.specs.Refusals.{Refusal}
 use Rattle.source_defs.specs.Lines.{numbered}
 use Rattle.expression_defs.specs.Layout.{laid}
@@ -78,16 +78,16 @@ pub record Stopped (done : List PlacedLine) (found : Copied) (new : Copying) : T
   pub halts : Halts (done ++ found.lines) found.ending taken
 
 -- of an error that the definitions give
-abbrev pub WhereTold : CopyError → Type 0 → Type 0
-WhereTold Fault P = ⊤
-WhereTold Memory P = ⊤
-WhereTold other P = P
+abbrev pub IfReported : CopyError → Type 0 → Type 0
+IfReported Fault P = ⊤
+IfReported Memory P = ⊤
+IfReported other P = P
 
 -- they were taken, or one of all lines is refused, and those before it were taken
 abbrev pub LeadsTo : Option CopyError → List PlacedLine → Copied → Copying → Type 0
 LeadsTo None done found new = GoesOn done found new
 LeadsTo (Some error) done found new =
-    CopyRefuses error (laid_copied (prepend done found)) × WhereTold error (Stopped done found new)
+    CopyRefuses error (laid_copied (prepend done found)) × IfReported error (Stopped done found new)
 
 -- the same, whatever lines were taken before
 abbrev pub CopiesTo : Copying → Copied → Option CopyError → Copying → Type 0
@@ -110,7 +110,7 @@ pub record Asking (old new : Copying) (found : Contents → Copied) (questions :
   pub files : IfSome before.files (λ files. Agrees most_bytes (of_files files) 0 questions)
   pub reads : ReadsOnce most_bytes questions before after
 
-abbrev pub IsGiven : Answer → Type 0
+abbrev pub IsGiven : FileAnswer → Type 0
 IsGiven (Bytes bytes) = ⊤
 IsGiven other = ⊥
 

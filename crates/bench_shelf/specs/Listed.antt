@@ -1,6 +1,7 @@
 -- The lines of a source with the files that it copies, as a listing needs them, by the answers of a shelf.
 use Rattle.std.specs.Prelude.{◌≡◌, ⊤, ℕ, List, length, map, Option, Some, Result, Ok, Err}
 use Rattle.std.proofs.Common.{Vec, Global}
+use Rattle.expression_defs.specs.Symbols.{Names}
 use Rattle.expression_defs.specs.Layout.{assembled_lines}
 use Rattle.asm_defs.specs.declared.causes.AsmCause.{AsmCause}
 use Rattle.asm_defs.specs.Locations.{Line}
@@ -11,30 +12,32 @@ use Rattle.shelf_defs.specs.Files.{Contents}
 use Rattle.shelf_defs.specs.Copied.{PlacedLine, Copied, most_bytes, copied_by}
 use Rattle.shelf_defs.specs.Assembly.{places, place_of, laid_copied}
 use Rattle.shelf_defs.specs.Questions.{Unanswered, Question, Agrees, EndsWith}
-use Rattle.asm_list_defs.specs.Listed.{front, first_answer}
+use Rattle.asm_list_defs.specs.Listed.{lines_let_through, first_answer}
 use Rattle.asm_list_defs.specs.Listed as listed
 use Rattle.bench_shelf.specs.States.{ShelfState}
 use Rattle.bench_shelf.specs.declared.copy_error.CopyError.{CopyError}
 use Rattle.bench_shelf.specs.declared.copy_error.CopyError.TheVariants.{Fault, Memory}
 use Rattle.bench_shelf.specs.declared.kept_line.KeptLine.{KeptLine}
 use Rattle.bench_shelf.specs.declared.listed.ListedEnding.{ListedEnding}
-use Rattle.bench_shelf.specs.declared.listed.ListedEnding.TheVariants.{Whole, Behind, Before}
+use Rattle.bench_shelf.specs.declared.listed.ListedEnding.TheVariants.{Whole, After, Before}
 use Rattle.bench_shelf.specs.declared.listed.ListedSource.{ListedSource}
 use Rattle.bench_shelf.specs.declared.place.Place.{Place}
 use Rattle.bench_shelf.specs.declared.copy_error.CopyCause.TheVariants.{Asm}
 use Rattle.bench_shelf.specs.CopyAnswers.{CopyRefuses, IsOwnCause, model_of_place, refused_at}
 use Rattle.bench_shelf.specs.Causes.{ShelfCauses, ReadWithinLimit}
 use Rattle.bench_shelf.specs.Dialogue.{CopyDialogue}
-use Rattle.bench_shelf.specs.Kept.{model_of_kept, AreKept}
+use Rattle.bench_shelf.specs.Kept.{model_of_kept, shown_of, names_of, AreKept}
 
 -- the definitions say nothing of a shelf that failed and of a lack of memory
-abbrev pub IsUntold : CopyError → Type 0
-IsUntold Fault = ⊤
-IsUntold Memory = ⊤
-IsUntold other = ⊥
+abbrev pub GivesNoReport : CopyError → Type 0
+GivesNoReport Fault = ⊤
+GivesNoReport Memory = ⊤
+GivesNoReport other = ⊥
 
-abbrev pub IsTold : CopyError → Type 0
-IsTold error = IsUntold error → ⊥
+abbrev pub GivesReport : CopyError → Type 0
+GivesReport Fault = ⊥
+GivesReport Memory = ⊥
+GivesReport other = ⊤
 
 -- the answer of the second checks
 abbrev pub AssembledAs : List Line → ℕ → AsmCause → Type 0
@@ -45,7 +48,7 @@ abbrev pub AllAssembled : List Line → Type 0
 AllAssembled lines = (found : List AssembledLine) × (assembled_lines (assembled_line (names lines)) lines ≡ Ok found)
 
 -- a line is refused by them, by its number among the lines that were taken, at its place
-pub record RefusedBehind (done : List PlacedLine) (lines : List Line) (number : ℕ) (error : CopyError) : Type 0 where
+pub record RefusedAfter (done : List PlacedLine) (lines : List Line) (number : ℕ) (error : CopyError) : Type 0 where
   pub at : Place
   pub cause : AsmCause
   pub is : error ≡ refused_at at (Asm cause)
@@ -56,7 +59,7 @@ pub record RefusedBehind (done : List PlacedLine) (lines : List Line) (number : 
 -- what the second checks make of lines that were taken
 abbrev pub FinishesBy : List PlacedLine → List Line → ListedEnding → Type 0
 FinishesBy done lines (Whole known) = (known ≡ names lines) × AllAssembled lines
-FinishesBy done lines (Behind known number error) = (known ≡ names lines) × RefusedBehind done lines number error
+FinishesBy done lines (After known number error) = (known ≡ names lines) × RefusedAfter done lines number error
 FinishesBy done lines (Before error) = ⊥
 
 abbrev pub Finishes : List PlacedLine → List Line → Result ListedSource CopyError → Type 0
@@ -65,22 +68,23 @@ Finishes done lines (Err error) = error ≡ Memory
 
 -- the lines that were taken before an error
 abbrev pub StopsAt : Option (Vec KeptLine Global) → CopyError → Result ListedSource CopyError → Type 0
-StopsAt kept error (Ok listed) = (kept ≡ Some listed.lines) × (listed.ending ≡ Before error) × IsTold error
-StopsAt kept error (Err found) = (found ≡ error) × IsUntold error
+StopsAt kept error (Ok listed) = (kept ≡ Some listed.lines) × (listed.ending ≡ Before error) × GivesReport error
+StopsAt kept error (Err found) = (found ≡ error) × GivesNoReport error
 
 -- the lines that are kept are those up to the first that the first checks refuse
 pub record KeepsFront (all : List PlacedLine) (lines : List Line) (kept : List KeptLine) : Type 0 where
-  pub are : map model_of_kept kept ≡ front all
-  pub laid : first_answer (front all) ≡ Ok lines
-  pub size : length lines ≡ length (front all)
-  pub heres : map (λ line. line.here) kept ≡ listed.heres lines
+  pub are : map model_of_kept kept ≡ lines_let_through all
+  pub laid : first_answer (lines_let_through all) ≡ Ok lines
+  pub size : length lines ≡ length (lines_let_through all)
+  pub shown : (known : Option Names) → map (shown_of known) kept ≡ listed.shown known lines
+  pub names : map names_of kept ≡ listed.defined lines
 
 -- what stands after them, by the definitions; where no line is refused by the first checks, as many files were copied
 -- as were asked for
 abbrev pub EndsListed : ℕ → Copied → List Line → ListedEnding → Type 0
-EndsListed asked found lines (Before error) = CopyRefuses error (laid_copied found) × IsTold error
+EndsListed asked found lines (Before error) = CopyRefuses error (laid_copied found) × GivesReport error
 EndsListed asked found lines ending =
-    (laid_copied found ≡ Ok lines) × (front found.lines ≡ found.lines) × FinishesBy found.lines lines ending
+    (laid_copied found ≡ Ok lines) × (lines_let_through found.lines ≡ found.lines) × FinishesBy found.lines lines ending
     × (asked ≡ found.copies)
 
 abbrev pub GivesListed : ℕ → Result ListedSource CopyError → Copied → Type 0
@@ -106,7 +110,7 @@ pub record ListAnswered (before after : ShelfState) (source : List ℕ) (result 
 abbrev pub EndingCauses : ListedEnding → ShelfState → ShelfState → Type 0
 EndingCauses (Before error) before after = ShelfCauses error before after
 EndingCauses (Whole known) before after = ReadWithinLimit most_bytes before after
-EndingCauses (Behind known number error) before after = ShelfCauses error before after
+EndingCauses (After known number error) before after = ShelfCauses error before after
 
 -- what it says of the shelf
 abbrev pub ListCauses : Result ListedSource CopyError → ShelfState → ShelfState → Type 0

@@ -1,12 +1,12 @@
 //! The lines that are kept for a listing.
 
-ghost use Rattle.std.specs.Prelude.{◌≡◌, ◌≤◌, OnOk, is_some};
+ghost use Rattle.std.specs.Prelude.{◌≡◌, OnOk, is_some};
 ghost use Rattle.bench_shelf.specs.CopyAnswers.{place_in};
 ghost use Rattle.bench_shelf.specs.Kept.{KeepsLine};
 
 use crate::file_name::FileName;
 use crate::kept_line::KeptLine;
-use asm_defs::Location;
+use asm_core::TakenLine;
 use std::alloc::{AllocError, Global};
 
 /// Keeps one more line, where lines are kept.
@@ -15,19 +15,18 @@ pub(crate) fn keep_line(
     kept: &mut Option<Vec<KeptLine>>,
     file: &Option<FileName>,
     line: u32,
-    here: Location,
+    taken: TakenLine,
     text: &[u8],
 ) -> Result<(), AllocError>
-    requires { here.number ≤ 65536 }
     ensures same { is_some kept.new ≡ is_some kept.old }
-    ensures kept { OnOk result (KeepsLine kept.old (place_in file.now line) here text.now kept.new) }
+    ensures kept { OnOk result (KeepsLine kept.old (place_in file.now line) taken text.now kept.new) }
 {
     if let Some(lines) = kept {
         let text = Vec::from_slice(alloc, text)?;
         lines.push(KeptLine {
             file: *file,
             line,
-            here,
+            taken,
             text,
         })?;
     }

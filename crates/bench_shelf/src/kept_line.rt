@@ -1,9 +1,7 @@
 //! A line as a listing needs it.
 
-ghost use Rattle.std.specs.Prelude.{◌≤◌};
-
 use crate::file_name::FileName;
-use asm_defs::Location;
+use asm_core::TakenLine;
 
 /// A line that the first checks let through, as a listing needs it.
 #[derive(Drop)]
@@ -12,9 +10,8 @@ pub struct KeptLine {
     pub file: Option<FileName>,
     /// The number of the line there, from 1.
     pub line: u32,
-    /// The location before it.
-    pub here: Location,
+    /// Its place, and the names that it defines.
+    pub taken: TakenLine,
     /// The line, without its line feed.
     pub text: Vec<u8>,
-    ghost within: { here.number ≤ 65536 },
 }

@@ -4,7 +4,7 @@ ghost use Rattle.std.specs.Prelude.{◌≡◌, ◌≤◌, true, List, IfErr, len
 ghost use Rattle.shelf_defs.specs.Copied.{PlacedLine};
 ghost use Rattle.bench_shelf.specs.Causes.{CountsGrew};
 ghost use Rattle.bench_shelf.specs.Leading.{Holds};
-ghost use Rattle.bench_shelf.specs.Listed.{Finishes, ListAnswered, IsUntold, ListCauses, StopsAt};
+ghost use Rattle.bench_shelf.specs.Listed.{Finishes, ListAnswered, GivesNoReport, ListCauses, StopsAt};
 ghost use Rattle.bench_shelf.specs.RefusedLines.{RefusesLine};
 
 use crate::assemble::DEEPEST;
@@ -24,7 +24,7 @@ pub enum ListedEnding {
     /// Nothing: no line is refused. The names are what each name stands for.
     Whole(Symbols),
     /// The second checks refuse a line.
-    Behind {
+    After {
         /// What each name stands for.
         names: Symbols,
         /// The number of the refused line among all lines, from 1.
@@ -58,7 +58,7 @@ pub fn copy_listed<F: Shelf>(
 ) -> Result<ListedSource, CopyError>
     requires { length text.now ≤ 1048576 }
     ensures answered { ListAnswered (F.shelf shelf.old) (F.shelf shelf.new) text.now result }
-    ensures untold { IfErr result IsUntold }
+    ensures no_report { IfErr result GivesNoReport }
     ensures causes { ListCauses result (F.shelf shelf.old) (F.shelf shelf.new) }
     ensures later { CountsGrew (F.shelf shelf.old) (F.shelf shelf.new) }
 {
@@ -113,7 +113,7 @@ impl Copying {
             Err(error) => match refused_line(runs.as_slice(), error) {
                 Ok(RefusedLine { number, error }) => Ok(ListedSource {
                     lines,
-                    ending: ListedEnding::Behind {
+                    ending: ListedEnding::After {
                         names,
                         number,
                         error,

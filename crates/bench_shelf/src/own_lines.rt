@@ -68,14 +68,13 @@ impl Copying {
         ensures copies { self.new.copies ≡ self.old.copies }
         ensures causes { IfErr result (λ failure. IsOfLine (failed_at (place_in file.now line) failure)) }
     {
-        let here = self.builder.location();
-        match self.builder.split_line(own) {
-            Ok(()) => {}
+        let taken = match self.builder.split_line(own) {
+            Ok(taken) => taken,
             Err(AsmError::At { cause, .. }) => return Err(Failure::Refused(cause)),
             Err(AsmError::Memory) => return Err(Failure::Memory),
-        }
+        };
         note_place(&mut self.runs, file, line)?;
-        keep_line(self.alloc, &mut self.kept, file, line, here, own.text)?;
+        keep_line(self.alloc, &mut self.kept, file, line, taken, own.text)?;
         Ok(())
     }
 

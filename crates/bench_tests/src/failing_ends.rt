@@ -109,8 +109,8 @@ fn each_put_fails(
             return Ok(false);
         }
     }
-    let behind = run(alloc, words, input.to_vec(alloc)?, &[], &[puts as u64])?;
-    Ok(behind.status == status && behind.out.bytes() == whole.out.bytes())
+    let after = run(alloc, words, input.to_vec(alloc)?, &[], &[puts as u64])?;
+    Ok(after.status == status && after.out.bytes() == whole.out.bytes())
 }
 
 #[test]

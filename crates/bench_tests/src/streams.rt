@@ -3,7 +3,8 @@
 ghost use Rattle.std.specs.Prelude.{◌≡◌, IfSome, Some, []};
 ghost use Rattle.report_defs.specs.ProgramCommands.{ProgramCommand, program_command};
 ghost use Rattle.reports.specs.Streams.{StreamsHoldTheReport, new_sink, new_source};
-ghost use Rattle.workbench.specs.FileProgram.{Shown, Shows, file_program};
+ghost use Rattle.file_commands.specs.Inputs.{ShownInputs};
+ghost use Rattle.workbench.specs.FileProgram.{Shows, file_program};
 
 use super::run::words_of;
 use bench_shelf::{MemShelf, Shelf};
@@ -31,7 +32,7 @@ fn over_bytes<F: Shelf>(
     shelf: &mut F,
 ) -> Option<Written>
     ensures { IfSome result (λ wrote.
-        (command : ProgramCommand) (read : Shown) → program_command words.now ≡ Some command
+        (command : ProgramCommand) (read : ShownInputs) → program_command words.now ≡ Some command
         → Shows command (record { input = new_source (Some bytes.now); shelf = F.shelf shelf.old }) read
         → StreamsHoldTheReport (file_program.ReportOn command read) [] []
         (new_sink (Some wrote.out.items)) (new_sink (Some wrote.err.items)) wrote.status) }

@@ -9,12 +9,12 @@ drop_front : (p a : List ℕ) (n k : ℕ) → k ≡ length p + n → drop k (p +
 drop_front p a n k e = rw e (drop-append-add p a n)
 
 -- a change after a front
-behind : (p a : List ℕ) (y n : ℕ) → changed (record { at = length p; byte = y; count = n }) (p ++ a) ≡ p ++ (replicate n y ++ drop n a)
-behind p a y n = ap₂ (λ front rest. front ++ (replicate n y ++ rest)) (take-append_seam p a) (drop_front p a n (length p + n) refl)
+changed_after : (p a : List ℕ) (y n : ℕ) → changed (record { at = length p; byte = y; count = n }) (p ++ a) ≡ p ++ (replicate n y ++ drop n a)
+changed_after p a y n = ap₂ (λ front rest. front ++ (replicate n y ++ rest)) (take-append_seam p a) (drop_front p a n (length p + n) refl)
 
 -- one byte is changed
 one : (p a : List ℕ) (x y : ℕ) → changed (record { at = length p; byte = y; count = 1 }) (p ++ x ∷ a) ≡ p ++ y ∷ a
-one p a x y = behind p (x ∷ a) y 1
+one p a x y = changed_after p (x ∷ a) y 1
 
 -- a front with one byte more
 grown : (p a : List ℕ) (y : ℕ) → (p ++ y ∷ []) ++ a ≡ p ++ y ∷ a
@@ -27,10 +27,10 @@ longer p y = length-append p (y ∷ [])
 more : (p a : List ℕ) (x y n : ℕ) → changed (record { at = length p; byte = y; count = n + 1 }) (p ++ x ∷ a)
     ≡ changed (record { at = length p + 1; byte = y; count = n }) (p ++ y ∷ a)
 more p a x y n =
-    behind p (x ∷ a) y (n + 1)
+    changed_after p (x ∷ a) y (n + 1)
     ∙ ap (λ m. p ++ (replicate m y ++ drop m (x ∷ a))) (let e : n + 1 ≡ suc n = omega arith in e)
     ∙ sym (grown p (replicate n y ++ drop n a) y)
-    ∙ sym (behind (p ++ y ∷ []) a y n)
+    ∙ sym (changed_after (p ++ y ∷ []) a y n)
     ∙ ap₂ (λ (k : ℕ) (t : List ℕ). changed (record { at = k; byte = y; count = n }) t) (longer p y) (grown p a y)
 
 joined_applies : (p a : List ℕ) (x y : ℕ) (cs : List Change) → applied (joined (length p) y cs) (p ++ x ∷ a) ≡ applied cs (p ++ y ∷ a)

@@ -33,18 +33,18 @@ placed_change place end c =
     (if (c.at == end) && not (end == 0) then codes "," else codes " " ++ (place ++ codes "="))
     ++ repeated_text c.byte c.count
 
--- a change of a part
-unfoldable pub change_text : Part → ℕ → Change → List ℕ
-change_text part end c = placed_change (place_text part c.at) end c
+-- a change, by what gives a place its text
+unfoldable pub change_text : (ℕ → List ℕ) → ℕ → Change → List ℕ
+change_text place end c = placed_change (place c.at) end c
 
 -- the text of changes, of which the one before ended at a place
-abbrev pub change_texts : Part → ℕ → List Change → List ℕ
-change_texts part end [] = []
-change_texts part end (c ∷ cs) = change_text part end c ++ change_texts part (c.at + c.count) cs
+abbrev pub change_texts : (ℕ → List ℕ) → ℕ → List Change → List ℕ
+change_texts place end [] = []
+change_texts place end (c ∷ cs) = change_text place end c ++ change_texts place (c.at + c.count) cs
 
 -- the text of the changes of a part
 unfoldable pub part_text : Part → List Change → List ℕ
-part_text part cs = change_texts part 0 cs
+part_text part cs = change_texts (place_text part) 0 cs
 
 -- Profile: the changes of a step are shown in order of place, first of the cells, then of the video memory
 -- and of its registers.

@@ -8,8 +8,7 @@ ghost use Rattle.tms_defs.specs.Accesses.{answer_of, written_by};
 ghost use Rattle.console_defs.specs.Memory.{IsMemory, IsNewMemory, MayBePlaced, port_at, port_region, is_port_address};
 ghost use Rattle.console_defs.specs.Memory.{region, port_read};
 ghost use Rattle.console_defs.specs.Memory.{port_written, byte_read_in, byte_read, byte_written_in, byte_written};
-ghost use Rattle.console_defs.specs.Memory.{word_read_in, word_read};
-ghost use Rattle.console_defs.specs.Memory.{word_written_in, word_written, two_bytes_read, two_bytes_written};
+ghost use Rattle.console_defs.specs.Memory.{word_read, word_written};
 ghost use Rattle.console_defs.specs.Memory.{word_placed, cell_set};
 
 use crate::expansion::Expansion;
@@ -79,7 +78,6 @@ impl Bus {
     #[inline]
     pub fn read_word(&mut self, at: u16) -> Result<u16, PortStop>
         ensures word { answer_of result ≡ word_read self.old at }
-        ensures bytes { answer_of result ≡ two_bytes_read self.old at }
         ensures same { self.new ≡ self.old }
     {
         self.word_at(at)
@@ -87,10 +85,9 @@ impl Bus {
 
     /// The word that holds an address, as `read_word` gives it.
     #[inline]
-    #[tactic(auto, using(console_defs::proofs::MemoryLaws::read_is_two_bytes))]
+    #[tactic(auto, using(console_defs::proofs::MemoryLaws::read_is_by_region))]
     pub fn word_at(&self, at: u16) -> Result<u16, PortStop>
         ensures word { answer_of result ≡ word_read self.now at }
-        ensures bytes { answer_of result ≡ two_bytes_read self.now at }
     {
         let at = at / 2 * 2;
         if at >= 0x8000 && at < 0x8400 {
@@ -112,6 +109,7 @@ impl Bus {
     /// expansion memory: its two parts are tested before all else, and first the one that is named. Which one that is
     /// has no effect but on the time.
     #[inline(always)]
+    #[tactic(auto, using(console_defs::proofs::MemoryLaws::read_is_by_region))]
     pub fn code_at(&self, at: u16, first: Expansion) -> Result<u16, PortStop>
         ensures word { answer_of result ≡ word_read self.now at }
     {
@@ -142,10 +140,9 @@ impl Bus {
     /// memory"). A port stops it, with the port's address, and then nothing has changed. A write to the console ROM
     /// changes nothing.
     #[inline]
-    #[tactic(auto, using(console_defs::proofs::MemoryLaws::write_is_two_bytes))]
+    #[tactic(auto, using(console_defs::proofs::MemoryLaws::write_is_by_region))]
     pub fn write_word(&mut self, at: u16, word: u16) -> Result<(), PortStop>
         ensures word { written_by result self.new ≡ word_written self.old at word }
-        ensures bytes { written_by result self.new ≡ two_bytes_written self.old at word }
         ensures stopped { OnErr result (self.new ≡ self.old) }
     {
         let at = at / 2 * 2;

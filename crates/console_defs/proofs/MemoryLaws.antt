@@ -4,13 +4,33 @@ use Rattle.std.proofs.Common.{Option, Some, None}
 use Rattle.std.specs.Prelude.{if◌then◌else◌}
 use Rattle.std.proofs.lemmas.Bool.{ltb-true, ltb-false, lt-ltb}
 use Rattle.tms_defs.specs.Words.{high, low, join, even}
+use Rattle.tms_defs.specs.Bytes.{word_in, with_word_in}
 use Rattle.tms_defs.specs.Accesses.{Answer, Gives, AtPort, ◌>>=◌}
 use Rattle.console_defs.specs.Vdp.{VdpState}
 use Rattle.console_defs.specs.Grom.{GromState}
 use Rattle.console_defs.specs.Memory.{Memory, Port, Region, Rom, LowExpansion, HighExpansion, Scratchpad, PortOf}
-use Rattle.console_defs.specs.Memory.{Unmapped, region, region_by, port_at, port_region, is_port_region, is_port_address}
-use Rattle.console_defs.specs.Memory.{byte_read, byte_written, word_read_in, word_written_in, word_read, word_written}
-use Rattle.console_defs.specs.Memory.{two_bytes_read, two_bytes_written, byte_read_in, byte_written_in}
+use Rattle.console_defs.specs.Memory.{Unmapped, region, port_at, port_region, is_port_region, is_port_address}
+use Rattle.console_defs.specs.Memory.{byte_read, byte_written, word_read, word_written, byte_read_in, byte_written_in}
+
+-- A word that is read at an even address, by the region of it.
+abbrev pub word_read_in : Region → Memory → ℕ → Answer ℕ
+word_read_in (Rom at) m address = Gives (word_in m.rom at)
+word_read_in (LowExpansion at) m address = Gives (word_in m.low_expansion at)
+word_read_in (HighExpansion at) m address = Gives (word_in m.high_expansion at)
+word_read_in (Scratchpad at) m address = Gives (word_in m.scratchpad at)
+word_read_in (PortOf port) m address = AtPort address
+word_read_in Unmapped m address = Gives 0
+
+-- A word that is written at an even address, by the region of it.
+abbrev pub word_written_in : Region → Memory → ℕ → ℕ → Answer Memory
+word_written_in (Rom at) m address word = Gives m
+word_written_in (LowExpansion at) m address word =
+    Gives (record m { low_expansion = with_word_in m.low_expansion at word })
+word_written_in (HighExpansion at) m address word =
+    Gives (record m { high_expansion = with_word_in m.high_expansion at word })
+word_written_in (Scratchpad at) m address word = Gives (record m { scratchpad = with_word_in m.scratchpad at word })
+word_written_in (PortOf port) m address word = AtPort address
+word_written_in Unmapped m address word = Gives m
 
 -- Where the odd address after an even one leads: no port stands there.
 abbrev beside : Region → Region
@@ -52,10 +72,7 @@ region_scratchpad address from below = grind arith
 
 pub region_ports : (address : ℕ) → 0x8400 ≤ address → address < 0xA000 → region address ≡ port_region (port_at address)
 region_ports address from below =
-    let by_tests : region address ≡ region_by (nat_lt address 0x2000) (nat_lt address 0x4000) (nat_lt address 0x8000) (nat_lt address 0x8400) (nat_lt address 0xA000) address =
-    refl in
-    by_tests
-    ∙ rw
+    rw
     (not_below 0x2000 address (omega arith), not_below 0x4000 address (omega arith), not_below 0x8000 address (omega arith), not_below 0x8400 address from, lt-ltb address 0xA000 below)
     refl
 
@@ -96,15 +113,16 @@ read_by_region : (place : Region) (m : Memory) (address : ℕ) →
 read_by_region (Rom at) m address = refl
 read_by_region _ m address = refl
 
--- A word that is read is the two bytes that are read.
-pub read_is_two_bytes : (m : Memory) (address : ℕ) → word_read m address ≡ two_bytes_read m address
-read_is_two_bytes m address =
+-- A word is read by the region of its even address.
+pub read_is_by_region : (m : Memory) (address : ℕ) →
+    word_read m address ≡ word_read_in (region (even address)) m (even address)
+read_is_by_region m address =
     let with_second : Region → Answer ℕ =
     λ second.
     (if is_port_address (even address)
     then AtPort (even address)
     else Gives (join (byte_read m (even address)).0 (byte_read_in second m).0)) in
-    read_by_region (region (even address)) m (even address) ∙ ap with_second (sym (region_beside address))
+    ap with_second (region_beside address) ∙ sym (read_by_region (region (even address)) m (even address))
 
 write_by_region : (place : Region) (m : Memory) (address word : ℕ) →
     word_written_in place m address word
@@ -114,16 +132,16 @@ write_by_region : (place : Region) (m : Memory) (address word : ℕ) →
 write_by_region (Rom at) m address word = refl
 write_by_region _ m address word = refl
 
--- A word that is written is two bytes that are written.
-pub write_is_two_bytes : (m : Memory) (address word : ℕ) → word_written m address word
-    ≡ two_bytes_written m address word
-write_is_two_bytes m address word =
+-- A word is written by the region of its even address.
+pub write_is_by_region : (m : Memory) (address word : ℕ) →
+    word_written m address word ≡ word_written_in (region (even address)) m (even address) word
+write_is_by_region m address word =
     let with_second : Region → Answer Memory =
     λ second.
     (if is_port_address (even address)
     then AtPort (even address)
     else Gives (byte_written_in second (byte_written m (even address) (high word)) (low word))) in
-    write_by_region (region (even address)) m (even address) word ∙ ap with_second (sym (region_beside address))
+    ap with_second (region_beside address) ∙ sym (write_by_region (region (even address)) m (even address) word)
 
 -- The same memory with other states of its ports.
 abbrev pub with_ports : Memory → VdpState → GromState → Memory
@@ -137,7 +155,10 @@ read_past_ports _ m vdp grom address = refl
 -- What a word access does is independent of the ports: it gives the same and leaves them, whatever they are.
 pub word_read_past_ports : (m : Memory) (vdp : VdpState) (grom : GromState) (address : ℕ) →
     word_read (with_ports m vdp grom) address ≡ word_read m address
-word_read_past_ports m vdp grom address = read_past_ports (region (even address)) m vdp grom (even address)
+word_read_past_ports m vdp grom address =
+    read_is_by_region (with_ports m vdp grom) address
+    ∙ read_past_ports (region (even address)) m vdp grom (even address)
+    ∙ sym (read_is_by_region m address)
 
 write_past_ports : (place : Region) (m : Memory) (vdp : VdpState) (grom : GromState) (address word : ℕ) →
     word_written_in place (with_ports m vdp grom) address word
@@ -149,4 +170,6 @@ pub word_written_past_ports : (m : Memory) (vdp : VdpState) (grom : GromState) (
     word_written (with_ports m vdp grom) address word
     ≡ (word_written m address word >>= λ left. Gives (with_ports left vdp grom))
 word_written_past_ports m vdp grom address word =
-    write_past_ports (region (even address)) m vdp grom (even address) word
+    write_is_by_region (with_ports m vdp grom) address word
+    ∙ write_past_ports (region (even address)) m vdp grom (even address) word
+    ∙ ap (λ written. written >>= λ left. Gives (with_ports left vdp grom)) (sym (write_is_by_region m address word))

@@ -1,17 +1,18 @@
 -- A step is refused exactly where the word at the program counter is one that no step executes, and stops at ports
 -- alone: each instruction that is executed gives a state, or meets one of the eight ports.
-use Rattle.std.proofs.Common.{◌≡◌, ℕ, Bool, true, false, refl, ap, Option, Some, None, List, [], ◌∷◌}
+use Rattle.std.proofs.Common.{◌≡◌, ℕ, Bool, true, false, refl, ap, sym, subst, Option, Some, None, List, [], ◌∷◌}
 use Rattle.std.specs.Prelude.{eqb, ℤ, if◌then◌else◌}
 use Rattle.tms_defs.specs.Words.{even, plus}
 use Rattle.tms_defs.specs.Flags.{Width, Byte, Word, byte_or_word}
 use Rattle.tms_defs.specs.Instructions.{instr_at}
 use Rattle.tms_defs.specs.Accesses.{Answer, Gives, AtPort, NoInstruction, ◌>>=◌}
 use Rattle.console_defs.specs.Memory.{Memory, Region, Rom, PortOf}
-use Rattle.console_defs.specs.Memory.{region, is_port_region, is_port_address, word_read_in, word_written_in, word_read}
+use Rattle.console_defs.specs.Memory.{region, is_port_region, is_port_address, word_read}
 use Rattle.console_defs.specs.Memory.{word_written, console}
+use Rattle.console_defs.proofs.MemoryLaws.{word_read_in, word_written_in, read_is_by_region, write_is_by_region}
 use Rattle.tms_defs.specs.Operand.{Cpu, Mode, Register, Indirect, Symbolic, Increment}
 use Rattle.tms_defs.specs.Step.{operand, index_of, with_words, value_at, with_value, stored, two, two_operands, reg}
-use Rattle.tms_defs.specs.Step.{with_source, with_division, in_row, shift, count_of, one, one_operand, jump, jump_where}
+use Rattle.tms_defs.specs.Step.{with_source, with_division, two_words_from, shift, count_of, one, one_operand, jump, jump_where}
 use Rattle.tms_defs.specs.Step.{imm, bare, is_unsupported, executed, executed_where, step_end, step}
 use Rattle.console_defs.specs.Causes.{is_refused, refused_at, refusal, MeetsPort}
 use Rattle.tms_defs.specs.declared.flags.Flags.{Flags}
@@ -58,7 +59,8 @@ read_in (PortOf port) m address e = MeetsPortAt address (ap is_port_region e)
 read_in _ m address e = GivesValue _
 
 read_executes : (m : Memory) (address : ℕ) → Executes (word_read m address)
-read_executes m address = read_in (region (even address)) m (even address) refl
+read_executes m address =
+    subst Executes (sym (read_is_by_region m address)) (read_in (region (even address)) m (even address) refl)
 
 write_in : (place : Region) (m : Memory) (address word : ℕ) → region address ≡ place →
     Executes (word_written_in place m address word)
@@ -67,7 +69,8 @@ write_in (PortOf port) m address word e = MeetsPortAt address (ap is_port_region
 write_in _ m address word e = GivesValue _
 
 write_executes : (m : Memory) (address word : ℕ) → Executes (word_written m address word)
-write_executes m address word = write_in (region (even address)) m (even address) word refl
+write_executes m address word =
+    subst Executes (sym (write_is_by_region m address word)) (write_in (region (even address)) m (even address) word refl)
 
 ruleset accesses = (next_executes, read_executes, write_executes, GivesValue)
 
@@ -116,7 +119,7 @@ two_operands_executes op width dst src x = search (operands, two_executes)
 
 division_executes : (words : Option (ℕ × ℕ)) (address : ℕ) (x : Cpu Memory) →
     Executes (with_division Memory console words address x)
-division_executes (Some words) address x = with_words_executes x (in_row address words)
+division_executes (Some words) address x = with_words_executes x (two_words_from address words)
 division_executes None address x = GivesValue x
 
 reg_executes : (op : RegOp) (number source : ℕ) (src : Place) (x : Cpu Memory) →
@@ -188,7 +191,7 @@ instr_executes (Jump op disp) x e = jump_executes op disp x e
 instr_executes (Imm op number) x e = imm_executes op number x
 instr_executes (Bare op) x e = bare_executes op x e
 
--- An end that is refused at the address that is told, or nowhere where none is, and that stops at a port alone.
+-- An end that is refused at the address that is given, or nowhere where none is, and that stops at a port alone.
 record HasCause (refused : Option ℕ) (end : StepEnd) : Type 0 where
   is_refused : refused_at end ≡ refused
   port : MeetsPort end

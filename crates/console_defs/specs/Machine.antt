@@ -1,5 +1,5 @@
 -- The machine of the console: the processor over the console's memory, with a count of its instructions, and its steps.
-use Rattle.std.specs.Prelude.{◌≡◌, ◌<◌, ℕ, zero, suc, ◌^◌, Bool, ◌&&◌, ◌||◌, nat_le}
+use Rattle.std.specs.Prelude.{◌≡◌, ◌<◌, ℕ, zero, suc, ◌^◌, Bool, ◌&&◌, nat_le, if◌then◌else◌, is_some, Option, Some, None}
 use Rattle.count_defs.specs.Counts.{saturating_sum}
 use Rattle.tms_defs.specs.Words.{even}
 use Rattle.tms_defs.specs.Status.{IsStatus, status_at}
@@ -64,10 +64,14 @@ WhereStopped (Done word) said = Unit {0}
 WhereStopped (Refused address) said = said
 WhereStopped (Port address) said = said
 
--- Profile: the registers of a workspace are shown where all sixteen, 32 bytes, lie in the scratchpad from >8300 on or
--- in one of the two parts of expansion memory.
+-- Profile: the registers of a workspace are shown if all sixteen, 32 bytes, lie in the scratchpad from >8300 on or in
+-- one of the two parts of expansion memory: the first address of that part.
+abbrev pub workspace_base : ℕ → Option ℕ
+workspace_base wp =
+    if nat_le 0x8300 wp && nat_le wp 0x83E0 then Some 0x8300
+    else if nat_le 0x2000 wp && nat_le wp 0x3FE0 then Some 0x2000
+    else if nat_le 0xA000 wp && nat_le wp 0xFFE0 then Some 0xA000
+    else None
+
 abbrev pub has_workspace : ℕ → Bool
-has_workspace wp =
-    (nat_le 0x8300 wp && nat_le wp 0x83E0)
-    || (nat_le 0x2000 wp && nat_le wp 0x3FE0)
-    || (nat_le 0xA000 wp && nat_le wp 0xFFE0)
+has_workspace wp = is_some (workspace_base wp)

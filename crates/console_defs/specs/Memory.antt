@@ -2,7 +2,7 @@
 use Rattle.std.specs.Prelude.{◌≡◌, ◌≤◌, ℕ, ◌+◌, ◌-◌, ◌%◌, ◌==◌, Bool, true, false, nat_lt, if◌then◌else◌, List, [], ◌∷◌}
 use Rattle.std.specs.Prelude.{slice_index, slice_set, Option, Some, None}
 use Rattle.tms_defs.specs.Words.{high, low, join, even}
-use Rattle.tms_defs.specs.Bytes.{HoldsBytes, HoldsZeros, word_in, with_word_in}
+use Rattle.tms_defs.specs.Bytes.{HoldsBytes, HoldsZeros, with_word_in}
 use Rattle.console_defs.specs.Vdp.{VdpState, IsVdp, vdp_address_written, vdp_data_written, vdp_data_read}
 use Rattle.console_defs.specs.Vdp.{vdp_status_read}
 use Rattle.console_defs.specs.Grom.{GromState, IsGrom, grom_address_written, grom_address_read, grom_data_read}
@@ -86,23 +86,18 @@ abbrev pub port_region : Option Port → Region
 port_region (Some port) = PortOf port
 port_region None = Unmapped
 
--- The region of an address, by whether it lies below >2000, >4000, >8000, >8400 and >A000.
-abbrev pub region_by : Bool → Bool → Bool → Bool → Bool → ℕ → Region
-region_by true _ _ _ _ address = Rom address  -- >0000 to >1FFF
-region_by false true _ _ _ address = LowExpansion (address - 0x2000)  -- >2000 to >3FFF
-region_by false false true _ _ address = Unmapped  -- >4000 to >7FFF
-region_by false false false true _ address = Scratchpad (address % 256)  -- >8000 to >83FF
-region_by false false false false true address = port_region (port_at address)  -- >8400 to >9FFF
-region_by false false false false false address = HighExpansion (address - 0xA000)  -- from >A000 on
-
 -- Console ROM at >0000, low expansion at >2000, the scratchpad at >8300, the ports from >8800 on, high expansion at
 -- >A000. Editor/Assembler manual, on the memory of the computer.
 -- The scratchpad answers at >8000, >8100 and >8200 too.
 -- Profile: all else leads nowhere.
 abbrev pub region : ℕ → Region
 region address =
-    region_by (nat_lt address 0x2000) (nat_lt address 0x4000) (nat_lt address 0x8000) (nat_lt address 0x8400)
-    (nat_lt address 0xA000) address
+    if nat_lt address 0x2000 then Rom address
+    else if nat_lt address 0x4000 then LowExpansion (address - 0x2000)
+    else if nat_lt address 0x8000 then Unmapped
+    else if nat_lt address 0x8400 then Scratchpad (address % 256)
+    else if nat_lt address 0xA000 then port_region (port_at address)
+    else HighExpansion (address - 0xA000)
 
 -- A port stands at the address.
 abbrev pub is_port_region : Region → Bool
@@ -118,25 +113,18 @@ is_port_address address = is_port_region (region address)
 abbrev pub port_read : Port → Memory → ℕ × Memory
 port_read VdpDataRead m = ((vdp_data_read m.vdp).0, record m { vdp = (vdp_data_read m.vdp).1 })
 port_read VdpStatusRead m = ((vdp_status_read m.vdp).0, record m { vdp = (vdp_status_read m.vdp).1 })
-port_read VdpDataWrite m = (0, m)
-port_read VdpAddressWrite m = (0, m)
 port_read GromDataRead m = ((grom_data_read m.grom).0, record m { grom = (grom_data_read m.grom).1 })
 port_read GromAddressRead m = ((grom_address_read m.grom).0, record m { grom = (grom_address_read m.grom).1 })
-port_read GromDataWrite m = (0, m)
-port_read GromAddressWrite m = (0, m)
+port_read _ m = (0, m)
 
 -- A byte is written to a port.
 -- Editor/Assembler manual, on VDP and GROM access.
 -- Profile: a write to a port for reading changes nothing, nor does a write to the GROM's data port.
 abbrev pub port_written : Port → Memory → ℕ → Memory
-port_written VdpDataRead m byte = m
-port_written VdpStatusRead m byte = m
 port_written VdpDataWrite m byte = record m { vdp = vdp_data_written m.vdp byte }
 port_written VdpAddressWrite m byte = record m { vdp = vdp_address_written m.vdp byte }
-port_written GromDataRead m byte = m
-port_written GromAddressRead m byte = m
-port_written GromDataWrite m byte = m
 port_written GromAddressWrite m byte = record m { grom = grom_address_written m.grom byte }
+port_written _ m byte = m
 
 -- A byte is read: the byte, and the memory after it.
 -- Editor/Assembler manual, on the memory of the computer.
@@ -156,45 +144,29 @@ byte_read m address = byte_read_in (region address) m
 -- Editor/Assembler manual, on the memory of the computer.
 -- Profile: a byte write makes no read before it. Where an address leads nowhere, a write changes nothing.
 abbrev pub byte_written_in : Region → Memory → ℕ → Memory
-byte_written_in (Rom at) m byte = m
 byte_written_in (LowExpansion at) m byte = record m { low_expansion = slice_set m.low_expansion at byte }
 byte_written_in (HighExpansion at) m byte = record m { high_expansion = slice_set m.high_expansion at byte }
 byte_written_in (Scratchpad at) m byte = record m { scratchpad = slice_set m.scratchpad at byte }
 byte_written_in (PortOf port) m byte = port_written port m byte
-byte_written_in Unmapped m byte = m
+byte_written_in _ m byte = m
 
 abbrev pub byte_written : Memory → ℕ → ℕ → Memory
 byte_written m address byte = byte_written_in (region address) m byte
 
--- A word is read at its even address: it is the bytes there and at the next address.
+-- A word access is two byte accesses, at the even address and at the next one.
 -- TMS9900 data manual, "Registers and memory".
--- Profile: a word access to a port stops.
-abbrev pub word_read_in : Region → Memory → ℕ → Answer ℕ
-word_read_in (Rom at) m address = Gives (word_in m.rom at)
-word_read_in (LowExpansion at) m address = Gives (word_in m.low_expansion at)
-word_read_in (HighExpansion at) m address = Gives (word_in m.high_expansion at)
-word_read_in (Scratchpad at) m address = Gives (word_in m.scratchpad at)
-word_read_in (PortOf port) m address = AtPort address
-word_read_in Unmapped m address = Gives 0
-
+-- Profile: it stops where the first of them is at a port.
 abbrev pub word_read : Memory → ℕ → Answer ℕ
-word_read m address = word_read_in (region (even address)) m (even address)
-
--- A word is written at its even address: its bytes go there and to the next address. A write to ROM changes nothing.
--- TMS9900 data manual, "Registers and memory".
--- Profile: a word access to a port stops.
-abbrev pub word_written_in : Region → Memory → ℕ → ℕ → Answer Memory
-word_written_in (Rom at) m address word = Gives m
-word_written_in (LowExpansion at) m address word =
-    Gives (record m { low_expansion = with_word_in m.low_expansion at word })
-word_written_in (HighExpansion at) m address word =
-    Gives (record m { high_expansion = with_word_in m.high_expansion at word })
-word_written_in (Scratchpad at) m address word = Gives (record m { scratchpad = with_word_in m.scratchpad at word })
-word_written_in (PortOf port) m address word = AtPort address
-word_written_in Unmapped m address word = Gives m
+word_read m address =
+    if is_port_address (even address)
+    then AtPort (even address)
+    else Gives (join (byte_read m (even address)).0 (byte_read m (even address + 1)).0)
 
 abbrev pub word_written : Memory → ℕ → ℕ → Answer Memory
-word_written m address word = word_written_in (region (even address)) m (even address) word
+word_written m address word =
+    if is_port_address (even address)
+    then AtPort (even address)
+    else Gives (byte_written (byte_written m (even address) (high word)) (even address + 1) (low word))
 
 -- The console as the processor's memory.
 abbrev pub console : Accesses Memory
@@ -217,9 +189,7 @@ abbrev pub word_placed_in : Region → Memory → ℕ → Memory
 word_placed_in (Rom at) m word = record m { rom = with_word_in m.rom at word }
 word_placed_in (LowExpansion at) m word = record m { low_expansion = with_word_in m.low_expansion at word }
 word_placed_in (HighExpansion at) m word = record m { high_expansion = with_word_in m.high_expansion at word }
-word_placed_in (Scratchpad at) m word = m
-word_placed_in (PortOf port) m word = m
-word_placed_in Unmapped m word = m
+word_placed_in _ m word = m
 
 abbrev pub word_placed : Memory → ℕ → ℕ → Memory
 word_placed m address word = word_placed_in (region address) m word
@@ -227,19 +197,3 @@ word_placed m address word = word_placed_in (region address) m word
 -- One byte of the scratchpad is set.
 abbrev pub cell_set : Memory → ℕ → ℕ → Memory
 cell_set m number byte = record m { scratchpad = slice_set m.scratchpad number byte }
-
--- A word access is two byte accesses, at the even address and at the next one, or it stops where the first of them
--- is at a port. The equations of the regions above say the same.
--- TMS9900 data manual, "Registers and memory".
--- Profile: a word access to a port stops.
-abbrev pub two_bytes_read : Memory → ℕ → Answer ℕ
-two_bytes_read m address =
-    if is_port_address (even address)
-    then AtPort (even address)
-    else Gives (join (byte_read m (even address)).0 (byte_read m (even address + 1)).0)
-
-abbrev pub two_bytes_written : Memory → ℕ → ℕ → Answer Memory
-two_bytes_written m address word =
-    if is_port_address (even address)
-    then AtPort (even address)
-    else Gives (byte_written (byte_written m (even address) (high word)) (even address + 1) (low word))

@@ -24,7 +24,8 @@ use Rattle.debug_report_defs.proofs.MachineLines.{machine_lines_give_states}
 use Rattle.debug_report_defs.proofs.ReportLaws.{one_debug_report, debug_fronts_begin_reports}
 use Rattle.debug_report_defs.proofs.RefusalLaws.{list_refuses_as_asm}
 use Rattle.debug_commands.specs.Listed.{ListReported}
-use Rattle.debug_commands.specs.Debug.{debug_input, Reading, Shown, ListOn, Reports, ReadFails, Fails, Shows, debug_program}
+use Rattle.file_commands.specs.Inputs.{Inputs, ShownInputs, FaultRose}
+use Rattle.debug_commands.specs.Debug.{debug_input, ListOn, Reports, ReadFails, Shows, debug_program}
 use Rattle.debug_commands.specs.Laws.{LawsOfDebugRuns}
 
 -- the report of `list` by the answers of a shelf is that with the files that it shows
@@ -44,7 +45,7 @@ list_on_input before after source report files shown on = by (nat_lt largest_inp
     by true on = on.0
     by false on = list_shown before after source report files shown on
 
-shown : (command : DebugCommand) (before after : Reading) (read : Shown) (report : Report) → Shows command before read
+shown : (command : DebugCommand) (before after : Inputs) (read : ShownInputs) (report : Report) → Shows command before read
     → Reports command before after report → ReportOn command read.files read.bytes report
 shown command.List before after read report shows (source, reading, on) =
     on_all (AcceptedReport command.List read.files) before.input after.input source read.bytes report shows.0 reading
@@ -52,7 +53,7 @@ shown command.List before after read report shows (source, reading, on) =
 shown command before after read report shows on =
     bench.shown debug_input command before.input after.input read.bytes report shows on.0
 
-fails : (command : DebugCommand) (before after : Reading) → ReadFails command before after → Fails before after
+fails : (command : DebugCommand) (before after : Inputs) → ReadFails command before after → FaultRose before after
 fails command.List before after (inl failed) = inl failed.0
 fails command.List before after (inr (source, whole, failed)) = inr failed.2.rose
 fails _ before after failed = inl failed.1

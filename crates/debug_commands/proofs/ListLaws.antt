@@ -6,7 +6,7 @@ use Rattle.shelf_defs.specs.Copied.{CopyRefusal, most_bytes}
 use Rattle.bench_shelf.specs.States.{ShelfState}
 use Rattle.bench_shelf.specs.CopyAnswers.{model_of_cause}
 use Rattle.bench_shelf.specs.Causes.{ShelfCauses}
-use Rattle.bench_shelf.specs.Listed.{IsTold}
+use Rattle.bench_shelf.specs.Listed.{GivesReport}
 use Rattle.bench_shelf.specs.declared.copy_error.CopyCause.{CopyCause}
 use Rattle.bench_shelf.specs.declared.copy_error.CopyCause.TheVariants.{Asm, BadCopy, TooDeep, TooMany, Missing}
 use Rattle.bench_shelf.specs.declared.copy_error.CopyError.{CopyError}
@@ -19,9 +19,9 @@ use Rattle.debug_report_defs.specs.Listings.{rows_report}
 use Rattle.debug_commands.specs.Listed.{RefusalCauses, ListReported, model_of_refusal}
 
 -- the refusal is one that the definitions have
-told_by : (refused : Option CopyError) (defined : Option CopyRefusal) → RefusedAs refused defined → IfSome refused IsTold
-told_by None defined none = tt
-told_by (Some error) defined (refuses, told) = told
+reported_if : (refused : Option CopyError) (defined : Option CopyRefusal) → RefusedAs refused defined → IfSome refused GivesReport
+reported_if None defined none = tt
+reported_if (Some error) defined (refuses, reported) = reported
 
 same_refusal : (refusal : CopyRefusal) (defined : Option CopyRefusal) → as_result defined ≡ Err refusal → Some refusal ≡ defined
 same_refusal refusal None e = absurd cc
@@ -29,10 +29,10 @@ same_refusal refusal (Some other) e = let same : other ≡ refusal = cc e in ap 
 
 is_refusal : (refused : Option CopyError) (defined : Option CopyRefusal) → RefusedAs refused defined → model_of_refusal refused ≡ defined
 is_refusal None defined none = sym none
-is_refusal (Some (At file line cause)) defined (refuses, told) = same_refusal _ defined refuses.1
-is_refusal (Some TooLarge) defined (refuses, told) = same_refusal copied.TooLarge defined refuses
-is_refusal (Some Fault) defined (refuses, told) = absurd (told tt)
-is_refusal (Some Memory) defined (refuses, told) = absurd (told tt)
+is_refusal (Some (At file line cause)) defined (refuses, reported) = same_refusal _ defined refuses.1
+is_refusal (Some TooLarge) defined (refuses, reported) = same_refusal copied.TooLarge defined refuses
+is_refusal (Some Fault) defined (refuses, reported) = absurd reported
+is_refusal (Some Memory) defined (refuses, reported) = absurd reported
 
 module _ (before after : ShelfState) (source : List ℕ) where
   line_causes : (file : Option (List ℕ)) (line : ℕ) (cause : CopyCause) → ShelfCauses (At file line cause) before after
@@ -43,18 +43,18 @@ module _ (before after : ShelfState) (source : List ℕ) where
   line_causes file line TooMany causes = causes.1
   line_causes file line (Missing name) causes = causes
 
-  refusal_causes : (refused : Option CopyError) → IfSome refused IsTold → RefusedCauses refused before after
+  refusal_causes : (refused : Option CopyError) → IfSome refused GivesReport → RefusedCauses refused before after
       → RefusalCauses (model_of_refusal refused) before after
-  refusal_causes None told causes = causes
-  refusal_causes (Some (At file line cause)) told causes = line_causes file line cause causes
-  refusal_causes (Some TooLarge) told causes = causes
-  refusal_causes (Some Fault) told causes = absurd (told tt)
-  refusal_causes (Some Memory) told causes = absurd (told tt)
+  refusal_causes None reported causes = causes
+  refusal_causes (Some (At file line cause)) reported causes = line_causes file line cause causes
+  refusal_causes (Some TooLarge) reported causes = causes
+  refusal_causes (Some Fault) reported causes = absurd reported
+  refusal_causes (Some Memory) reported causes = absurd reported
 
-  pub is_told : (listing : AsmListing) → ListingAnswered before after source (Ok listing) → IfSome listing.refused IsTold
-  is_told listing answered =
+  pub is_reported : (listing : AsmListing) → ListingAnswered before after source (Ok listing) → IfSome listing.refused GivesReport
+  is_reported listing answered =
       let some = some_contents most_bytes answered.questions in
-      told_by listing.refused _ (answered.gives some.0 some.1).refused
+      reported_if listing.refused _ (answered.gives some.0 some.1).refused
 
   pub listing_reported : (listing : AsmListing) → ListingAnswered before after source (Ok listing) → RefusedCauses listing.refused before after
       → ListReported before after source (rows_report (rows_of listing) (model_of_refusal listing.refused))
@@ -66,6 +66,6 @@ module _ (before after : ShelfState) (source : List ℕ) where
     gives = λ contents agrees.
         let lists = answered.gives contents agrees in
         record { rows_are = lists.rows; refusal_is = is_refusal listing.refused _ lists.refused; copies = lists.copies };
-    causes = refusal_causes listing.refused (is_told listing answered) causes;
+    causes = refusal_causes listing.refused (is_reported listing answered) causes;
     is = refl;
   }

@@ -33,10 +33,10 @@ pub rows_written : {T E : Type 0} (r : Result T E) (o : Outputs) (lines : List (
 rows_written (Ok value) o lines whole wrote = wrote
 rows_written (Err error) o lines whole missed = absurd cc
 
--- the rows were written, and then the line of what is refused is told
-pub line_told : (o : Outputs) (lines : List (List ℕ)) (line : List ℕ) (end : Status) → Wrote o.out o.out' lines
+-- the rows were written, and then the line of what is refused is written
+pub line_written : (o : Outputs) (lines : List (List ℕ)) (line : List ℕ) (end : Status) → Wrote o.out o.out' lines
     → EndsByLine line status.Refused o.err o.err' end → EndsWith o (RejectedAfter lines line) end
-line_told o lines line end wrote (inl (is, told)) =
-    subst (λ (end : Status). EndsWith o (RejectedAfter lines line) end) (sym is) (refl, (wrote, told))
-line_told o lines line end wrote (inr (is, missed)) =
+line_written o lines line end wrote (inl (is, reported)) =
+    subst (λ (end : Status). EndsWith o (RejectedAfter lines line) end) (sym is) (refl, (wrote, reported))
+line_written o lines line end wrote (inr (is, missed)) =
     subst (λ (end : Status). EndsWith o (RejectedAfter lines line) end) (sym is) (inr (wrote, missed))

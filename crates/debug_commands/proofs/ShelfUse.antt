@@ -12,9 +12,10 @@ use Rattle.reports.specs.Run.{Run, EndsSaid, EndsBy}
 use Rattle.debug_report_defs.specs.declared.command.DebugCommand.{DebugCommand}
 use Rattle.debug_report_defs.specs.declared.command.DebugCommand.TheVariants as command
 use Rattle.debug_commands.specs.Listed.{ListReported}
-use Rattle.debug_commands.specs.Debug.{Reading, Reports, Leaves, debug_program, TakesOfShelf}
+use Rattle.file_commands.specs.Inputs.{Inputs}
+use Rattle.debug_commands.specs.Debug.{Reports, Leaves, debug_program, TakesOfShelf}
 
-abbrev Takes : DebugCommand → Reading → Reading → Type 0
+abbrev Takes : DebugCommand → Inputs → Inputs → Type 0
 Takes command before after = TakesOfShelf (Some command) before.shelf after.shelf
 
 none_taken : (command : DebugCommand) (before after : ShelfState) → after ≡ before → TakesOfShelf (Some command) before after
@@ -24,7 +25,7 @@ none_taken command.List before after same =
     (omega (arith, opens), omega (arith, taken))
 none_taken _ before after same = same
 
-reporting : (command : DebugCommand) (before after : Reading) (report : Report) → Reports command before after report
+reporting : (command : DebugCommand) (before after : Inputs) (report : Report) → Reports command before after report
     → Takes command before after
 reporting command.List before after report (source, reads, on) = by (nat_lt largest_input (length source)) on
   where
@@ -35,15 +36,15 @@ reporting command.List before after report (source, reads, on) = by (nat_lt larg
     by false on = dialogue_takes most_bytes most_copies _ before.shelf after.shelf on.questions on.dialogue
 reporting _ before after report on = on.1
 
-leaving : (command : DebugCommand) (before after : Reading) → Leaves command before after → Takes command before after
+leaving : (command : DebugCommand) (before after : Inputs) → Leaves command before after → Takes command before after
 leaving command.List before after (input, took, inl same) = none_taken command.List before.shelf after.shelf same
 leaving command.List before after (input, took, inr (source, whole, questions, dialogue)) =
     dialogue_takes most_bytes most_copies _ before.shelf after.shelf questions dialogue
 leaving _ before after leaves = leaves.1
 
-takes_said : (said : Option DebugCommand) (run : Run DebugCommand Reading) (end : Status)
+takes_said : (said : Option DebugCommand) (run : Run DebugCommand Inputs) (end : Status)
     → EndsSaid debug_program said run end → TakesOfShelf said run.before.shelf run.after.shelf
-takes_said None run end ends = ap (λ (r : Reading). r.shelf) ends.unread
+takes_said None run end ends = ap (λ (r : Inputs). r.shelf) ends.unread
 takes_said (Some command) run status.Done (report, is, wrote) = reporting command run.before run.after report is
 takes_said (Some command) run status.Refused (report, is, wrote) = reporting command run.before run.after report is
 takes_said (Some command) run status.Usage ends = absurd ends
@@ -53,6 +54,6 @@ takes_said (Some command) run status.WriteFault (inr (front, (on, same), missed)
 takes_said (Some command) run status.Memory nothing = leaving command run.before run.after nothing.leaves
 takes_said (Some command) run status.Stopped (report, is, wrote) = reporting command run.before run.after report is
 
-pub takes_of_shelf : (run : Run DebugCommand Reading) (end : Status) → EndsBy debug_program run end
+pub takes_of_shelf : (run : Run DebugCommand Inputs) (end : Status) → EndsBy debug_program run end
     → TakesOfShelf run.said run.before.shelf run.after.shelf
 takes_of_shelf run end ends = takes_said run.said run end ends

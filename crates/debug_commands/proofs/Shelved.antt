@@ -23,13 +23,14 @@ use Rattle.debug_report_defs.specs.declared.command.DebugCommand.{DebugCommand}
 use Rattle.debug_report_defs.specs.declared.command.DebugCommand.TheVariants as command
 use Rattle.debug_report_defs.specs.Listings.{rows_report}
 use Rattle.debug_commands.specs.Listed.{ListReported, ListFails, EndsListed}
-use Rattle.debug_commands.specs.Debug.{debug_input, Reading, Reports, Leaves, ReadFails, debug_program}
+use Rattle.file_commands.specs.Inputs.{Inputs}
+use Rattle.debug_commands.specs.Debug.{debug_input, Reports, Leaves, ReadFails, debug_program}
 use Rattle.debug_commands.proofs.Ends.{input_only}
 
-abbrev pub at : SourceState → ShelfState → Reading
+abbrev pub at : SourceState → ShelfState → Inputs
 at input shelf = record { input = input; shelf = shelf }
 
-abbrev pub run_at : DebugCommand → Reading → Reading → Outputs → Run DebugCommand Reading
+abbrev pub run_at : DebugCommand → Inputs → Inputs → Outputs → Run DebugCommand Inputs
 run_at command before after o = record { said = Some command; before = before; after = after; outputs = o }
 
 -- ---- a run that leaves the shelf as it was
@@ -84,7 +85,7 @@ module _ (before after : SourceState) (source : List ℕ) (whole : ReadWhole lar
   within = record { bytes = source; within = whole.within; empty = 1; one = omega arith; took = whole.took }
 
   module _ (shelf shelf' : ShelfState) (o : Outputs) (end : Status) where
-    abbrev run : Run DebugCommand Reading
+    abbrev run : Run DebugCommand Inputs
     run = run_at command.List (at before shelf) (at after shelf') o
 
     answered : (answer : Result Report Status) → Reported (ListReported shelf shelf' source) (ListFails shelf shelf' source) answer

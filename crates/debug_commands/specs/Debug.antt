@@ -1,18 +1,15 @@
 -- `ti_debug` as a program: what its commands read of the input and of a shelf, report and leave.
 use Rattle.std.specs.Prelude.{◌≡◌, ◌⊎◌, ℕ, ◌+◌, ◌*◌, ◌≤◌, nat_lt, true, MatchBool, List, length}
 use Rattle.std.specs.Prelude.{Option, Some, None}
-use Rattle.count_defs.specs.Counts.{saturating_sum, Rose}
-use Rattle.bench_io.specs.Stream.{SourceState}
+use Rattle.count_defs.specs.Counts.{saturating_sum}
 use Rattle.bench_io.specs.ReadAll.{ReadWhole}
-use Rattle.shelf_defs.specs.Files.{Files}
 use Rattle.shelf_defs.specs.Copied.{most_bytes, most_copies}
-use Rattle.shelf_defs.specs.Questions.{Question}
 use Rattle.bench_shelf.specs.States.{ShelfState}
-use Rattle.bench_shelf.specs.Dialogue.{CopyDialogue}
 use Rattle.report_defs.specs.declared.fault.Fault.TheVariants.{TooLarge}
 use Rattle.report_defs.specs.declared.status.Status.TheVariants.{ReadFault}
 use Rattle.report_defs.specs.Report.{Report, Faulty, largest_input}
 use Rattle.reports.specs.Run.{Program}
+use Rattle.file_commands.specs.Inputs.{Inputs, ShownInputs, ReadsFirst, FaultRose}
 use Rattle.bench_commands.specs.InputRun as plain
 use Rattle.bench_commands.specs.InputRun.{InputCommands, ReadsInput, TookWithin}
 use Rattle.debug_report_defs.specs.declared.command.DebugCommand.{DebugCommand}
@@ -26,16 +23,6 @@ abbrev pub debug_input : InputCommands DebugCommand
 debug_input =
     record { usage = debug_usage; reads = λ command. true; Accepted = InputReport; PrefixOn = PrefixOn }
 
--- what the commands read: the input, and a shelf of files
-pub record Reading : Type 0 where
-  pub input : SourceState
-  pub shelf : ShelfState
-
--- what both may show
-pub record Shown : Type 0 where
-  pub bytes : List ℕ
-  pub files : Files
-
 -- The report of `list` on a source that was taken of the input. If that is too large, no file is opened.
 abbrev pub ListOn : ShelfState → ShelfState → List ℕ → Report → Type 0
 ListOn before after source report =
@@ -44,27 +31,19 @@ ListOn before after source report =
 
 -- The report of a command. `list` takes the input and the files that it copies. Every other command takes the input,
 -- and leaves the shelf as it was.
-abbrev pub Reports : DebugCommand → Reading → Reading → Report → Type 0
+abbrev pub Reports : DebugCommand → Inputs → Inputs → Report → Type 0
 Reports command.List before after report =
     (source : List ℕ) × ReadsInput before.input after.input source × ListOn before.shelf after.shelf source report
 Reports command before after report =
     plain.Reports debug_input command before.input after.input report × (after.shelf ≡ before.shelf)
 
 -- a front of it, which is written before its end is known
-abbrev pub Begins : DebugCommand → Reading → Reading → Report → Type 0
+abbrev pub Begins : DebugCommand → Inputs → Inputs → Report → Type 0
 Begins command before after front =
     plain.Begins debug_input command before.input after.input front × (after.shelf ≡ before.shelf)
 
--- The shelf is as it was, unless the input was taken whole before. Then it was asked for the files that the source
--- copies, each as the next after the answers before.
-abbrev pub ReadsFirst : Reading → Reading → Type 0
-ReadsFirst before after =
-    (after.shelf ≡ before.shelf)
-    ⊎ ((source : List ℕ) × ReadWhole largest_input before.input after.input source
-    × (questions : List Question) × CopyDialogue before.shelf after.shelf source questions)
-
 -- what a command that wrote nothing leaves of the input and of the shelf
-abbrev pub Leaves : DebugCommand → Reading → Reading → Type 0
+abbrev pub Leaves : DebugCommand → Inputs → Inputs → Type 0
 Leaves command.List before after =
     TookWithin before.input after.input × TookOfFiles before.shelf after.shelf × ReadsFirst before after
 Leaves command before after =
@@ -72,25 +51,20 @@ Leaves command before after =
 
 -- A call failed of what the command reads: of the input, and then no file was opened; or of the shelf, which `list`
 -- asks for files after the input was taken whole, at the file that was asked for last.
-abbrev pub ReadFails : DebugCommand → Reading → Reading → Type 0
+abbrev pub ReadFails : DebugCommand → Inputs → Inputs → Type 0
 ReadFails command.List before after =
     (plain.Fails before.input after.input × (after.shelf ≡ before.shelf))
     ⊎ ((source : List ℕ) × ReadWhole largest_input before.input after.input source
     × ListFails before.shelf after.shelf source ReadFault)
 ReadFails command before after = plain.ReadFails debug_input command before.input after.input
 
--- a count of faults rose: of the input, or of the shelf
-abbrev pub Fails : Reading → Reading → Type 0
-Fails before after =
-    plain.Fails before.input after.input ⊎ Rose before.shelf.source.faults after.shelf.source.faults
-
 -- what a command reads is shown: the bytes of the input, and to `list` the files of the shelf too
-abbrev pub Shows : DebugCommand → Reading → Shown → Type 0
+abbrev pub Shows : DebugCommand → Inputs → ShownInputs → Type 0
 Shows command.List reading shown =
     (reading.input.left ≡ Some shown.bytes) × (reading.shelf.files ≡ Some shown.files)
 Shows command reading shown = plain.Shows debug_input command reading.input shown.bytes
 
-abbrev pub debug_program : Program DebugCommand Reading Shown
+abbrev pub debug_program : Program DebugCommand Inputs ShownInputs
 debug_program =
     record {
       usage = debug_usage;
@@ -98,7 +72,7 @@ debug_program =
       Begins = Begins;
       Leaves = Leaves;
       ReadFails = ReadFails;
-      Fails = Fails;
+      Fails = FaultRose;
       Shows = Shows;
       ReportOn = λ command shown. ReportOn command shown.files shown.bytes;
     }

@@ -7,7 +7,7 @@ ghost use Rattle.report_defs.specs.Report.{largest_input};
 ghost use Rattle.report_defs.specs.FileReports.{copy_report};
 ghost use Rattle.debug_report_defs.specs.Listings.{rows_report};
 ghost use Rattle.bench_shelf.specs.Causes.{CountsGrew};
-ghost use Rattle.bench_shelf.specs.Listed.{IsTold};
+ghost use Rattle.bench_shelf.specs.Listed.{GivesReport};
 ghost use Rattle.reports.specs.Answers.{error_answer};
 ghost use Rattle.reports.specs.Outputs.{EndsWith};
 ghost use Rattle.file_commands.specs.Copying.{copy_refusal};
@@ -48,7 +48,7 @@ pub(crate) fn list<F: Shelf, O: Sink, E: Sink>(
 
 /// Writes a listing, and then the line of what is refused, if anything is.
 fn finish_list<O: Sink, E: Sink>(listing: &AsmListing, out: &mut O, err: &mut E) -> Status
-    requires { IfSome listing.now.refused IsTold }
+    requires { IfSome listing.now.refused GivesReport }
     ensures { EndsWith (record {
       out = O.state out.old;
       out' = O.state out.new;

@@ -1,5 +1,6 @@
 -- Every instruction leaves a machine whose bytes and words fit.
-use Rattle.std.proofs.Common.{ℕ, zero, suc, ◌+◌, ◌%◌, ◌<◌, Bool, true, false, List, Option, Some, None, arith, rules}
+use Rattle.std.proofs.Common.{ℕ, zero, suc, ◌+◌, ◌%◌, ◌<◌, Bool, true, false, List, Option, Some, None, arith, rules, sym, subst}
+use Rattle.console_defs.proofs.MemoryLaws.{word_read_in, word_written_in, read_is_by_region, write_is_by_region}
 use Rattle.std.specs.Prelude.{slice_index, IfSome}
 use Rattle.tms_defs.specs.Words.{even, high, low}
 use Rattle.tms_defs.specs.Bytes.{HoldsBytes, word_in, with_word_in}
@@ -9,7 +10,7 @@ use Rattle.console_defs.specs.Vdp.{VdpState, IsVdp, PairKind, ReadSetup, WriteSe
 use Rattle.console_defs.specs.Grom.{GromState, IsGrom, grom_fetched_ahead, grom_half_taken}
 use Rattle.console_defs.specs.Memory.{Memory, IsMemory, console, Port, VdpDataRead, VdpStatusRead, VdpDataWrite, VdpAddressWrite, GromDataRead, GromAddressRead}
 use Rattle.console_defs.specs.Memory.{GromAddressWrite, Region, Rom, LowExpansion, HighExpansion, Scratchpad, PortOf, Unmapped, region}
-use Rattle.console_defs.specs.Memory.{word_read_in, word_written_in, byte_read_in, byte_written_in, port_read, port_written}
+use Rattle.console_defs.specs.Memory.{byte_read_in, byte_written_in, port_read, port_written}
 use Rattle.console_defs.specs.Machine.{MachineState, IsMachine}
 use Rattle.console_defs.specs.Runs.{after_steps}
 use Rattle.gpl_step_defs.proofs.Kept.{set_keeps}
@@ -134,8 +135,10 @@ pub runs_fit : (x : MachineState) → IsMachine x → (made : ℕ) → MachineFi
 runs_fit x is zero = record { memory = is.memory; pc = is.pc; wp = is.wp; status = is.status }
 runs_fit x is (suc made) =
     step_fits Memory console IsMemory
-    (λ m a h. read m h (region (even a)) (even a))
-    (λ m a w lt h. written m h (region (even a)) (even a) w lt)
+    (λ m a h.
+    subst (Holds (λ (w : ℕ). w < 65536)) (sym (read_is_by_region m a)) (read m h (region (even a)) (even a)))
+    (λ m a w lt h.
+    subst (Holds IsMemory) (sym (write_is_by_region m a w)) (written m h (region (even a)) (even a) w lt))
     (λ m a h. holds _ (byte_gave m h (region a)))
     (λ m a b lt h. holds _ (byte_took m h (region a) b lt))
     (after_steps made x).cpu (runs_fit x is made)

@@ -5,7 +5,7 @@ use Rattle.std.specs.Prelude.{◌==◌, codes, drop}
 use Rattle.std.specs.List.{list_all}
 use Rattle.std.specs.Fmt.{decimal, digits, digits_onto, digit_glyph}
 use Rattle.source_defs.specs.Digits.{word_digits, byte_digits, hex_word}
-use Rattle.report_defs.specs.Trace.{number_text}
+use Rattle.source_defs.specs.Digits.{right_in}
 use Rattle.listed_lines.proofs.Scans.{all_both, and_left, and_right, not_true}
 use Rattle.debug_report_defs.proofs.Digits.{cond_both, decimal_passes, decimal_back, word_back}
 use Rattle.debug_report_defs.specs.LineFronts.{decimal_value, after_blanks, first_word, after_word, number_in, after_number, word_digits_at}
@@ -20,8 +20,8 @@ blanks_front : (n : ℕ) → list_all in_front (replicate n 0x20) ≡ true
 blanks_front zero = refl
 blanks_front (suc n) = blanks_front n
 
-pub number_front : (n : ℕ) → list_all in_front (number_text n) ≡ true
-unfolding number_text
+pub number_front : (n : ℕ) → list_all in_front (right_in 6 n) ≡ true
+unfolding right_in
 number_front n = front_all (replicate (6 - length (decimal n)) 0x20) (decimal n) (blanks_front (6 - length (decimal n))) (decimal_passes in_front n refl)
 
 -- ---- a number that blanks are before
@@ -57,20 +57,20 @@ decimal_some : (n : ℕ) → 0 < length (decimal n)
 unfolding digits
 decimal_some n = first_some 63 n
 
-number_there : (n : ℕ) (rest : List ℕ) → after_blanks (number_text n ++ 0x20 ∷ rest) ≡ decimal n ++ 0x20 ∷ rest
-unfolding number_text
+number_there : (n : ℕ) (rest : List ℕ) → after_blanks (right_in 6 n ++ 0x20 ∷ rest) ≡ decimal n ++ 0x20 ∷ rest
+unfolding right_in
 number_there n rest =
     ap after_blanks (append_assoc (replicate (6 - length (decimal n)) 0x20) (decimal n) (0x20 ∷ rest))
     ∙ skip_blanks (6 - length (decimal n)) (decimal n ++ 0x20 ∷ rest)
     ∙ at_word (decimal n) (0x20 ∷ rest) (decimal_some n) (decimal_passes in_word n refl)
 
-pub number_found : (n : ℕ) (rest : List ℕ) → n < 2 ^ 64 → number_in (number_text n ++ 0x20 ∷ rest) ≡ n
+pub number_found : (n : ℕ) (rest : List ℕ) → n < 2 ^ 64 → number_in (right_in 6 n ++ 0x20 ∷ rest) ≡ n
 number_found n rest lt =
     ap (λ l. decimal_value (first_word l)) (number_there n rest)
     ∙ ap decimal_value (word_then (decimal n) rest (decimal_passes in_word n refl)).0
     ∙ decimal_back n lt
 
-pub rest_found : (n : ℕ) (rest : List ℕ) → after_number (number_text n ++ 0x20 ∷ rest) ≡ rest
+pub rest_found : (n : ℕ) (rest : List ℕ) → after_number (right_in 6 n ++ 0x20 ∷ rest) ≡ rest
 rest_found n rest = ap after_word (number_there n rest) ∙ (word_then (decimal n) rest (decimal_passes in_word n refl)).1
 
 -- ---- words at their places

@@ -21,7 +21,8 @@ use Rattle.gpl_step_defs.specs.State.{GplState}
 use Rattle.gpl_listing_defs.specs.Texts.{mnemonic_of, instr_text, read_text}
 use Rattle.gpl_listing_defs.proofs.Operands.{Alphabet, Token, shown, tokens_of, tokens_are, shown_all}
 use Rattle.report_defs.specs.Program.{state_text}
-use Rattle.report_defs.specs.Trace.{number_text, step_front}
+use Rattle.source_defs.specs.Digits.{right_in}
+use Rattle.report_defs.specs.Trace.{step_front}
 use Rattle.debug_report_defs.specs.LineFronts.{number_in, after_number, gpl_front_in}
 use Rattle.debug_report_defs.proofs.Digits.{word_digits_pass, byte_digits_pass}
 use Rattle.debug_report_defs.proofs.LineSplit.{in_front}
@@ -68,7 +69,7 @@ clean_state s =
 pub gpl_front_clean : (number : ℕ) (s : GplState) → list_all in_front (step_front number s) ≡ true
 unfolding step_front
 gpl_front_clean number s =
-    front_all (number_text number) _ (number_front number)
+    front_all (right_in 6 number) _ (number_front number)
     (front_all (state_text s) (codes " " ++ read_text (reading s.image s.pc) s.pc) (clean_state s) (clean_text (reading s.image s.pc) s.pc))
 
 -- ---- what a front says

@@ -22,7 +22,7 @@ use Rattle.tms_defs.specs.declared.instruction.ImmOp.TheVariants.{LI}
 use Rattle.tms_defs.specs.declared.instruction.BareOp.TheVariants.{LWPI}
 use Rattle.tms_defs.specs.declared.instruction.Instr.{Instr}
 use Rattle.tms_defs.specs.declared.instruction.Instr.TheVariants.{Two, Reg, Shift, One, Jump, Imm, Bare}
-use Rattle.instruction_defs.specs.Operations.{name_of}
+use Rattle.tms_defs.specs.Instructions.{name_of}
 use Rattle.instruction_defs.specs.Operands.{following_words, has_immediate, has_value, size_in_words}
 use Rattle.instruction_defs.specs.Printed.{register_text, signed_text, symbolic_text, operand_text, number_text}
 use Rattle.instruction_defs.specs.Printed.{Printed, target_text, instr_text, printed_where, printed}

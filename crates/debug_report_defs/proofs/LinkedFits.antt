@@ -20,7 +20,7 @@ use Rattle.link_defs.specs.Placing.{Section, sections, def_at, word_at, value_of
 use Rattle.link_defs.specs.LinkedMemory.{LinkedMemory, value_in, is_defined_again, is_outside, is_taken}
 use Rattle.link_defs.specs.LinkedMemory.{is_unresolved, first_entry, word_for, filled, linked_parts, linked}
 use Rattle.report_defs.specs.ObjectFaults.{link_line}
-use Rattle.report_defs.specs.ObjectInput.{told, linked_modules, linked_input}
+use Rattle.report_defs.specs.ObjectInput.{with_line, linked_modules, linked_input}
 use Rattle.debug_report_defs.proofs.Digits.{cond_both}
 
 -- addresses with their words, each of 16 bits
@@ -139,7 +139,7 @@ pub linked_fits : (input : List ℕ) (l : LinkedMemory) → linked_input input �
 linked_fits input l e = by (read input) e
   where
     linked_by : (answer : Result LinkedMemory LinkCause) → ((m : LinkedMemory) → answer ≡ Ok m → LinkedFits m)
-        → told link_line answer ≡ Ok l → LinkedFits l
+        → with_line link_line answer ≡ Ok l → LinkedFits l
     linked_by (Ok m) fit e = let same : m ≡ l = cc in subst LinkedFits same (fit m refl)
     linked_by (Err cause) fit e = absurd (cc)
 

@@ -10,7 +10,7 @@ use Rattle.change_defs.specs.Changes.{changes}
 use Rattle.machine_change_defs.specs.declared.area.Area.{Area}
 use Rattle.machine_change_defs.specs.declared.area.Area.TheVariants.{Scratchpad, LowExpansion, HighExpansion, Video, Registers}
 use Rattle.machine_change_defs.specs.Seen.{SeenMemory, seen_memory, area_bytes, workspace_place, workspace_at}
-use Rattle.machine_change_defs.specs.Changes.{register_change, new_number, new_held, memory_changes}
+use Rattle.machine_change_defs.specs.Changes.{register_change, number_if_changed, held_if_changed, memory_changes}
 use Rattle.debug_report_defs.proofs.Digits.{cond_both}
 use Rattle.debug_report_defs.proofs.Fitting.{AllInside, changes_inside}
 use Rattle.debug_report_defs.proofs.MachineRead.{AllRegistersFit, FitsBelow, HeldFits, ChangesFit}
@@ -47,10 +47,10 @@ registers_fit before after fits n (suc count) le =
 
 -- ---- what the ports hold
 
-number_fits : (most old new : ℕ) → new < most → FitsBelow most (new_number old new)
+number_fits : (most old new : ℕ) → new < most → FitsBelow most (number_if_changed old new)
 number_fits most old new lt = cond_both (FitsBelow most) (nat_eq old new) None (Some new) tt lt
 
-held_fits : (old new : Option ℕ) → IfSome new (λ byte. byte < 256) → HeldFits (new_held old new)
+held_fits : (old new : Option ℕ) → IfSome new (λ byte. byte < 256) → HeldFits (held_if_changed old new)
 held_fits None (Some new) lt = lt
 held_fits (Some old) (Some new) lt =
     cond_both (λ found. HeldFits (option_map Some found)) (nat_eq old new) None (Some new) tt lt

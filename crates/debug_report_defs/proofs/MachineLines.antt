@@ -10,7 +10,7 @@ use Rattle.tms_defs.proofs.StatusLaws.{status_at-status_word}
 use Rattle.console_defs.specs.Memory.{Memory}
 use Rattle.console_defs.specs.Machine.{MachineState, IsMachine}
 use Rattle.console_defs.specs.Runs.{after_steps}
-use Rattle.report_defs.specs.Trace.{number_text}
+use Rattle.source_defs.specs.Digits.{right_in}
 use Rattle.machine_change_defs.specs.Seen.{seen_memory}
 use Rattle.machine_change_defs.specs.Changes.{MemoryChanges, memory_applied}
 use Rattle.machine_change_defs.specs.Text.{changes_text}
@@ -41,7 +41,7 @@ processor_front cpu =
 front_clean : (number : ℕ) (x : MachineState) → list_all in_front (step_front number x) ≡ true
 unfolding step_front instruction_text
 front_clean number x =
-    front_all (number_text number) _ (number_front number)
+    front_all (right_in 6 number) _ (number_front number)
     (front_all (processor_text x.cpu) (codes " " ++ instruction_text x.cpu) (processor_front x.cpu) (clean_printed (code_words x.cpu.memory x.cpu.pc) x.cpu.pc))
 
 -- ---- what a front says

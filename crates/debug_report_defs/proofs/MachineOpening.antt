@@ -9,7 +9,8 @@ use Rattle.machine_change_defs.specs.declared.area.Area.{Area}
 use Rattle.machine_change_defs.specs.declared.area.Area.TheVariants.{Scratchpad, LowExpansion, HighExpansion, Video, Registers}
 use Rattle.machine_change_defs.specs.Seen.{size_of}
 use Rattle.machine_change_defs.specs.Changes.{RegisterChange, LatchChanges, MemoryChanges}
-use Rattle.machine_change_defs.specs.Text.{register_text, place_text, change_text, change_texts, area_text}
+use Rattle.machine_change_defs.specs.Text.{register_text, place_text, area_text}
+use Rattle.change_defs.specs.Text.{change_text, change_texts}
 use Rattle.machine_change_defs.specs.Text.{latch_text, held_text, mark_text, latches_text, bytes_text, ports_text}
 use Rattle.machine_change_defs.specs.Text.{changes_text}
 use Rattle.debug_report_defs.proofs.Fitting.{AllInside}
@@ -30,7 +31,7 @@ unfolding area_text change_text
 area_opens area [] all = opens_nothing
 area_opens area (c ∷ cs) all =
     let i = all.0 in
-    placed_opens (place_text area c.at) c (change_texts area (c.at + c.count) cs) (place_plain area c.at (let some = i.some in let end = i.end in omega arith))
+    placed_opens (place_text area c.at) c (change_texts (place_text area) (c.at + c.count) cs) (place_plain area c.at (let some = i.some in let end = i.end in omega arith))
 
 latch_opens : {T : Type 0} (name : List ℕ) (text : T → List ℕ) (o : Option T) → list_all plain name ≡ true → Opens (latch_text name text o)
 latch_opens name text None e = opens_nothing

@@ -15,7 +15,8 @@ use Rattle.machine_change_defs.specs.declared.area.Area.{Area}
 use Rattle.machine_change_defs.specs.declared.area.Area.TheVariants.{Scratchpad, LowExpansion, HighExpansion, Video, Registers}
 use Rattle.machine_change_defs.specs.Seen.{size_of}
 use Rattle.machine_change_defs.specs.Changes.{RegisterChange, LatchChanges, MemoryChanges}
-use Rattle.machine_change_defs.specs.Text.{register_text, place_text, change_text, change_texts, area_text}
+use Rattle.machine_change_defs.specs.Text.{register_text, place_text, area_text}
+use Rattle.change_defs.specs.Text.{change_text, change_texts}
 use Rattle.machine_change_defs.specs.Text.{latch_text, held_text, mark_text, latches_text, bytes_text, ports_text}
 use Rattle.machine_change_defs.specs.Text.{changes_text}
 use Rattle.debug_report_defs.specs.LineFronts.{hexadecimal_value}
@@ -159,7 +160,7 @@ record ReadsChange (made : MemoryChanges) (next : Option (Area × ℕ)) (text : 
   by : (rest : List ℕ) → Ends rest → Ends (text ++ rest) × (read (reading made next) (text ++ rest) ≡ read (with_bytes_of area c made) rest)
 
 change_read : (made : MemoryChanges) (next : Option (Area × ℕ)) (area : Area) (end : ℕ) (c : Change)
-    → ((end == 0) ≡ false → next ≡ Some (area, end)) → Inside (size_of area) c → size_of area < 2 ^ 64 → ReadsChange made next (change_text area end c) area c
+    → ((end == 0) ≡ false → next ≡ Some (area, end)) → Inside (size_of area) c → size_of area < 2 ^ 64 → ReadsChange made next (change_text (place_text area) end c) area c
 unfolding change_text
 change_read made next area end c goes f small = by (nat_eq c.at end) (nat_eq end 0) refl refl
   where
@@ -222,14 +223,14 @@ record ReadsFrom (made : MemoryChanges) (next : Option (Area × ℕ)) (text : Li
   by : (rest : List ℕ) → Ends rest → Ends (text ++ rest) × (n : Option (Area × ℕ)) × (read (reading made next) (text ++ rest) ≡ read (reading left n) rest)
 
 changes_read : (area : Area) (cs : List Change) (made : MemoryChanges) (next : Option (Area × ℕ)) (end : ℕ)
-    → ((end == 0) ≡ false → next ≡ Some (area, end)) → AllInside (size_of area) cs → ReadsFrom made next (change_texts area end cs) (with_runs area cs made)
+    → ((end == 0) ≡ false → next ≡ Some (area, end)) → AllInside (size_of area) cs → ReadsFrom made next (change_texts (place_text area) end cs) (with_runs area cs made)
 changes_read area [] made next end goes all = record {
   by = λ rest ends.
       (ends, next, ap (λ (m : MemoryChanges). read (reading m next) rest) (sym (none_more area made)));
 }
 changes_read area (c ∷ cs) made next end goes all =
-    let text = change_text area end c in
-    let others = change_texts area (c.at + c.count) cs in
+    let text = change_text (place_text area) end c in
+    let others = change_texts (place_text area) (c.at + c.count) cs in
     let first = change_read made next area end c goes all.0 (small area) in
     let after = changes_read area cs (with_run area c made) (Some (area, c.at + c.count)) (c.at + c.count) (λ e. refl) all.1 in
     subst (λ (m : MemoryChanges). ReadsFrom made next (text ++ others) m) (one_more area c cs made)

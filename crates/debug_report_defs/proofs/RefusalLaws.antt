@@ -8,7 +8,7 @@ use Rattle.asm_defs.specs.Locations.{Line}
 use Rattle.asm_defs.specs.FirstChecks.{names}
 use Rattle.asm_defs.specs.Memory.{AssembledLine}
 use Rattle.asm_defs.specs.Modules as modules
-use Rattle.asm_defs.specs.Modules.{assembled_line, module_behind}
+use Rattle.asm_defs.specs.Modules.{assembled_line, module_after}
 use Rattle.expression_defs.specs.Layout.{assembled_lines}
 use Rattle.shelf_defs.specs.Files.{Files, of_files}
 use Rattle.shelf_defs.specs.Copied.{PlacedLine, CopyRefusal, At, copied}
@@ -16,10 +16,10 @@ use Rattle.shelf_defs.specs.Assembly.{in_place, laid_copied, module_of_files}
 use Rattle.report_defs.specs.declared.fault.Fault.TheVariants as fault
 use Rattle.report_defs.specs.Report.{Report, Faulty, largest_input, status_of}
 use Rattle.report_defs.specs.FileReports.{copy_report, AsmReport}
-use Rattle.asm_list_defs.specs.Listed.{listing, listing_by, listing_behind}
+use Rattle.asm_list_defs.specs.Listed.{listing, listing_by, listing_after}
 use Rattle.asm_list_defs.specs.Rows.{listing_rows}
 use Rattle.debug_report_defs.specs.Listings.{rows_report, list_report}
-use Rattle.debug_report_defs.specs.Laws.{told_of, ListRefusesAsAsm}
+use Rattle.debug_report_defs.specs.Laws.{error_line_of, ListRefusesAsAsm}
 
 -- what is refused, if anything is
 abbrev refusal_of : {A : Type 0} → Result A CopyRefusal → Option CopyRefusal
@@ -27,14 +27,14 @@ refusal_of (Ok value) = None
 refusal_of (Err refusal) = Some refusal
 
 -- what a listing refuses is what is refused of the module
-refused_behind : (all : List PlacedLine) (lines : List Line) (found : Result (List AssembledLine) (Refusal AsmCause))
-    → (listing_behind all lines found).refusal ≡ refusal_of (in_place all (found >>= λ found. Ok (modules.module_by lines found)))
-refused_behind all lines (Ok found) = refl
-refused_behind all lines (Err refusal) = refl
+refused_after : (all : List PlacedLine) (lines : List Line) (found : Result (List AssembledLine) (Refusal AsmCause))
+    → (listing_after all lines found).refusal ≡ refusal_of (in_place all (found >>= λ found. Ok (modules.module_by lines found)))
+refused_after all lines (Ok found) = refl
+refused_after all lines (Err refusal) = refl
 
 refused_by : (all : List PlacedLine) (found : Result (List Line) CopyRefusal)
-    → (listing_by all found).refusal ≡ refusal_of (found >>= λ lines. in_place all (module_behind lines))
-refused_by all (Ok lines) = refused_behind all lines (assembled_lines (assembled_line (names lines)) lines)
+    → (listing_by all found).refusal ≡ refusal_of (found >>= λ lines. in_place all (module_after lines))
+refused_by all (Ok lines) = refused_after all lines (assembled_lines (assembled_line (names lines)) lines)
 refused_by all (Err refusal) = refl
 
 refused_alike : (files : Files) (source : List ℕ) → (listing (of_files files) source).refusal ≡ refusal_of (module_of_files files source)
@@ -42,7 +42,7 @@ refused_alike files source = let found = copied files source in refused_by found
 
 -- two reports that say the same of what is refused
 abbrev Alike : Report → Report → Type 0
-Alike listed assembled = (status_of listed ≡ status_of assembled) × (told_of listed ≡ told_of assembled)
+Alike listed assembled = (status_of listed ≡ status_of assembled) × (error_line_of listed ≡ error_line_of assembled)
 
 rows_alike : (rows : List (List ℕ)) (answer : Result Module CopyRefusal) → Alike (rows_report rows (refusal_of answer)) (copy_report answer)
 rows_alike rows (Err (At place cause)) = (refl, refl)
@@ -56,7 +56,7 @@ reports_alike files source =
 
 alike_by : (first second one other : Report) → first ≡ one → second ≡ other → Alike one other → Alike first second
 alike_by first second one other p q alike =
-    (ap status_of p ∙ alike.0 ∙ sym (ap status_of q), ap told_of p ∙ alike.1 ∙ sym (ap told_of q))
+    (ap status_of p ∙ alike.0 ∙ sym (ap status_of q), ap error_line_of p ∙ alike.1 ∙ sym (ap error_line_of q))
 
 pub list_refuses_as_asm : ListRefusesAsAsm
 list_refuses_as_asm files input listed assembled p q = by (nat_lt largest_input (length input)) p q

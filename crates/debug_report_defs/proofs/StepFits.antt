@@ -15,7 +15,7 @@ use Rattle.tms_defs.specs.Operand.{Cpu, Mode, Register, Indirect, Symbolic, Incr
 use Rattle.tms_defs.specs.Jumps.{jump_target, condition}
 use Rattle.tms_defs.specs.Shifts.{shifted}
 use Rattle.tms_defs.specs.Step.{with_word, with_words, next_word, operand, value_at, with_value, with_flags, stored}
-use Rattle.tms_defs.specs.Step.{kept_in, vector_at, kept_of, two, in_row, values_at, with_division, reg, count_of}
+use Rattle.tms_defs.specs.Step.{kept_in, vector_at, kept_of, two, two_words_from, values_at, with_division, reg, count_of}
 use Rattle.tms_defs.specs.Step.{shift, one, jump_where, immediate, imm, bare, executed, executed_where, execution}
 use Rattle.tms_defs.specs.Step.{is_unsupported, step, step_end}
 use Rattle.tms_defs.specs.Instructions.{instr_at}
@@ -225,7 +225,7 @@ module _ (M : Type 0) (access : Accesses M) (P : M → Type 0)
   do_one x h ABS a lt = holds_then _ _ (word_fits x.memory a h.memory) (λ v fits. to_stored x h Word a _ _ (absolute_fits v fits))
 
   do_division : (x : Cpu M) → Fit P x → (o : Option (ℕ × ℕ)) (a : ℕ) → BothFit o → Kept (with_division M access o a x)
-  do_division x h (Some q) a fits = to_words x h (in_row a q) (fits.0, (fits.1, tt))
+  do_division x h (Some q) a fits = to_words x h (two_words_from a q) (fits.0, (fits.1, tt))
   do_division x h None a fits = holds x h
 
   values_fit : (x : Cpu M) → Fit P x → (s r : ℕ) → TwoWords (values_at M access s r x)
@@ -245,7 +245,7 @@ module _ (M : Type 0) (access : Accesses M) (P : M → Type 0)
       (record { memory = k.memory; pc = w.1; wp = w.0; status = omega arith })))
   do_reg x h MPY n s lt =
       holds_then _ _ (values_fit x h s (register n x))
-      (λ v k. to_words x h (in_row (register n x) (product_of v.1 v.0)) (product_high v.1 v.0 k.1 k.0, (omega arith, tt)))
+      (λ v k. to_words x h (two_words_from (register n x) (product_of v.1 v.0)) (product_high v.1 v.0 k.1 k.0, (omega arith, tt)))
   do_reg x h DIV n s lt =
       holds_then _ _ (values_fit x h s (register n x)) (λ v k.
       holds_then _ _ (word_fits x.memory (plus (register n x) 2) h.memory) (λ l fits.

@@ -21,7 +21,7 @@ place_plain Registers at lt = rw (agree_below_at (λ d. plain (0x30 + d)) (λ d.
 part_opens : (part : Part) (cs : List Change) → AllFit part cs → Opens (part_text part cs)
 unfolding part_text change_text
 part_opens part [] all = opens_nothing
-part_opens part (c ∷ cs) all = placed_opens (place_text part c.at) c (change_texts part (c.at + c.count) cs) (place_plain part c.at all.0.at)
+part_opens part (c ∷ cs) all = placed_opens (place_text part c.at) c (change_texts (place_text part) (c.at + c.count) cs) (place_plain part c.at all.0.at)
 
 pub step_begins : (made : StepChanges) → FitSteps made → Begins (step_text made ++ codes "\n")
 unfolding step_text

@@ -111,7 +111,7 @@ bytes_read made part c f =
 -- a change after another one that ended at a place
 change_read : (r : Reading) (made : StepChanges) (p : Part) (old : ℕ) (part : Part) (end : ℕ) (c : Change) → ended r ≡ between made p old
     → ((end == 0) ≡ false → (p ≡ part) × (old ≡ end)) → Fits part c
-    → ended (read_from r (change_text part end c)) ≡ between (with_change part c made) part (c.at + c.count)
+    → ended (read_from r (change_text (place_text part) end c)) ≡ between (with_change part c made) part (c.at + c.count)
 unfolding change_text
 change_read r made p old part end c is goes f = by (nat_eq c.at end) (nat_eq end 0) refl refl
   where
@@ -156,13 +156,13 @@ abbrev EndsAt : Reading → StepChanges → Type 0
 EndsAt r made = (p : Part) × (at : ℕ) × (ended r ≡ between made p at)
 
 changes_read : (part : Part) (cs : List Change) (r : Reading) (made : StepChanges) (p : Part) (old end : ℕ) → ended r ≡ between made p old
-    → ((end == 0) ≡ false → (p ≡ part) × (old ≡ end)) → AllFit part cs → EndsAt (read_from r (change_texts part end cs)) (with_changes part cs made)
+    → ((end == 0) ≡ false → (p ≡ part) × (old ≡ end)) → AllFit part cs → EndsAt (read_from r (change_texts (place_text part) end cs)) (with_changes part cs made)
 changes_read part [] r made p old end is goes fit = (p, old, is ∙ ap (λ (m : StepChanges). between m p old) (sym (none_more part made)))
 changes_read part (c ∷ cs) r made p old end is goes fit =
     let first = change_read r made p old part end c is goes fit.0 in
-    let rest = changes_read part cs (read_from r (change_text part end c)) (with_change part c made) part (c.at + c.count) (c.at + c.count) first (λ e. (refl, refl)) fit.1 in
-    subst (λ (m : StepChanges). EndsAt (read_from r (change_text part end c ++ change_texts part (c.at + c.count) cs)) m) (one_more part c cs made)
-    (subst (λ (s : Reading). EndsAt s (with_changes part cs (with_change part c made))) (sym (read_append r (change_text part end c) (change_texts part (c.at + c.count) cs))) rest)
+    let rest = changes_read part cs (read_from r (change_text (place_text part) end c)) (with_change part c made) part (c.at + c.count) (c.at + c.count) first (λ e. (refl, refl)) fit.1 in
+    subst (λ (m : StepChanges). EndsAt (read_from r (change_text (place_text part) end c ++ change_texts (place_text part) (c.at + c.count) cs)) m) (one_more part c cs made)
+    (subst (λ (s : Reading). EndsAt s (with_changes part cs (with_change part c made))) (sym (read_append r (change_text (place_text part) end c) (change_texts (place_text part) (c.at + c.count) cs))) rest)
 
 part_read : (part : Part) (cs : List Change) (r : Reading) (made : StepChanges) → EndsAt r made → AllFit part cs
     → EndsAt (read_from r (part_text part cs)) (with_changes part cs made)

@@ -35,11 +35,11 @@ DebugFrontsBeginReports =
     → PrefixOn command input front → ReportOn command files input report → Begins front report
 
 -- what standard error gets of a report
-abbrev pub told_of : Report → Option (List ℕ)
-told_of (Whole status pieces) = None
-told_of (Faulty fault) = Some (fault_line fault)
-told_of (Rejected line) = Some line
-told_of (RejectedAfter pieces line) = Some line
+abbrev pub error_line_of : Report → Option (List ℕ)
+error_line_of (Whole status pieces) = None
+error_line_of (Faulty fault) = Some (fault_line fault)
+error_line_of (Rejected line) = Some line
+error_line_of (RejectedAfter pieces line) = Some line
 
 -- the law, which is proved: `list` refuses a source with the files that it copies exactly where `asm` of `ti_bench`
 -- does, and by the same fault line
@@ -47,7 +47,7 @@ abbrev pub ListRefusesAsAsm : Type 0
 ListRefusesAsAsm =
     (files : Files) (input : List ℕ) (listed assembled : Report)
     → ReportOn command.List files input listed → ReportWith (OverFiles AsmFiles) input files assembled
-    → (status_of listed ≡ status_of assembled) × (told_of listed ≡ told_of assembled)
+    → (status_of listed ≡ status_of assembled) × (error_line_of listed ≡ error_line_of assembled)
 
 -- what the line of the next step after this number of steps has after its front
 abbrev pub text_after : GplState → ℕ → List ℕ

@@ -4,7 +4,8 @@ ghost use Rattle.std.specs.Prelude.{◌≡◌, IfSome, Some, []};
 ghost use Rattle.debug_report_defs.specs.Words.{debug_command};
 ghost use Rattle.debug_report_defs.specs.declared.command.DebugCommand.{DebugCommand};
 ghost use Rattle.reports.specs.Streams.{StreamsHoldTheReport, new_sink, new_source};
-ghost use Rattle.debug_commands.specs.Debug.{Shown, Shows, debug_program};
+ghost use Rattle.file_commands.specs.Inputs.{ShownInputs};
+ghost use Rattle.debug_commands.specs.Debug.{Shows, debug_program};
 
 use bench_shelf::{MemShelf, Shelf};
 use command_words::Words;
@@ -31,7 +32,7 @@ fn over_bytes<F: Shelf>(
     shelf: &mut F,
 ) -> Option<Written>
     ensures { IfSome result (λ wrote.
-        (command : DebugCommand) (read : Shown) → debug_command words.now ≡ Some command
+        (command : DebugCommand) (read : ShownInputs) → debug_command words.now ≡ Some command
         → Shows command (record { input = new_source (Some bytes.now); shelf = F.shelf shelf.old }) read
         → StreamsHoldTheReport (debug_program.ReportOn command read) [] []
         (new_sink (Some wrote.out.items)) (new_sink (Some wrote.err.items)) wrote.status) }

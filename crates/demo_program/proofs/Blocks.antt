@@ -21,6 +21,6 @@ more_blocks number n =
     ∙ ap (λ t. front ++ t) (append-nil (f (0 + n)))
     ∙ ap (λ k. front ++ f k) (zero-add n)
 
--- the number behind that of a block
-pub number_behind : (number n : ℕ) → number_of_block number (n + 1) ≡ next_number (number_of_block number n)
-number_behind number n = ap (number_of_block number) (add-one n)
+-- the number after that of a block
+pub number_after : (number n : ℕ) → number_of_block number (n + 1) ≡ next_number (number_of_block number n)
+number_after number n = ap (number_of_block number) (add-one n)

@@ -5,7 +5,7 @@ use Rattle.source_defs.specs.declared.text.Line.{Line as TextLine}
 use Rattle.source_defs.specs.declared.text.Span.{Span}
 use Rattle.source_defs.specs.Lines.{part, lines, lines_from, numbered_from, numbered}
 use Rattle.source_defs.specs.Refusals.{Refusal, ◌>>=◌, at_line}
-use Rattle.expression_defs.specs.Layout.{Laid, laid_behind, has_ended}
+use Rattle.expression_defs.specs.Layout.{Laid, laid_after, has_ended}
 
 pub first_of_two : (a b : Bool) → (a || b) ≡ true → b ≡ false → a ≡ true
 first_of_two true b e f = refl
@@ -35,8 +35,8 @@ module _ {P S C : Type 0} (check : List (Laid P S) → ℕ → List ℕ → Resu
   abbrev Answer : Type 0
   Answer = Result (List (Laid P S)) (Refusal C)
 
-  abbrev behind_line : List (Laid P S) → List (ℕ × List ℕ) → Laid P S → Answer
-  behind_line before rest found = if found.last then Ok (found ∷ before) else laid_behind check (found ∷ before) rest
+  abbrev after_line : List (Laid P S) → List (ℕ × List ℕ) → Laid P S → Answer
+  after_line before rest found = if found.last then Ok (found ∷ before) else laid_after check (found ∷ before) rest
 
   abbrev answers : Answer → Answer → Type 0
   answers a b = a ≡ b
@@ -45,19 +45,19 @@ module _ {P S C : Type 0} (check : List (Laid P S) → ℕ → List ℕ → Resu
   either true found = refl
   either false found = refl
 
-  -- a line behind lines of which none ends the source
+  -- a line after lines of which none ends the source
   module _ (text : List ℕ) where
     abbrev pub last_line : List (Laid P S) → ℕ → Answer
     last_line lines number = at_line number (check lines number text) >>= λ line. Ok (line ∷ lines)
 
-    end_by : (before : List (Laid P S)) (answer : Result (Laid P S) (Refusal C)) → answers (answer >>= behind_line before []) (answer >>= λ line. Ok (line ∷ before))
+    end_by : (before : List (Laid P S)) (answer : Result (Laid P S) (Refusal C)) → answers (answer >>= after_line before []) (answer >>= λ line. Ok (line ∷ before))
     end_by before (Ok found) = either found.last (found ∷ before)
     end_by before (Err refusal) = refl
 
     step_by : (before : List (Laid P S)) (rest more : List (ℕ × List ℕ)) (whole : Answer) (lines : List (Laid P S)) (found : Laid P S) (b : Bool)
-        → found.last ≡ b → answers (if b then Ok (found ∷ before) else laid_behind check (found ∷ before) rest) (Ok lines) → has_ended lines ≡ false
-        → (laid_behind check (found ∷ before) rest ≡ Ok lines → laid_behind check (found ∷ before) more ≡ whole)
-        → answers (if b then Ok (found ∷ before) else laid_behind check (found ∷ before) more) whole
+        → found.last ≡ b → answers (if b then Ok (found ∷ before) else laid_after check (found ∷ before) rest) (Ok lines) → has_ended lines ≡ false
+        → (laid_after check (found ∷ before) rest ≡ Ok lines → laid_after check (found ∷ before) more ≡ whole)
+        → answers (if b then Ok (found ∷ before) else laid_after check (found ∷ before) more) whole
     step_by before rest more whole lines found true last is going next =
         let same : found ∷ before ≡ lines = cc is in
         let ended : has_ended lines ≡ true = sym (ap has_ended same) ∙ ap (λ b. b || has_ended before) last in
@@ -65,15 +65,15 @@ module _ {P S C : Type 0} (check : List (Laid P S) → ℕ → List ℕ → Resu
     step_by before rest more whole lines found false last is going next = next is
 
     step : (before : List (Laid P S)) (rest more : List (ℕ × List ℕ)) (whole : Answer) (lines : List (Laid P S)) (answer : Result (Laid P S) (Refusal C))
-        → answers (answer >>= behind_line before rest) (Ok lines) → has_ended lines ≡ false
-        → ((found : Laid P S) → laid_behind check (found ∷ before) rest ≡ Ok lines → laid_behind check (found ∷ before) more ≡ whole)
-        → answers (answer >>= behind_line before more) whole
+        → answers (answer >>= after_line before rest) (Ok lines) → has_ended lines ≡ false
+        → ((found : Laid P S) → laid_after check (found ∷ before) rest ≡ Ok lines → laid_after check (found ∷ before) more ≡ whole)
+        → answers (answer >>= after_line before more) whole
     step before rest more whole lines (Ok found) is going next = step_by before rest more whole lines found found.last refl is going (next found)
     step before rest more whole lines (Err refusal) is going next = cc is
 
     pub laid_more : (texts : List (List ℕ)) (before : List (Laid P S)) (number last : ℕ) (lines : List (Laid P S)) → last ≡ number + length texts
-        → laid_behind check before (numbered number texts) ≡ Ok lines → has_ended lines ≡ false
-        → laid_behind check before (numbered number (texts ++ text ∷ [])) ≡ last_line lines last
+        → laid_after check before (numbered number texts) ≡ Ok lines → has_ended lines ≡ false
+        → laid_after check before (numbered number (texts ++ text ∷ [])) ≡ last_line lines last
     laid_more [] before number last lines e is going =
         let same : before ≡ lines = cc is in
         let at : number ≡ last = omega (arith, e) in
@@ -87,7 +87,7 @@ module _ {P S C : Type 0} (check : List (Laid P S) → ℕ → List ℕ → Resu
   -- the first of the lines of a text that are left
   module _ (text : List ℕ) (before : List (Laid P S)) (line : TextLine) (rest : List TextLine) (is : line.number ≡ length before + 1) where
     abbrev pub left : Answer
-    left = laid_behind check before (texts_of text (line ∷ rest))
+    left = laid_after check before (texts_of text (line ∷ rest))
 
     there : (answer : Result (Laid P S) C) → check before (length before + 1) (part text line.span) ≡ answer → check before line.number (part text line.span) ≡ answer
     there answer e = ap (λ number. check before number (part text line.span)) is ∙ e
@@ -99,5 +99,5 @@ module _ {P S C : Type 0} (check : List (Laid P S) → ℕ → List ℕ → Resu
     ends_there found e last = rw (there (Ok found) e) (rw last refl)
 
     pub goes_on : (found : Laid P S) → check before (length before + 1) (part text line.span) ≡ Ok found → found.last ≡ false
-        → left ≡ laid_behind check (found ∷ before) (texts_of text rest)
+        → left ≡ laid_after check (found ∷ before) (texts_of text rest)
     goes_on found e last = rw (there (Ok found) e) (rw last refl)

@@ -1,4 +1,4 @@
--- Registers, one after the other, and names that are defined behind others.
+-- Registers, one after the other, and names that are defined after others.
 use Rattle.std.proofs.Common.{◌≡◌, ℕ, suc, ◌+◌, ◌-◌, ◌<◌, true, false, cond, List, Some, refl, ◌∙◌, arith}
 use Rattle.std.specs.Prelude.{Option, nat_eq, map}
 use Rattle.std.specs.List.{range_with_len}

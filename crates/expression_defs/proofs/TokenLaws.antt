@@ -1,4 +1,4 @@
--- Tokens, one behind the other.
+-- Tokens, one after the other.
 use Rattle.std.proofs.Common.{◌≡◌, ℕ, zero, suc, ◌+◌, ◌-◌, ◌<◌, ◌≤◌, ◌⊎◌, inl, inr, Bool, true, false, cond, not, ◌&&◌, eqb, List, [], ◌∷◌, ◌++◌, length}
 use Rattle.std.proofs.Common.{get_or, Some, None, Ok, Err, refl, sym, ap, subst, ◌∙◌, append_assoc, append-nil, arith}
 use Rattle.std.specs.Prelude.{Option, Result, nat_lt, slice_range, map}
@@ -13,8 +13,8 @@ use Rattle.source_defs.specs.Numbers.{hexadecimal_number}
 use Rattle.source_defs.specs.Fields.{in_quotes}
 use Rattle.source_defs.specs.Least.{least_place}
 use Rattle.expression_defs.specs.Tokens.{Kind, Name, Here, Text, Sign, Token, token_to, number_token, digits_end, hexadecimal_end, name_end, ends_text, text_end}
-use Rattle.expression_defs.specs.Tokens.{decimal_token, hexadecimal_token, name_token, text_token, is_location_sign, is_operator, token_at, tokens_from}
-use Rattle.expression_defs.specs.TokenLaw.{Follow, TokensFollow}
+use Rattle.expression_defs.specs.Tokens.{decimal_token, hexadecimal_token, name_token, text_token, is_location_sign, is_operator, token_at, tokens, tokens_from}
+use Rattle.expression_defs.specs.TokenLaw.{Follow}
 use Rattle.source_defs.proofs.LeastLaws.{least_places_are_least, least_place-ge, least_place-le}
 
 -- what is bound gives a value only where both parts do
@@ -24,7 +24,7 @@ bound_ok (Ok x) next y e = (x, (refl, e))
 bound_ok (Err cause) next y e = cc
 
 module _ (text : List ℕ) (at : ℕ) (lt : at < length text) where
-  -- a token that begins at the place, and ends behind it in the text
+  -- a token that begins at the place, and ends after it in the text
   pub record Goes (token : Token) : Type 0 where
     pub start : token.span.start ≡ at
     pub more : at < token.span.end
@@ -168,44 +168,44 @@ follow_from zero text at found le enough e = subst (Follow text at) (list_same [
 follow_from (suc left) text at found le enough e =
     by_left _ left text at found refl le enough (λ at' found' le' enough' e'. follow_from left text at' found' le' enough' e') e
 
-pub tokens_follow : TokensFollow
+pub tokens_follow : (text : List ℕ) (found : List Token) → tokens text ≡ Ok found → Follow text 0 found
 tokens_follow text found e = follow_from (length text) text 0 found (omega arith) (omega arith) e
 
--- the tokens of a part behind those before it
-abbrev pub behind : List Token → Result (List Token) ExprError → Result (List Token) ExprError
-behind front rest = rest >>= (λ others. Ok (front ++ others))
+-- the tokens of a part after those before it
+abbrev pub after : List Token → Result (List Token) ExprError → Result (List Token) ExprError
+after front rest = rest >>= (λ others. Ok (front ++ others))
 
-pub behind_none : (rest : Result (List Token) ExprError) → behind [] rest ≡ rest
-behind_none (Ok others) = refl
-behind_none (Err cause) = refl
+pub after_none : (rest : Result (List Token) ExprError) → after [] rest ≡ rest
+after_none (Ok others) = refl
+after_none (Err cause) = refl
 
-behind_more : (front : List Token) (token : Token) (rest : Result (List Token) ExprError)
-    → behind front (rest >>= (λ others. Ok (token ∷ others))) ≡ behind (front ++ token ∷ []) rest
-behind_more front token (Ok others) = ap Ok (sym (append_assoc front (token ∷ []) others))
-behind_more front token (Err cause) = refl
+after_more : (front : List Token) (token : Token) (rest : Result (List Token) ExprError)
+    → after front (rest >>= (λ others. Ok (token ∷ others))) ≡ after (front ++ token ∷ []) rest
+after_more front token (Ok others) = ap Ok (sym (append_assoc front (token ∷ []) others))
+after_more front token (Err cause) = refl
 
 module _ (text : List ℕ) (at : ℕ) where
   -- a bad place
   pub tokens_bad : (left : ℕ) (front : List Token) (cause : ExprError) → at < length text → length text ≤ at + left
-      → token_at text at ≡ Err cause → behind front (tokens_from left text at) ≡ Err cause
+      → token_at text at ≡ Err cause → after front (tokens_from left text at) ≡ Err cause
   unfolding tokens_from
   tokens_bad zero front cause lt enough e = absurd (omega arith)
   tokens_bad (suc left) front cause lt enough e =
       let test : nat_lt at (length text) ≡ true = grind (arith, nat_tests) in rw (test, e) refl
 
-  -- a token and those behind it
+  -- a token and those after it
   pub tokens_more : (left : ℕ) (front : List Token) (token : Token) → at < length text → length text ≤ at + left
       → token_at text at ≡ Ok token
-      → behind front (tokens_from left text at) ≡ behind (front ++ token ∷ []) (tokens_from (left - 1) text token.span.end)
+      → after front (tokens_from left text at) ≡ after (front ++ token ∷ []) (tokens_from (left - 1) text token.span.end)
   unfolding tokens_from
   tokens_more zero front token lt enough e = absurd (omega arith)
   tokens_more (suc left) front token lt enough e =
       let test : nat_lt at (length text) ≡ true = grind (arith, nat_tests) in
       let one : suc left - 1 ≡ left = omega arith in
-      rw (test, e, one) (behind_more front token (tokens_from left text token.span.end))
+      rw (test, e, one) (after_more front token (tokens_from left text token.span.end))
 
   -- no token is left
-  pub tokens_end : (left : ℕ) (front : List Token) → length text ≤ at → behind front (tokens_from left text at) ≡ Ok front
+  pub tokens_end : (left : ℕ) (front : List Token) → length text ≤ at → after front (tokens_from left text at) ≡ Ok front
   unfolding tokens_from
   tokens_end zero front past = ap Ok (append-nil front)
   tokens_end (suc left) front past =

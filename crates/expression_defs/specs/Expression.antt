@@ -65,7 +65,7 @@ difference (Relocatable a) (Absolute b) = Ok (Relocatable (to_word (a + 0x10000 
 difference (Relocatable a) (Relocatable b) = Ok (Absolute (to_word (a + 0x10000 - b)))
 difference _ _ = Err BadRelocation
 
--- Editor/Assembler manual, "Expressions": a factor is absolute.
+-- Editor/Assembler manual, "Expressions": both factors are absolute.
 abbrev pub product : Value → Value → Result Value ExprError
 product (Absolute a) (Absolute b) = Ok (Absolute (to_word (a * b)))
 product _ _ = Err BadRelocation
@@ -89,12 +89,11 @@ minus (Absolute number) = Ok (Absolute (negated number))
 minus (Relocatable number) = Err BadRelocation
 minus (External name) = Err BadRelocation
 
--- Editor/Assembler manual, "Constants": the characters between the quotes of a text, of which two quotes are one;
--- whether a quote came just before.
-abbrev pub characters_behind : Bool → List ℕ → List ℕ
-characters_behind quote [] = []
-characters_behind quote (byte ∷ bytes) =
-    let others = characters_behind (is_quote byte && not quote) bytes in
+-- Editor/Assembler manual, "Constants": the characters between the quotes of a text, in which two quotes are one.
+abbrev pub characters_after : (quote_before : Bool) → List ℕ → List ℕ
+characters_after quote [] = []
+characters_after quote (byte ∷ bytes) =
+    let others = characters_after (is_quote byte && not quote) bytes in
     if is_quote byte && quote then others else byte ∷ others
 
 -- what stands between the quotes of a text
@@ -103,7 +102,7 @@ between_quotes quoted = slice_range quoted 1 (length quoted - 1)
 
 -- the characters of a quoted text
 abbrev pub characters : List ℕ → List ℕ
-characters quoted = characters_behind false (between_quotes quoted)
+characters quoted = characters_after false (between_quotes quoted)
 
 -- Editor/Assembler manual, "Constants": one or two characters; one character stands in the low byte.
 abbrev pub characters_value : List ℕ → Result Value ExprError

@@ -37,7 +37,7 @@ bytes_taken [] = 0
 bytes_taken (line ∷ before) = bytes_taken before + (line.gap + line.size)
 
 -- lines by the location at which their source starts, and the location some bytes after one
-module _ {P S : Type 0} (start : P) (behind : P → ℕ → P) where
+module _ {P S : Type 0} (start : P) (after : P → ℕ → P) where
   -- the location that the last origin line sets
   abbrev pub origin : List (Laid P S) → P
   origin [] = start
@@ -45,11 +45,11 @@ module _ {P S : Type 0} (start : P) (behind : P → ℕ → P) where
 
   -- The location after the lines: the last origin, and the sizes of the lines from it on.
   abbrev pub location : List (Laid P S) → P
-  location before = behind (origin before) (bytes_taken (since_origin before))
+  location before = after (origin before) (bytes_taken (since_origin before))
 
   -- the place of a line after others
   abbrev pub place : List (Laid P S) → Laid P S → P
-  place before line = behind (location before) line.gap
+  place before line = after (location before) line.gap
 
 -- names with some more
 abbrev pub with_names : Names → List (List ℕ × Value) → Names
@@ -65,15 +65,15 @@ names_of predefined (line ∷ before) = with_names (names_of predefined before) 
 module _ {P S C : Type 0} (check : List (Laid P S) → ℕ → List ℕ → Result (Laid P S) C) where
   -- Lines after others, or the first that the checks refuse. Profile: lines after the one that ends the source are not
   -- read.
-  abbrev pub laid_behind : List (Laid P S) → List (ℕ × List ℕ) → Result (List (Laid P S)) (Refusal C)
-  laid_behind before [] = Ok before
-  laid_behind before (line ∷ lines) = do
+  abbrev pub laid_after : List (Laid P S) → List (ℕ × List ℕ) → Result (List (Laid P S)) (Refusal C)
+  laid_after before [] = Ok before
+  laid_after before (line ∷ lines) = do
     found ← at_line line.0 (check before line.0 line.1)
-    if found.last then Ok (found ∷ before) else laid_behind (found ∷ before) lines
+    if found.last then Ok (found ∷ before) else laid_after (found ∷ before) lines
 
   -- the lines of a source, or the first that is refused
   abbrev pub laid : List (ℕ × List ℕ) → Result (List (Laid P S)) (Refusal C)
-  laid lines = laid_behind [] lines
+  laid lines = laid_after [] lines
 
 -- lines by the second checks, which see what the lines before came to, those lines, and the line
 module _ {P S A C : Type 0} (assembled_line : List (Laid P S) → List A → Laid P S → Result A C) where

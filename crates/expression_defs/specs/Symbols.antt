@@ -1,11 +1,10 @@
 -- The names of a source and their values.
-use Rattle.std.specs.Prelude.{◌≡◌, ℕ, zero, suc, ◌+◌, nat_lt, if◌then◌else◌, List, [], ◌∷◌, map, Option, refl}
-use Rattle.std.specs.Coded.{Coded, code_by, coded×, coded_list, coded_ℕ}
+use Rattle.std.specs.Prelude.{ℕ, ◌+◌, nat_lt, if◌then◌else◌, List, [], ◌∷◌, map, Option}
 use Rattle.std.specs.List.{range_with_len}
 use Rattle.std.specs.Ordering.{nat_cmp}
 use Rattle.std.specs.Cmp.Lexicographic.{slice_cmp}
 use Rattle.std.specs.FinMap.{FinMap, from_entries, get}
-use Rattle.expression_defs.specs.Expression.{Value, Absolute, Relocatable, External}
+use Rattle.expression_defs.specs.Expression.{Value, Absolute}
 
 -- names with their values, in the order of their bytes
 abbrev pub Names : Type 0
@@ -26,25 +25,3 @@ predefined = from_entries registers
 -- what a name stands for
 abbrev pub look_up : Names → List ℕ → Option Value
 look_up names name = get names name
-
--- a value as a number for its kind, its number and its name
-abbrev pub value_parts : Value → ℕ × (ℕ × List ℕ)
-value_parts (Absolute number) = (0, (number, []))
-value_parts (Relocatable place) = (1, (place, []))
-value_parts (External name) = (2, (0, name))
-
-abbrev pub value_of_parts : ℕ × (ℕ × List ℕ) → Value
-value_of_parts (zero, (number, name)) = Absolute number
-value_of_parts (suc zero, (place, name)) = Relocatable place
-value_of_parts (suc (suc kind), (place, name)) = External name
-
-abbrev pub value_back : (value : Value) → value_of_parts (value_parts value) ≡ value
-value_back (Absolute number) = refl
-value_back (Relocatable place) = refl
-value_back (External name) = refl
-
--- how a value is stored in a proof
-abbrev pub value_code : Coded Value
-value_code =
-    code_by (ℕ × (ℕ × List ℕ)) (coded× coded_ℕ (coded× coded_ℕ (coded_list coded_ℕ)))
-    value_parts value_of_parts value_back

@@ -62,10 +62,10 @@ modules_next front texts text found more all is longer so_far one =
     ∙ (ap modules_of (texts_more front text)
     ∙ (modules_more (model_of_texts front) (model_of_text text) found more so_far one ∙ ap Ok (sym longer)))
 
-pub modules_end : (front rest texts : List FileText) (text : FileText) (found : List Module) (told : Result Report Status)
+pub modules_end : (front rest texts : List FileText) (text : FileText) (found : List Module) (reported : Result Report Status)
     → texts ≡ front ++ text ∷ rest → modules_of (model_of_texts front) ≡ Ok found
-    → Reported (ReportsRefused (in_file text.name (read text.bytes.items))) WantsMemory told
-    → Reported (ReportsRefused (modules_of (model_of_texts texts))) WantsMemory told
+    → Reported (ReportsRefused (in_file text.name (read text.bytes.items))) WantsMemory reported
+    → Reported (ReportsRefused (modules_of (model_of_texts texts))) WantsMemory reported
 modules_end front rest texts text found (Ok report) is so_far (refusal, refused, same) = (
   refusal,
   ap (λ texts. modules_of (model_of_texts texts)) is

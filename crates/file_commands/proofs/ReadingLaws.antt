@@ -7,7 +7,7 @@ use Rattle.std.proofs.lemmas.Bool.Decides.{nat_tests}
 use Rattle.std.proofs.lemmas.List.{drop_more, take-append-drop, map-append, length-map}
 use Rattle.source_defs.specs.Refusals.{◌>>=◌}
 use Rattle.shelf_defs.specs.Files.{Contents, of_files}
-use Rattle.shelf_defs.specs.Questions.{Answer, Bytes, NoFile, OverLimit, Unanswered, Question, Fits, Agrees, InTurn, IsNextOf}
+use Rattle.shelf_defs.specs.Questions.{FileAnswer, Bytes, NoFile, OverLimit, Unanswered, Question, Fits, Agrees, InTurn, IsNextOf}
 use Rattle.shelf_defs.specs.Questions.{names_of}
 use Rattle.bench_shelf.specs.declared.error.FileError.{FileError}
 use Rattle.bench_shelf.specs.declared.error.FileError.TheVariants as unread
@@ -118,7 +118,7 @@ turns_of names front (text ∷ texts) rest is = (
 
 module _ (texts : List FileText) (s t u : ShelfState) (so_far : ReadSoFar texts s t) where
   -- one more file was asked for
-  both : (name : List ℕ) (answer : Answer) → AsksOne largest_input name answer t u
+  both : (name : List ℕ) (answer : FileAnswer) → AsksOne largest_input name answer t u
       → ReadsOnce largest_input (questions_of texts ++ record { name = name; answer = answer } ∷ []) s u
       × IfSome s.files (λ files. Agrees largest_input (of_files files) 0 (questions_of texts ++ record { name = name; answer = answer } ∷ []))
   both name answer asks =
@@ -141,7 +141,7 @@ module _ (texts : List FileText) (s t u : ShelfState) (so_far : ReadSoFar texts 
       }
 
   module _ (names : List (List ℕ)) (name : List ℕ) (rest : List (List ℕ)) (are : names ≡ names_in texts ++ name ∷ rest) where
-    asked_next : (answer : Answer) → AsksOne largest_input name answer t u
+    asked_next : (answer : FileAnswer) → AsksOne largest_input name answer t u
         → LinkDialogue s u names (questions_of texts ++ record { name = name; answer = answer } ∷ [])
     asked_next answer asks =
         let all = both name answer asks in

@@ -2,3 +2,4 @@ pub mod Reported
 pub mod Reading
 pub mod Modules
 pub mod Copying
+pub mod Inputs

@@ -73,13 +73,13 @@ fn in_file(file: Option<FileName>, line: &[u8]) -> Line
     requires { length line.now ≤ 128 }
     ensures { result.items ≡ spec.in_file file line.now }
 {
-    let mut told = Line::new();
+    let mut reported = Line::new();
     if let Some(name) = file {
-        append(&mut told, name_bytes(&name));
-        told.push(b' ');
+        append(&mut reported, name_bytes(&name));
+        reported.push(b' ');
     }
-    append(&mut told, line);
-    told
+    append(&mut reported, line);
+    reported
 }
 
 /// The bytes of a file's name, which are 60 at most.

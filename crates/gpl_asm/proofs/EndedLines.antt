@@ -1,8 +1,10 @@
 -- The program of lines is that of their text.
-use Rattle.std.proofs.Common.{ap}
-use Rattle.gpl_source_defs.specs.Programs.{program_of}
+use Rattle.std.proofs.Common.{◌≡◌, ℕ, List, ap}
+use Rattle.std.specs.List.{AllByRecursion}
+use Rattle.gpl_source_defs.specs.Programs.{program_of, program_of_lines, program_of_source}
+use Rattle.source_defs.specs.EndedLines.{IsOneLine, text_of}
 use Rattle.source_defs.proofs.EndedLines.{texts_have_their_lines}
-use Rattle.gpl_asm.specs.Laws.{LinesMakeTexts}
 
-pub lines_make_texts : LinesMakeTexts
+pub lines_make_texts : (texts : List (List ℕ)) → AllByRecursion IsOneLine texts
+    → program_of_source (text_of texts) ≡ program_of_lines texts
 lines_make_texts texts all = ap program_of (texts_have_their_lines texts all)

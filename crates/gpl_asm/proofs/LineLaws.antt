@@ -1,4 +1,4 @@
--- A builder behind one line more.
+-- A builder after one line more.
 use Rattle.std.proofs.Common.{◌≡◌, ℕ, ◌+◌, Bool, true, false, List, [], ◌∷◌, ◌++◌, Some, None, Ok, Err, refl, sym, ap, ◌∙◌, arith}
 use Rattle.std.specs.Prelude.{Option, Result, is_some, if◌then◌else◌}
 use Rattle.source_defs.specs.Refusals.{Refusal, ◌>>=◌, at_line}
@@ -8,7 +8,7 @@ use Rattle.gpl_source_defs.specs.declared.causes.GplCause.{GplCause}
 use Rattle.gpl_source_defs.specs.declared.causes.GplCause.TheVariants.{Overlap}
 use Rattle.gpl_source_defs.specs.declared.location.Location.{Location}
 use Rattle.gpl_source_defs.specs.Statements.{declared_size}
-use Rattle.gpl_source_defs.specs.Locations.{Line, location, place, behind, start, origin_of}
+use Rattle.gpl_source_defs.specs.Locations.{Line, location, place, after, start, origin_of}
 use Rattle.gpl_source_defs.specs.FirstChecks.{Checked, line_of}
 use Rattle.gpl_source_defs.specs.SecondChecks.{Outcome, Bytes, outcome}
 use Rattle.gpl_source_defs.specs.Programs.{AssembledLine, assembled_line, image, bytes_in, overlaps, with_room}
@@ -20,10 +20,10 @@ use Rattle.gpl_asm.specs.Building.{built_of, whole}
 use Rattle.std.proofs.lemmas.List.{append-nil}
 use Rattle.gpl_asm.proofs.ReplayLaws.{replay_more}
 
--- the location behind a line
+-- the location after a line
 location_by : (set : Option Location) (from : Location) (lines : List Line) (more : ℕ)
-    → behind (set_or set from) (bytes_taken (if is_some set then [] else since_origin lines) + more)
-    ≡ behind (set_or set (behind from (bytes_taken (since_origin lines)))) more
+    → after (set_or set from) (bytes_taken (if is_some set then [] else since_origin lines) + more)
+    ≡ after (set_or set (after from (bytes_taken (since_origin lines)))) more
 location_by (Some origin) from lines more = ap (λ number. record { grom = origin.grom; number = origin.number + number }) (omega arith)
 location_by None from lines more =
     let bytes = bytes_taken (since_origin lines) in
@@ -32,11 +32,11 @@ location_by None from lines more =
 
 pub location_more : (number : ℕ) (found : Checked) (lines : List Line)
     → location (line_of (location lines) number found ∷ lines)
-    ≡ behind (set_or (origin_of (location lines) found.statement) (location lines)) (declared_size found.statement)
+    ≡ after (set_or (origin_of (location lines) found.statement) (location lines)) (declared_size found.statement)
 location_more number found lines =
     let none : 0 + declared_size found.statement ≡ declared_size found.statement = omega arith in
-    location_by (origin_of (location lines) found.statement) (origin start behind lines) lines (0 + declared_size found.statement)
-    ∙ ap (behind (set_or (origin_of (location lines) found.statement) (location lines))) none
+    location_by (origin_of (location lines) found.statement) (origin start after lines) lines (0 + declared_size found.statement)
+    ∙ ap (after (set_or (origin_of (location lines) found.statement) (location lines))) none
 
 -- a line's place
 pub place_is : (number : ℕ) (found : Checked) (lines : List Line) → place lines (line_of (location lines) number found) ≡ location lines

@@ -13,7 +13,7 @@ use Rattle.expression_defs.proofs.DefinedNames.{grown, grown_on, grown_not}
 use Rattle.gpl_source_defs.specs.declared.causes.GplCause.{GplCause}
 use Rattle.gpl_source_defs.specs.declared.location.Location.{Location}
 use Rattle.gpl_source_defs.specs.Statements.{Statement, declared_size}
-use Rattle.gpl_source_defs.specs.Locations.{Line, location, behind, origin_of, IsInGrom}
+use Rattle.gpl_source_defs.specs.Locations.{Line, location, after, origin_of, IsInGrom}
 use Rattle.gpl_source_defs.specs.FirstChecks.{Checked, checked, line_of, names, label_entry, label_value, is_taken, is_end, is_full}
 use Rattle.gpl_source_defs.specs.SecondChecks.{Outcome, outcome}
 use Rattle.gpl_source_defs.proofs.Sizes.{outcome_size}
@@ -22,7 +22,7 @@ use Rattle.gpl_asm.specs.declared.pending.Rest.{Rest}
 use Rattle.gpl_asm.specs.declared.lines.GplLines.{GplLines}
 use Rattle.gpl_asm.specs.Replay.{Built, put, answer, replay, nothing, HasRoom, WaitsForSome}
 use Rattle.gpl_asm.specs.Keeping.{pending_of}
-use Rattle.gpl_asm.specs.Building.{IsBehind, whole}
+use Rattle.gpl_asm.specs.Building.{IsAfter, whole}
 use Rattle.gpl_asm.proofs.LineLaws.{location_more, place_is, whole_more, kept_more}
 use Rattle.grom_defs.specs.declared.size.TheConstants.{GROM_SIZE}
 
@@ -40,7 +40,7 @@ all_append : {A : Type 0} (P : A → Type 0) (first second : List A) → AllByRe
 all_append P [] second all others = others
 all_append P (item ∷ first) second all others = (all.0, all_append P first second all.1 others)
 
-module _ (lines : List Line) (builder : GplLines) (is : IsBehind lines builder) (found : Checked) (rest : Option Rest) where
+module _ (lines : List Line) (builder : GplLines) (is : IsAfter lines builder) (found : Checked) (rest : Option Rest) where
   abbrev pub line : Line
   line = line_of (location lines) (length lines + 1) found
 
@@ -91,13 +91,13 @@ module _ (lines : List Line) (builder : GplLines) (is : IsBehind lines builder) 
   pub record TakesOne (new : GplLines) : Type 0 where
     pub waiting : new.waiting.items ≡ builder.waiting.items ++ pending_of builder rest
     pub names : new.symbols ≡ with_names builder.symbols (label_entry found.label (label_value builder.location found.statement))
-    pub location : new.location ≡ behind (set_or (origin_of builder.location found.statement) builder.location) (declared_size found.statement)
+    pub location : new.location ≡ after (set_or (origin_of builder.location found.statement) builder.location) (declared_size found.statement)
     pub taken : new.taken ≡ builder.taken + 1
     pub ended : new.ended ≡ (is_end found.statement || builder.ended)
 
-  pub is_behind : (new : GplLines) → Answers → WaitsForSome rest → is_taken builder.symbols found.label ≡ false
-      → builder.location.number + declared_size found.statement ≤ 65536 → TakesOne new → IsBehind (line ∷ lines) new
-  is_behind new answers waits fresh le takes =
+  pub is_after : (new : GplLines) → Answers → WaitsForSome rest → is_taken builder.symbols found.label ≡ false
+      → builder.location.number + declared_size found.statement ≤ 65536 → TakesOne new → IsAfter (line ∷ lines) new
+  is_after new answers waits fresh le takes =
       let grows : Grows builder.symbols new.symbols =
       subst (Grows builder.symbols) (sym takes.names) (label_grows builder.symbols found.label (label_value builder.location found.statement) fresh) in
       record {
@@ -105,7 +105,7 @@ module _ (lines : List Line) (builder : GplLines) (is : IsBehind lines builder) 
             ∙ (ap (λ (known : Names). with_names known (label_entry found.label (label_value builder.location found.statement))) is.names
             ∙ ap (λ (at : Location). with_names (names lines) (label_entry found.label (label_value at found.statement))) is.location);
         location = takes.location
-            ∙ (ap (λ (at : Location). behind (set_or (origin_of at found.statement) at) (declared_size found.statement)) is.location
+            ∙ (ap (λ (at : Location). after (set_or (origin_of at found.statement) at) (declared_size found.statement)) is.location
             ∙ sym (location_more (length lines + 1) found lines));
         taken = takes.taken ∙ (ap (λ taken. taken + 1) is.taken ∙ omega arith);
         ended = takes.ended ∙ ap (λ ended. is_end found.statement || ended) is.ended;
@@ -119,16 +119,16 @@ module _ (lines : List Line) (builder : GplLines) (is : IsBehind lines builder) 
 -- where the builder goes on
 pub leads_on : (known : Names) (at here next : Location) (text : List ℕ) (found : Checked) (origin : Option Location) (size : ℕ)
     → checked known at text ≡ Ok found → at ≡ here → next ≡ here → origin ≡ origin_of here found.statement → IfSome origin (λ origin. origin.grom ≤ 65535)
-    → size ≡ declared_size found.statement → IsInGrom here → IsInGrom (behind (set_or origin next) size)
+    → size ≡ declared_size found.statement → IsInGrom here → IsInGrom (after (set_or origin next) size)
 leads_on known at here next text found origin size e same still by le sized is =
     let through = is_let_through known at text found e in
     let fits : is_full here found.statement ≡ false = ap (λ (at : Location). is_full at found.statement) (sym same) ∙ through.fits in
     let le' : IfSome (origin_of here found.statement) (λ origin. origin.grom ≤ 65535) =
     subst (λ (origin : Option Location). IfSome origin (λ origin. origin.grom ≤ 65535)) by le in
     let there = leads here found.label found.statement is le' fits through.fine in
-    subst (λ (origin : Option Location). IsInGrom (behind (set_or origin next) size)) (sym by)
-    (subst (λ (next : Location). IsInGrom (behind (set_or (origin_of here found.statement) next) size)) (sym still)
-    (subst (λ size. IsInGrom (behind (set_or (origin_of here found.statement) here) size)) (sym sized) there))
+    subst (λ (origin : Option Location). IsInGrom (after (set_or origin next) size)) (sym by)
+    (subst (λ (next : Location). IsInGrom (after (set_or (origin_of here found.statement) next) size)) (sym still)
+    (subst (λ size. IsInGrom (after (set_or (origin_of here found.statement) here) size)) (sym sized) there))
 
 -- how far a line reaches
 pub reaches : (here : Location) (statement : Statement) → IsInGrom here → is_full here statement ≡ false → here.number + declared_size statement ≤ 65536

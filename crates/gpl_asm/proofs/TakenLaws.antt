@@ -26,14 +26,14 @@ module _ (texts : List (List ℕ)) (text : List ℕ) (builder new : GplLines) (t
     lines = takes.0 ∷ taken.lines;
     laid = whole_is ∙ ap (λ answer. at_line count answer >>= λ line. Ok (line ∷ taken.lines)) takes.1;
     all = omega (arith, taken.all, length-append texts (text ∷ []));
-    behind = takes.2;
+    after_lines = takes.2;
   }
-  takes_text (Err Memory) takes = (tt, record { lines = taken.lines; laid = taken.laid; all = taken.all; behind = takes })
+  takes_text (Err Memory) takes = (tt, record { lines = taken.lines; laid = taken.laid; all = taken.all; after_lines = takes })
   takes_text (Err (At number cause)) takes = (
     (
       whole_is ∙ (ap (λ answer. at_line count answer >>= λ line. Ok (line ∷ taken.lines)) takes.1
           ∙ ap (λ number. Err (record { line = number; cause = cause })) (sym takes.0)),
       takes.2,
     ),
-    record { lines = taken.lines; laid = taken.laid; all = taken.all; behind = takes.3 },
+    record { lines = taken.lines; laid = taken.laid; all = taken.all; after_lines = takes.3 },
   )

@@ -25,7 +25,7 @@ abbrev pub whole : Names → List Line → Result Built (Refusal GplCause)
 whole later lines = assembled_lines (assembled_line later) lines >>= λ found. Ok (built_of found)
 
 -- the builder after lines, of which the nearest stands first
-pub record IsBehind (lines : List Line) (builder : GplLines) : Type 0 where
+pub record IsAfter (lines : List Line) (builder : GplLines) : Type 0 where
   pub names : builder.symbols ≡ names lines
   pub location : builder.location ≡ location lines
   pub taken : builder.taken ≡ length lines
@@ -36,29 +36,29 @@ pub record IsBehind (lines : List Line) (builder : GplLines) : Type 0 where
   pub room : (later : Names) → Grows builder.symbols later → AllByRecursion (HasRoom later) builder.waiting.items
 
 -- what is returned of a line that was taken after others
-pub record Tells (lines : List Line) (line : Line) (told : TakenLine) : Type 0 where
-  pub at : told.at ≡ place lines line
-  pub origin : told.origin ≡ line.origin
-  pub names : line.names ≡ label_entry told.label told.value
+pub record Tells (lines : List Line) (line : Line) (known : TakenLine) : Type 0 where
+  pub at : known.at ≡ place lines line
+  pub origin : known.origin ≡ line.origin
+  pub names : line.names ≡ label_entry known.label known.value
   -- it ends before the addresses do
-  pub room : told.at.number + line.size ≤ 65536
+  pub room : known.at.number + line.size ≤ 65536
 
 -- a line was taken after others, or why it is refused there
 abbrev pub Takes : List Line → List ℕ → Result TakenLine GplError → GplLines → Type 0
-Takes lines text (Ok told) builder =
+Takes lines text (Ok known) builder =
     (line : Line) × (check lines (length lines + 1) text ≡ Ok line)
-    × IsBehind (line ∷ lines) builder × Tells lines line told
+    × IsAfter (line ∷ lines) builder × Tells lines line known
 Takes lines text (Err (error.At number cause)) builder =
     (number ≡ length lines + 1) × (check lines (length lines + 1) text ≡ Err cause) × NoMemory cause
-    × IsBehind lines builder
-Takes lines text (Err error.Memory) builder = IsBehind lines builder
+    × IsAfter lines builder
+Takes lines text (Err error.Memory) builder = IsAfter lines builder
 
 -- The meaning of a builder: the texts of the lines that it has taken.
 pub record HasAccepted (texts : List (List ℕ)) (builder : GplLines) : Type 0 where
   pub lines : List Line
   pub laid : laid check (numbered 1 texts) ≡ Ok lines
   pub all : length lines ≡ length texts
-  pub behind : IsBehind lines builder
+  pub after_lines : IsAfter lines builder
 
 -- no line that it has taken ends the source
 abbrev pub IsOpen : GplLines → Type 0

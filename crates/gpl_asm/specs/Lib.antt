@@ -13,4 +13,3 @@ pub mod Replay
 pub mod Keeping
 pub mod Building
 pub mod Finishing
-pub mod Laws

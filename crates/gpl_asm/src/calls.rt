@@ -7,7 +7,7 @@ ghost use Rattle.source_defs.specs.EndedLines.{IsOneLine, text_of};
 ghost use Rattle.gpl_source_defs.specs.Programs.{program_of_lines, program_of_source};
 ghost use Rattle.gpl_source_defs.specs.Locations.{Line};
 ghost use Rattle.gpl_source_defs.specs.FirstChecks.{names};
-ghost use Rattle.gpl_asm.specs.Building.{HasAccepted, IsBehind, Takes, IsOpen, CanCount};
+ghost use Rattle.gpl_asm.specs.Building.{HasAccepted, IsAfter, Takes, IsOpen, CanCount};
 ghost use Rattle.gpl_asm.specs.Finishing.{AcceptsText, GivesProgram};
 
 use crate::error::GplError;
@@ -53,7 +53,7 @@ impl GplLines {
         requires open { IsOpen self.old }
         requires count { CanCount self.old }
         ensures texts { (texts : List (List ℕ)) → HasAccepted texts self.old → AcceptsText texts line.now result self.new }
-        ensures lines { (lines : List Line) → IsBehind lines self.old → Takes lines line.now result self.new }
+        ensures lines { (lines : List Line) → IsAfter lines self.old → Takes lines line.now result self.new }
         ensures short { OnOk result (length line.now ≤ 256) }
     {
         self.take(&split_line(line))
@@ -61,7 +61,7 @@ impl GplLines {
 
     /// The names of the lines that were taken, beside the names of registers.
     pub fn names(&self) -> &Symbols
-        ensures { (lines : List Line) → IsBehind lines self.now → result.now ≡ names lines }
+        ensures { (lines : List Line) → IsAfter lines self.now → result.now ≡ names lines }
     {
         &self.symbols
     }

@@ -3,9 +3,9 @@
 ghost use Rattle.std.specs.Prelude.{◌≡◌, List, None};
 ghost use Rattle.std.specs.List.{AllByRecursion};
 ghost use Rattle.gpl_source_defs.specs.Locations.{Line};
-ghost use Rattle.gpl_source_defs.specs.Programs.{program_behind};
+ghost use Rattle.gpl_source_defs.specs.Programs.{program_after};
 ghost use Rattle.gpl_asm.specs.Replay.{HasRoom, Replays, Resolves};
-ghost use Rattle.gpl_asm.specs.Building.{IsBehind};
+ghost use Rattle.gpl_asm.specs.Building.{IsAfter};
 ghost use Rattle.gpl_asm.specs.Finishing.{GivesProgram};
 
 use crate::error::{GplError, refusal_at};
@@ -31,7 +31,7 @@ pub struct GplProgram {
 impl GplLines {
     /// The program of the lines, or the first that the second checks refuse.
     pub(crate) fn program(self) -> Result<GplProgram, GplError>
-        ensures { (lines : List Line) → IsBehind lines self → GivesProgram result (program_behind lines) }
+        ensures { (lines : List Line) → IsAfter lines self → GivesProgram result (program_after lines) }
     {
         let GplLines {
             alloc,

@@ -2,11 +2,11 @@
 
 ghost use Rattle.std.specs.Prelude.{◌≡◌, ◌<◌, ◌≤◌, ◌+◌, ◌-◌, ◌^◌, ◌||◌, List, None, OnOk, length};
 ghost use Rattle.expression_defs.specs.Layout.{set_or};
-ghost use Rattle.gpl_source_defs.specs.Locations.{Line, behind, IsInGrom};
+ghost use Rattle.gpl_source_defs.specs.Locations.{Line, after, IsInGrom};
 ghost use Rattle.gpl_source_defs.specs.FirstChecks.{is_end};
 ghost use Rattle.gpl_lines.specs.Defined.{model_of_statement};
 ghost use Rattle.gpl_asm.specs.Keeping.{Counts, SameLists};
-ghost use Rattle.gpl_asm.specs.Building.{IsBehind, Takes};
+ghost use Rattle.gpl_asm.specs.Building.{IsAfter, Takes};
 
 use crate::error::{GplError, refusal_at};
 use crate::keep::assemble_line;
@@ -21,7 +21,7 @@ impl GplLines {
     /// before.
     pub(crate) fn take(&mut self, line: &SplitLine<'_>) -> Result<TakenLine, GplError>
         requires { self.old.taken < 2 ^ 32 - 1 }
-        ensures takes { (lines : List Line) → IsBehind lines self.old → Takes lines line.now.text.now result self.new }
+        ensures takes { (lines : List Line) → IsAfter lines self.old → Takes lines line.now.text.now result self.new }
         ensures short { OnOk result (length line.now.text.now ≤ 256) }
     {
         if line.is_comment() {
@@ -84,8 +84,8 @@ impl GplLines {
     /// Goes on after a line that was kept.
     fn advance(&mut self, origin: Option<Location>, checked: &Checked<'_>)
         requires taken { self.old.taken < 2 ^ 32 - 1 }
-        requires place { IsInGrom (behind (set_or origin self.old.location) checked.now.size) }
-        ensures location { self.new.location ≡ behind (set_or origin self.old.location) checked.now.size }
+        requires place { IsInGrom (after (set_or origin self.old.location) checked.now.size) }
+        ensures location { self.new.location ≡ after (set_or origin self.old.location) checked.now.size }
         ensures taken { self.new.taken ≡ self.old.taken + 1 }
         ensures ended { self.new.ended ≡ (is_end (model_of_statement checked.now.statement) || self.old.ended) }
         ensures waiting { SameLists self.old self.new }

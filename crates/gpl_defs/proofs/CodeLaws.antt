@@ -72,7 +72,7 @@ found operation variant lt =
     (agree_below_at (λ v. begins_at (row_of operation).code (operation_at ((row_of operation).code + v))) (λ v. true)
     (row_of operation).count variant (each_operation finds_row refl operation) lt)
 
--- The bits of a code byte of an operation: behind the first of its row stands the one that they number, and an operation has
+-- The bits of a code byte of an operation: after the first of its row stands the one that they number, and an operation has
 -- no form of words or of an immediate source that it should not have.
 abbrev pub row_fits : Option GplOperation → ℕ → Bool
 row_fits None code = true

@@ -55,7 +55,7 @@ bytes_read instr valid image at next stands =
     means_back image at instr next (record { bytes = bytes_of instr; is_kind = bytes_spell instr valid; stand = stands })
 
 pub one_meaning : OneMeaning
-one_meaning image at instr other next behind means means_too =
-    let same : Instr other behind ≡ Instr instr next =
-    sym (means_back image at other behind means_too) ∙ means_back image at instr next means in
+one_meaning image at instr other next after means means_too =
+    let same : Instr other after ≡ Instr instr next =
+    sym (means_back image at other after means_too) ∙ means_back image at instr next means in
     (cc, cc)

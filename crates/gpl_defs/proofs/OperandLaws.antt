@@ -11,7 +11,7 @@ use Rattle.gpl_defs.specs.declared.instruction.GplOperand.{GplOperand}
 use Rattle.gpl_defs.specs.Bytes.{is_vdp, form_bits, index_bytes}
 use Rattle.gpl_defs.specs.Bytes.{fits_one_byte}
 use Rattle.gpl_defs.specs.Spellings.{Spelling, OneByte, TwelveBits, SixteenBits, may_have, spelled, SpellsOperand, Stand, Holds}
-use Rattle.gpl_defs.specs.Reading.{Read, ◌>>=◌, give, read_as, byte_at, space_of, space_at, address_at, index_by, plain_operand}
+use Rattle.gpl_defs.specs.Reading.{Read, ◌>>=◌, give, read_as, byte_at, space_of, address_at, index_by, plain_operand}
 use Rattle.gpl_defs.specs.Reading.{word_at, operand_at}
 use Rattle.count_defs.specs.Counts.{one_if}
 
@@ -22,7 +22,7 @@ index_at first = index_by (first / 64 % 2 == 1)
 abbrev pub with_index : ℕ → ℕ → Option ℕ × ℕ → GplOperand × ℕ
 with_index first address index = (
   record {
-    space = space_at first;
+    space = space_of (first / 32 % 2 == 1);
     indirect = first / 16 % 2 == 1;
     address = address;
     index = index.0;
@@ -41,7 +41,7 @@ abbrev long_operand : ℕ → Read GplOperand
 long_operand first = do
   address ← address_at first
   index ← index_at first
-  give (record { space = space_at first; indirect = first / 16 % 2 == 1; address = address; index = index })
+  give (record { space = space_of (first / 32 % 2 == 1); indirect = first / 16 % 2 == 1; address = address; index = index })
 
 abbrev pub operand_by : Bool → ℕ → Read GplOperand
 operand_by small first = if small then give (plain_operand first) else long_operand first
@@ -107,13 +107,13 @@ rest_back image operand first top at next bits stands =
     )
     refl
 
-long_back : (image : List ℕ) (operand : GplOperand) (first top at behind next : ℕ) →
+long_back : (image : List ℕ) (operand : GplOperand) (first top at after next : ℕ) →
     Bits first (one_if (is_some operand.index)) (one_if (is_vdp operand.space)) (one_if operand.indirect) top →
-    address_at first image at ≡ (operand.address, behind) → Stand image (index_bytes operand.index) behind next →
+    address_at first image at ≡ (operand.address, after) → Stand image (index_bytes operand.index) after next →
     operand_from first image at ≡ (operand, next)
-long_back image operand first top at behind next bits address stands =
+long_back image operand first top at after next bits address stands =
     let test : nat_lt first 0x80 ≡ false = grind (arith, nat_tests, bits.long) in
-    rw (test, address) (rest_back image operand first top behind next bits stands)
+    rw (test, address) (rest_back image operand first top after next bits stands)
 
 plain_back : (space : Space) (indirect : Bool) (address : ℕ) (index : Option ℕ) →
     IsTrue (fits_one_byte (record { space = space; indirect = indirect; address = address; index = index })) →
@@ -192,7 +192,7 @@ index_is : (test : Bool) (image : List ℕ) (at : ℕ) → is_some (index_by tes
 index_is true image at = refl
 index_is false image at = refl
 
--- the operand that is read behind a long first byte and an address
+-- the operand that is read after a long first byte and an address
 abbrev long : List ℕ → ℕ → ℕ → ℕ → GplOperand
 long image first address at = (with_index first address (index_at first image at)).0
 
@@ -254,20 +254,20 @@ sixteen_read image at from lt second_lt third_lt ones =
     let first : ℕ = slice_index image at in
     let second : ℕ = slice_index image (next_in_grom at) in
     let third : ℕ = slice_index image (next_in_grom (next_in_grom at)) in
-    let behind : ℕ = next_in_grom (next_in_grom (next_in_grom at)) in
-    let form = form_is image first (join second third) behind from lt in
+    let after : ℕ = next_in_grom (next_in_grom (next_in_grom at)) in
+    let form = form_is image first (join second third) after from lt in
     record {
-      bytes = first ∷ second ∷ third ∷ index_bytes (index_at first image behind).0;
+      bytes = first ∷ second ∷ third ∷ index_bytes (index_at first image after).0;
       is_kind = record {
         spelling = SixteenBits;
         allowed = refl;
         is =
             (let top : high (join second third) ≡ second = omega arith in
             let below : low (join second third) ≡ third = omega arith in
-            let sum : form_bits (long image first (join second third) behind) + 15 ≡ first = omega arith in
+            let sum : form_bits (long image first (join second third) after) + 15 ≡ first = omega arith in
             rw (top, below, sum) refl);
       };
-      stand = (refl, (refl, (refl, index_read (first / 64 % 2 == 1) image behind)));
+      stand = (refl, (refl, (refl, index_read (first / 64 % 2 == 1) image after)));
     }
 
 -- an operand that is read is spelled there

@@ -112,11 +112,11 @@ module _ (image : List ℕ) (fits : (k : ℕ) → slice_index image k < 256) whe
   counted_is true at = refl
   counted_is false at = refl
 
-  kind_is : (kind : MoveKind) (at behind : ℕ) → kind_of (target_at kind image at).0 (from_at kind image behind).0 ≡ kind
-  kind_is GromToMemory at behind = refl
-  kind_is GromIndexedToMemory at behind = refl
-  kind_is MemoryToMemory at behind = refl
-  kind_is GromToRegisters at behind = refl
+  kind_is : (kind : MoveKind) (at after : ℕ) → kind_of (target_at kind image at).0 (from_at kind image after).0 ≡ kind
+  kind_is GromToMemory at after = refl
+  kind_is GromIndexedToMemory at after = refl
+  kind_is MemoryToMemory at after = refl
+  kind_is GromToRegisters at after = refl
 
   pub code_read : (operation : GplOperation) (code at : ℕ) → row_fits (Some operation) code ≡ true →
       code_of (instr_at operation code image at).0 ≡ code
@@ -148,12 +148,12 @@ module _ (image : List ℕ) (fits : (k : ℕ) → slice_index image k < 256) whe
   valid_source op true true at may = grind (arith, nat_tests)
   valid_source op true false at may = let lt = fits at in grind (arith, nat_tests)
 
-  valid_move : (kind : MoveKind) (at behind : ℕ) →
-      IsTrue (is_valid_move (target_at kind image at).0 (from_at kind image behind).0)
-  valid_move GromToMemory at behind = refl
-  valid_move GromIndexedToMemory at behind = refl
-  valid_move MemoryToMemory at behind = refl
-  valid_move GromToRegisters at behind = refl
+  valid_move : (kind : MoveKind) (at after : ℕ) →
+      IsTrue (is_valid_move (target_at kind image at).0 (from_at kind image after).0)
+  valid_move GromToMemory at after = refl
+  valid_move GromIndexedToMemory at after = refl
+  valid_move MemoryToMemory at after = refl
+  valid_move GromToRegisters at after = refl
 
   pub valid_read : (operation : GplOperation) (code at : ℕ) → row_fits (Some operation) code ≡ true →
       IsTrue (is_valid (instr_at operation code image at).0)

@@ -1,16 +1,16 @@
--- Bytes that stand behind one another in a GROM.
+-- Bytes that stand after one another in a GROM.
 use Rattle.std.proofs.Common.{ℕ, List, [], ◌∷◌, ◌++◌, refl}
 use Rattle.grom_defs.specs.Addresses.{next_in_grom}
 use Rattle.gpl_defs.specs.Spellings.{Stand, Holds, Joined}
 
--- bytes behind other bytes, and the address between them
+-- bytes after other bytes, and the address between them
 pub stand_join : (image first second : List ℕ) (at middle next : ℕ) → Stand image first at middle →
     Stand image second middle next → Stand image (first ++ second) at next
 stand_join image [] second at middle next begin end = rw begin end
 stand_join image (byte ∷ first) second at middle next begin end =
     (begin.0, stand_join image first second (next_in_grom at) middle next begin.1 end)
 
--- the address between bytes and those behind them
+-- the address between bytes and those after them
 pub record Parted (image first second : List ℕ) (at next : ℕ) : Type 0 where
   pub middle : ℕ
   pub begin : Stand image first at middle

@@ -58,11 +58,7 @@ abbrev pub space_of : Bool → Space
 space_of true = Vdp
 space_of false = Cpu
 
-abbrev pub space_at : ℕ → Space
-space_at first = space_of (is_set first 0x20)
-
--- Profile: the bits of an operand's first byte, as `Bytes` writes them. The low four begin its address, unless they are
--- ones: then the address follows in two bytes. The index stands last.
+-- The low four bits of an operand's first byte begin its address, unless they are ones: then it follows in two bytes.
 abbrev pub address_at : ℕ → Read ℕ
 address_at first = if first % 16 == 15 then word_at else read_as (join (first % 16)) byte_at
 
@@ -73,13 +69,21 @@ index_by false = give None
 abbrev pub plain_operand : ℕ → GplOperand
 plain_operand address = record { space = Cpu; indirect = false; address = address; index = None }
 
+-- An operand: a byte below >80 is an offset of the scratchpad; of another, the bits >40, >20 and >10 are an index,
+-- video memory and an indirect address. The index stands last.
+-- Profile: the bits of an operand's first byte, as `Bytes` writes them.
 unfoldable pub operand_at : Read GplOperand
 operand_at = do
   first ← byte_at
   if nat_lt first 0x80 then give (plain_operand first) else (do
     address ← address_at first
     index ← index_by (is_set first 0x40)
-    give (record { space = space_at first; indirect = is_set first 0x10; address = address; index = index }))
+    give (record {
+      space = space_of (is_set first 0x20);
+      indirect = is_set first 0x10;
+      address = address;
+      index = index;
+    }))
 
 abbrev pub value_at : Bool → Read ℕ
 value_at true = word_at

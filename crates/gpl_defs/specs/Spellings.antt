@@ -117,5 +117,5 @@ pub record IsShortest (instr : GplInstr) (bytes : List ℕ) : Type 0 where
 -- The law, which is proved: what stands at an address means one instruction at most.
 abbrev pub OneMeaning : Type 0
 OneMeaning =
-    (image : List ℕ) (at : ℕ) (instr other : GplInstr) (next behind : ℕ) → Means image at instr next →
-    Means image at other behind → (other ≡ instr) × (behind ≡ next)
+    (image : List ℕ) (at : ℕ) (instr other : GplInstr) (next after : ℕ) → Means image at instr next →
+    Means image at other after → (other ≡ instr) × (after ≡ next)

@@ -60,114 +60,76 @@ pub enum MoveSource {
     GromIndexed(u16, u8),
 }
 
-/// No operand.
+/// No operand: return from a subroutine, and keep the condition; test a status bit (higher, greater); leave the program;
+/// test the carry, the overflow.
 #[derive(Clone, Copy, Debug, PartialEq, Eq)]
 pub enum PlainOp {
-    /// Return from a subroutine.
     RTN,
-    /// Return from a subroutine and keep the condition.
     RTNC,
-    /// Test the status bit of a higher number.
     H,
-    /// Test the status bit of a greater number.
     GT,
-    /// Leave the program.
     EXIT,
-    /// Test the carry.
     CARRY,
-    /// Test the overflow.
     OVF,
 }
 
-/// One byte as operand.
+/// One byte as operand: a random number up to it; the border colour; fill the screen.
 #[derive(Clone, Copy, Debug, PartialEq, Eq)]
 pub enum ByteOp {
-    /// A random number up to the byte.
     RAND,
-    /// Load the border colour.
     BACK,
-    /// Fill the screen.
     ALL,
 }
 
-/// A GROM address as operand.
+/// A GROM address as operand: branch; call a subroutine.
 #[derive(Clone, Copy, Debug, PartialEq, Eq)]
 pub enum GoOp {
-    /// Branch.
     B,
-    /// Call a subroutine.
     CALL,
 }
 
-/// One operand in memory.
+/// One operand in memory: absolute value, negate, invert, clear, branch by a table of branches, compare with zero,
+/// increment, decrement, increment by two, decrement by two, fetch a byte after the call of the subroutine, push onto the
+/// data stack.
 #[derive(Clone, Copy, Debug, PartialEq, Eq)]
 pub enum OneName {
-    /// Absolute value.
     ABS,
-    /// Negate.
     NEG,
-    /// Invert.
     INV,
-    /// Clear.
     CLR,
-    /// Branch by a table of branches.
     CASE,
-    /// Compare with zero.
     CZ,
-    /// Increment.
     INC,
-    /// Decrement.
     DEC,
-    /// Increment by two.
     INCT,
-    /// Decrement by two.
     DECT,
-    /// Fetch a byte after the call of the subroutine.
     FETCH,
-    /// Push onto the data stack.
     PUSH,
 }
 
-/// Two operands, the destination first.
+/// Two operands, the destination first: add, subtract, multiply, divide, and, or, exclusive or, store, exchange; compare
+/// high, high or equal, greater than, greater than or equal (these two as signed numbers), equal, logical; shift right
+/// arithmetic, left logical, right logical, right circular.
 #[derive(Clone, Copy, Debug, PartialEq, Eq)]
 pub enum TwoName {
-    /// Add.
     ADD,
-    /// Subtract.
     SUB,
-    /// Multiply.
     MUL,
-    /// Divide.
     DIV,
-    /// And.
     AND,
-    /// Or.
     OR,
-    /// Exclusive or.
     XOR,
-    /// Store.
     ST,
-    /// Exchange.
     EX,
-    /// Compare high.
     CH,
-    /// Compare high or equal.
     CHE,
-    /// Compare greater than, as signed numbers.
     CGT,
-    /// Compare greater than or equal, as signed numbers.
     CGE,
-    /// Compare equal.
     CEQ,
-    /// Compare logical.
     CLOG,
-    /// Shift right arithmetic.
     SRA,
-    /// Shift left logical.
     SLL,
-    /// Shift right logical.
     SRL,
-    /// Shift right circular.
     SRC,
 }
 
@@ -187,17 +149,12 @@ pub enum MoveKind {
 /// What an instruction does, without its operands: a row of the table of codes.
 #[derive(Clone, Copy, Debug, PartialEq, Eq)]
 pub enum GplOperation {
-    /// An operation without operands.
     Plain(PlainOp),
-    /// An operation with a byte.
     Byte(ByteOp),
-    /// An operation with a GROM address.
     Jump(GoOp),
     /// BR, or BS with `true`.
     Branch(bool),
-    /// An operation with one operand.
     One(OneName),
-    /// An operation with a destination and a source.
     Two(TwoName),
     /// MOVE, by where it copies from and to.
     Move(MoveKind),
@@ -206,14 +163,11 @@ pub enum GplOperation {
 /// An instruction.
 #[derive(Clone, Copy, Debug, PartialEq, Eq)]
 pub enum GplInstr {
-    /// An operation without operands.
     Plain(PlainOp),
-    /// An operation with the byte `value`.
     Byte {
         op: ByteOp,
         value: u8,
     },
-    /// An operation with the GROM address `to`.
     Jump {
         op: GoOp,
         to: u16,
@@ -223,20 +177,19 @@ pub enum GplInstr {
         on: bool,
         offset: u16,
     },
-    /// An operation with the operand `at`. `word` is true for the form of words.
+    /// `word` is true for the form of words.
     One {
         op: OneName,
         word: bool,
         at: GplOperand,
     },
-    /// An operation with a destination and a source. `word` is true for the form of words.
+    /// `word` is true for the form of words.
     Two {
         op: TwoName,
         word: bool,
         dst: GplOperand,
         src: GplSource,
     },
-    /// MOVE by its length, and by its target and source.
     Move {
         length: MoveLength,
         target: MoveTarget,

@@ -9,7 +9,7 @@ mod operands;
 mod text;
 
 pub use digits::push_word;
-pub use laws::listings_come_back;
+pub use laws::{listings_are_short, listings_come_back};
 pub use line::list_line;
 pub use listing::disassemble;
 pub use text::{instr_text, push_standing};

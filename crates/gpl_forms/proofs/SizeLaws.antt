@@ -1,4 +1,4 @@
--- How many bytes an instruction has, told by the addresses before and behind them.
+-- How many bytes an instruction has, by the addresses before and after them.
 use Rattle.std.proofs.Common.{◌≡◌, ◌≢◌, ℕ, suc, ◌+◌, ◌*◌, ◌/◌, ◌%◌, ◌<◌, ◌≤◌, Bool, true, false}
 use Rattle.std.proofs.Common.{List, [], ◌∷◌, ◌++◌, length, length-append, refl, sym, ◌∙◌, arith}
 use Rattle.std.specs.Prelude.{slice_index, ◌==◌, ◌&&◌, IsTrue, Option, Some, None}
@@ -81,19 +81,19 @@ rest_few _ bytes spells = rw spells (omega arith)
 pub spelled_in_13 : (instr : GplInstr) (bytes : List ℕ) → Spells instr bytes → length bytes ≤ 13
 spelled_in_13 instr bytes spells = rw spells.is (omega (arith, rest_few instr spells.rest spells.is_rest))
 
--- ---- the address behind bytes
+-- ---- the address after bytes
 
--- the address so many bytes behind another in one GROM
-abbrev pub behind : ℕ → ℕ → ℕ
-behind at count = at / 8192 * 8192 + (at + count) % 8192
+-- the address so many bytes after another in one GROM
+abbrev pub after : ℕ → ℕ → ℕ
+after at count = at / 8192 * 8192 + (at + count) % 8192
 
-behind-next : (at count : ℕ) → behind (next_in_grom at) count ≡ behind at (suc count)
-behind-next at count = omega arith
+after-next : (at count : ℕ) → after (next_in_grom at) count ≡ after at (suc count)
+after-next at count = omega arith
 
-stand_behind : (image bytes : List ℕ) (at next : ℕ) → Stand image bytes at next → next ≡ behind at (length bytes)
-stand_behind image [] at next stands = omega arith
-stand_behind image (byte ∷ bytes) at next stands =
-    stand_behind image bytes (next_in_grom at) next stands.1 ∙ behind-next at (length bytes)
+stand_after : (image bytes : List ℕ) (at next : ℕ) → Stand image bytes at next → next ≡ after at (length bytes)
+stand_after image [] at next stands = omega arith
+stand_after image (byte ∷ bytes) at next stands =
+    stand_after image bytes (next_in_grom at) next stands.1 ∙ after-next at (length bytes)
 
 same_by_test : (a b : ℕ) → (a == b) ≡ true → a ≡ b
 same_by_test a b e = grind (arith, nat_tests)
@@ -109,14 +109,14 @@ stand_first image bytes byte at _ _ e f test = absurd (cc)
 
 -- a test that bytes stand says where they end
 test_stands : (image bytes : List ℕ) (at : ℕ) → stand image bytes at ≡ true →
-    Stand image bytes at (behind at (length bytes))
+    Stand image bytes at (after at (length bytes))
 test_stands image [] at test = omega arith
 test_stands image (byte ∷ bytes) at test =
     let parts =
     stand_first image bytes byte at (slice_index image at == byte) (stand image bytes (next_in_grom at)) refl refl
     test in
     let rest = test_stands image bytes (next_in_grom at) parts.1 in
-    (parts.0, rw (behind-next at (length bytes)) at rest)
+    (parts.0, rw (after-next at (length bytes)) at rest)
 
 stands_test : (image bytes : List ℕ) (at next : ℕ) → Stand image bytes at next → stand image bytes at ≡ true
 stands_test image [] at next stands = refl
@@ -126,8 +126,8 @@ stands_test image (byte ∷ bytes) at next stands =
 
 -- ---- the shortest spelling
 
-size-behind : (at count : ℕ) → at < 65536 → count ≤ 13 → size_between at (behind at count) ≡ count
-size-behind at count lt few = omega arith
+size-after : (at count : ℕ) → at < 65536 → count ≤ 13 → size_between at (after at count) ≡ count
+size-after at count lt few = omega arith
 
 -- an instruction stands in its shortest spelling where that has as many bytes as those from which it was read
 pub stands_by_size : (image : List ℕ) (at next : ℕ) (instr : GplInstr) → at < 65536 →
@@ -144,19 +144,19 @@ stands_by_size image at next instr lt reads read =
 
     there : size_between at next ≡ length reads.means.bytes
     there =
-        rw (stand_behind image reads.means.bytes at next reads.means.stand)
-        (size-behind at (length reads.means.bytes) lt few)
+        rw (stand_after image reads.means.bytes at next reads.means.stand)
+        (size-after at (length reads.means.bytes) lt few)
 
     by : (stands same : Bool) → stand image (bytes_of instr) at ≡ stands →
         (length (bytes_of instr) == size_between at next) ≡ same → stands ≡ same
     by true false e f =
         let back = test_stands image (bytes_of instr) at e in
-        let again = bytes_read instr valid image at (behind at (length (bytes_of instr))) back in
-        let end : next ≡ behind at (length (bytes_of instr)) = cc in
+        let again = bytes_read instr valid image at (after at (length (bytes_of instr))) back in
+        let end : next ≡ after at (length (bytes_of instr)) = cc in
         let short : length (bytes_of instr) ≤ 13 =
         spelled_in_13 instr (bytes_of instr) (bytes_shortest instr valid).spells in
         let size : size_between at next ≡ length (bytes_of instr) =
-        rw end (size-behind at (length (bytes_of instr)) lt short) in
+        rw end (size-after at (length (bytes_of instr)) lt short) in
         absurd (other_by_test (length (bytes_of instr)) (size_between at next) f (sym size))
     by false true e f =
         let size : length reads.means.bytes ≡ length (bytes_of instr) =

@@ -1,7 +1,7 @@
 //! The instruction at an address of GROM.
 //!
 //! Each `read_` function of an operand gives what it reads from an address on, and the address after its bytes.
-ghost use Rattle.std.specs.Prelude.{◌≡◌, ℕ, length, slice_index, IsSome};
+ghost use Rattle.std.specs.Prelude.{◌≡◌, ◌/◌, ◌%◌, ◌==◌, ℕ, length, slice_index, IsSome};
 ghost use Rattle.gpl_defs.specs.Codes.{operation_at};
 ghost use Rattle.gpl_defs.specs.Reading as spec;
 
@@ -101,8 +101,8 @@ fn read_operands(operation: GplOperation, code: u8, image: &[u8], at: u16) -> (G
             (GplInstr::One { op, word, at }, next)
         }
         GplOperation::Two(op) => {
-            let (dst, behind) = read_operand(image, at);
-            let (src, next) = read_source(code / 2 % 2 == 1, word, image, behind);
+            let (dst, after) = read_operand(image, at);
+            let (src, next) = read_source(code / 2 % 2 == 1, word, image, after);
             (GplInstr::Two { op, word, dst, src }, next)
         }
         GplOperation::Move(kind) => read_move(kind, word, image, at),
@@ -114,9 +114,9 @@ fn read_move(kind: MoveKind, immediate: bool, image: &[u8], at: u16) -> (GplInst
     requires { length image.now ≡ 65536 }
     ensures { result ≡ spec.move_at kind immediate image.now at }
 {
-    let (length, behind_length) = read_length(immediate, image, at);
-    let (target, behind_target) = read_target(kind, image, behind_length);
-    let (source, next) = read_from(kind, image, behind_target);
+    let (length, after_length) = read_length(immediate, image, at);
+    let (target, after_target) = read_target(kind, image, after_length);
+    let (source, next) = read_from(kind, image, after_target);
     let instr = GplInstr::Move {
         length,
         target,
@@ -164,13 +164,13 @@ fn read_from(kind: MoveKind, image: &[u8], at: u16) -> (MoveSource, u16)
         let (operand, next) = read_operand(image, at);
         return (MoveSource::At(operand), next);
     }
-    let (address, behind) = read_word(image, at);
+    let (address, after) = read_word(image, at);
     match kind {
         MoveKind::GromIndexedToMemory => (
-            MoveSource::GromIndexed(address, image[usize::from(behind)]),
-            next_in_grom(behind),
+            MoveSource::GromIndexed(address, image[usize::from(after)]),
+            next_in_grom(after),
         ),
-        _ => (MoveSource::Grom(address), behind),
+        _ => (MoveSource::Grom(address), after),
     }
 }
 
@@ -200,7 +200,7 @@ fn read_operand(image: &[u8], at: u16) -> (GplOperand, u16)
     ensures { result ≡ spec.operand_at image.now at }
 {
     let first = image[usize::from(at)];
-    let behind = next_in_grom(at);
+    let after = next_in_grom(at);
     if first < 0x80 {
         let operand = GplOperand {
             space: Space::Cpu,
@@ -208,10 +208,10 @@ fn read_operand(image: &[u8], at: u16) -> (GplOperand, u16)
             address: u16::from(first),
             index: None,
         };
-        return (operand, behind);
+        return (operand, after);
     }
-    let (address, behind_address) = read_address(first, image, behind);
-    let (index, next) = read_index(first / 64 % 2 == 1, image, behind_address);
+    let (address, after_address) = read_address(first, image, after);
+    let (index, next) = read_index(first / 64 % 2 == 1, image, after_address);
     let operand = GplOperand {
         space: read_space(first),
         indirect: first / 16 % 2 == 1,
@@ -223,7 +223,7 @@ fn read_operand(image: &[u8], at: u16) -> (GplOperand, u16)
 
 /// The space of an operand by its first byte.
 fn read_space(first: u8) -> Space
-    ensures { result ≡ spec.space_at first }
+    ensures { result ≡ spec.space_of (first / 32 % 2 == 1) }
 {
     if first / 32 % 2 == 1 {
         Space::Vdp
@@ -261,7 +261,7 @@ fn read_word(image: &[u8], at: u16) -> (u16, u16)
     requires { length image.now ≡ 65536 }
     ensures { result ≡ spec.word_at image.now at }
 {
-    let behind = next_in_grom(at);
-    let word = u16::from_be_bytes([image[usize::from(at)], image[usize::from(behind)]]);
-    (word, next_in_grom(behind))
+    let after = next_in_grom(at);
+    let word = u16::from_be_bytes([image[usize::from(at)], image[usize::from(after)]]);
+    (word, next_in_grom(after))
 }

@@ -23,10 +23,10 @@ unplaced_from texts later before [] (row ∷ rows) all = absurd all
 unplaced_from texts later before (line ∷ rest) [] all = absurd all
 unplaced_from texts later before (line ∷ rest) (row ∷ rows) all =
     let is = all.0 in
-    let same : model_of_row row ≡ spec.row spec.no_bytes texts before line =
-    same_row texts later (model_of_row row) (spec.row spec.no_bytes texts before line) is.number is.address is.bytes is.text in
+    let same : model_of_row row ≡ spec.row_of spec.no_bytes texts before line =
+    same_row texts later (model_of_row row) (spec.row_of spec.no_bytes texts before line) is.number is.address is.bytes is.text in
     ap (λ row. spec.rows spec.no_bytes texts before ++ row ∷ map model_of_row rows) same
-    ∙ (sym (append_assoc (spec.rows spec.no_bytes texts before) (spec.row spec.no_bytes texts before line ∷ []) (map model_of_row rows))
+    ∙ (sym (append_assoc (spec.rows spec.no_bytes texts before) (spec.row_of spec.no_bytes texts before line ∷ []) (map model_of_row rows))
     ∙ unplaced_from texts later (line ∷ before) rest rows all.1)
 
 pub unplaced : (texts : List (ℕ × List ℕ)) (lines : List Line) (rows : List Row) → DescribesAll texts lines rows

@@ -5,7 +5,7 @@ use Rattle.std.proofs.lemmas.Bool.Decides.{nat_tests}
 use Rattle.source_defs.specs.declared.text.Line.{Line as TextLine}
 use Rattle.source_defs.specs.Lines.{part, lines, numbered, line_texts}
 use Rattle.source_defs.specs.Refusals.{◌>>=◌, at_line}
-use Rattle.expression_defs.specs.Layout.{laid, laid_behind, has_ended}
+use Rattle.expression_defs.specs.Layout.{laid, laid_after, has_ended}
 use Rattle.expression_defs.proofs.LaidLaws.{texts_of, laid_more, goes_on, ends_there, refused_there, first_of_two, none_of_two}
 use Rattle.gpl_source_defs.specs.declared.causes.GplCause.{GplCause}
 use Rattle.gpl_source_defs.specs.Locations.{Line}
@@ -13,7 +13,7 @@ use Rattle.gpl_source_defs.specs.FirstChecks.{check}
 use Rattle.gpl_asm.specs.declared.error.GplError.{GplError}
 use Rattle.gpl_asm.specs.declared.error.GplError.TheVariants.{At, Memory}
 use Rattle.gpl_asm.specs.declared.lines.GplLines.{GplLines}
-use Rattle.gpl_asm.specs.Building.{IsBehind, HasAccepted}
+use Rattle.gpl_asm.specs.Building.{IsAfter, HasAccepted}
 use Rattle.gpl_list_defs.specs.Rows as spec
 use Rattle.gpl_list.specs.declared.read.ReadLines.{ReadLines}
 use Rattle.gpl_list.specs.Reading.{ReadsLine, ReadsLines}
@@ -52,7 +52,7 @@ pub record Passed (text : List ℕ) (lines : List Line) (left : List TextLine) :
   pub laid_is : laid check (numbered 1 front) ≡ Ok lines
   pub count : length lines ≡ length front
   pub all : line_texts text ≡ numbered 1 front ++ texts_of text left
-  pub rest : laid_behind check lines (texts_of text left) ≡ laid check (line_texts text)
+  pub rest : laid_after check lines (texts_of text left) ≡ laid check (line_texts text)
 
 pub passed_none : (text : List ℕ) → Passed text [] (lines text)
 passed_none text = record { front = []; laid_is = refl; count = refl; all = refl; rest = refl }
@@ -77,9 +77,9 @@ module _ (text : List ℕ) (before : List Line) (line : TextLine) (next : List T
   one_longer = let count = passed.count in omega (arith, count, length-append passed.front (part text line.span ∷ []))
 
   abbrev pub has_taken : (found : Line) (builder : GplLines) → check before (length before + 1) (part text line.span) ≡ Ok found → has_ended before ≡ false
-      → IsBehind (found ∷ before) builder → HasAccepted (passed.front ++ part text line.span ∷ []) builder
-  has_taken found builder e going behind =
-      record { lines = found ∷ before; laid = laid_more_is found e going; all = let longer = one_longer in omega (arith, longer); behind = behind }
+      → IsAfter (found ∷ before) builder → HasAccepted (passed.front ++ part text line.span ∷ []) builder
+  has_taken found builder e going after_lines =
+      record { lines = found ∷ before; laid = laid_more_is found e going; all = let longer = one_longer in omega (arith, longer); after_lines = after_lines }
 
   pub passed_more : (found : Line) → check before (length before + 1) (part text line.span) ≡ Ok found → has_ended before ≡ false
       → (found.last || has_ended before) ≡ false → Passed text (found ∷ before) next

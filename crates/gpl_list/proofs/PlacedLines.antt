@@ -1,4 +1,4 @@
--- A line that is placed behind others.
+-- A line that is placed after others.
 use Rattle.std.proofs.Common.{◌≡◌, ℕ, ◌+◌, ◌≤◌, Bool, true, false, List, ◌∷◌, Option, None, Ok, Err, length, refl, sym, ap, ◌∙◌, arith}
 use Rattle.std.specs.Prelude.{Result, if◌then◌else◌}
 use Rattle.source_defs.specs.Refusals.{◌>>=◌}
@@ -11,7 +11,6 @@ use Rattle.gpl_source_defs.specs.Statements.{Statement, declared_size}
 use Rattle.gpl_source_defs.specs.SecondChecks.{Outcome, outcome}
 use Rattle.gpl_source_defs.specs.Programs.{AssembledLine, assembled_at, with_room, overlaps, image, bytes_in, entry_by}
 use Rattle.gpl_source_defs.proofs.Sizes.{outcome_size}
-use Rattle.gpl_lines.specs.declared.failure.Failure.{Failure}
 use Rattle.gpl_lines.specs.declared.failure.Failure.TheVariants as failure
 use Rattle.gpl_asm.specs.Replay.{Built, put}
 use Rattle.gpl_list_defs.specs.Rows as spec

@@ -49,11 +49,11 @@ checked_of lines number text line e =
     let same : line_of (location lines) number b.0 ≡ line = cc (b.2) in
     (b.0, b.1, same)
 
--- the row of a line that was taken behind others
-module _ (texts : List (ℕ × List ℕ)) (lines : List Line) (text : List ℕ) (found : Checked) (told : TakenLine) (row : Row)
+-- the row of a line that was taken after others
+module _ (texts : List (ℕ × List ℕ)) (lines : List Line) (text : List ℕ) (found : Checked) (known : TakenLine) (row : Row)
     (e : checked (names lines) (location lines) text ≡ Ok found)
-    (tells : Tells lines (line_of (location lines) (length lines + 1) found) told)
-    (taken : IsTaken (length lines + 1) told.at (model_of_address told) text row)
+    (tells : Tells lines (line_of (location lines) (length lines + 1) found) known)
+    (taken : IsTaken (length lines + 1) known.at (model_of_address known) text row)
     (there : spec.text_of texts (length lines + 1) ≡ text) where
   abbrev line : Line
   line = line_of (location lines) (length lines + 1) found
@@ -83,7 +83,7 @@ module _ (texts : List (ℕ × List ℕ)) (lines : List Line) (text : List ℕ) 
     number = taken.number;
     at = taken.at ∙ tells.at;
     address = taken.address
-        ∙ (ap (λ (origin : Option Location). (set_or origin told.at).number) tells.origin
+        ∙ (ap (λ (origin : Option Location). (set_or origin known.at).number) tells.origin
         ∙ (ap (λ (at : Location). (set_or (origin_of (location lines) statement) at).number) tells.at
         ∙ ap (λ (at : Location). (set_or (origin_of at statement) (place lines line)).number) (sym place_there)));
     bytes = taken.bytes;

@@ -62,14 +62,14 @@ all_before number (line ∷ before) numbered less =
     kept number line before true is ∙ ap (λ lines. line ∷ lines) (all_before number before numbered.1 (omega (arith, less)))
 
 module _ (texts : List (ℕ × List ℕ)) (known : Names) where
-  none_behind : (number : ℕ) (before rest : List Line) (rows : List Row) → Describes texts known before rest rows → number ≤ length before + 1
+  none_after : (number : ℕ) (before rest : List Line) (rows : List Row) → Describes texts known before rest rows → number ≤ length before + 1
       → spec.lines_before number (onto rest before) ≡ spec.lines_before number before
-  none_behind number before [] rows all le = refl
-  none_behind number before (line ∷ rest) [] all le = absurd all
-  none_behind number before (line ∷ rest) (row ∷ rows) all le =
+  none_after number before [] rows all le = refl
+  none_after number before (line ∷ rest) [] all le = absurd all
+  none_after number before (line ∷ rest) (row ∷ rows) all le =
       let at = all.0.numbered in
       let not : nat_lt line.number number ≡ false = grind (arith, nat_tests, at, le) in
-      none_behind number (line ∷ before) rest rows all.1 (omega (arith, le)) ∙ kept number line before false not
+      none_after number (line ∷ before) rest rows all.1 (omega (arith, le)) ∙ kept number line before false not
 
   -- ---- some lines are assembled, and others are left
 
@@ -133,8 +133,8 @@ module _ (texts : List (ℕ × List ℕ)) (known : Names) where
         by (line ∷ rest) are all =
             let is = all.0 in
             let c = came g line (Ok value) is assembles in
-            let same : model_of_row new ≡ spec.row (spec.placed_bytes known) texts g.done line =
-            same_row (model_of_row new) (spec.row (spec.placed_bytes known) texts g.done line)
+            let same : model_of_row new ≡ spec.row_of (spec.placed_bytes known) texts g.done line =
+            same_row (model_of_row new) (spec.row_of (spec.placed_bytes known) texts g.done line)
             (given.number ∙ is.number) (given.address ∙ is.address) (given.bytes_are ∙ c.3) (given.text ∙ is.text) in
             record {
               done = line ∷ g.done;
@@ -166,7 +166,7 @@ module _ (texts : List (ℕ × List ℕ)) (known : Names) where
             let at : row.number ≡ length g.done + 1 = is.number ∙ is.numbered in
             let front : spec.lines_before row.number lines ≡ g.done =
             ap (spec.lines_before row.number) (sym are)
-            ∙ (none_behind row.number g.done (line ∷ rest) (row ∷ next) all (omega (arith, at))
+            ∙ (none_after row.number g.done (line ∷ rest) (row ∷ next) all (omega (arith, at))
             ∙ all_before row.number g.done g.numbered (omega (arith, at))) in (
               ap (assembled_lines (assembled_line known)) (sym are)
                   ∙ (refused_on known rest (line ∷ g.done) (record { line = line.number; cause = cause }) refused

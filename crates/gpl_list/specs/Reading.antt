@@ -12,7 +12,7 @@ use Rattle.gpl_source_defs.specs.FirstChecks.{check, names, parsed}
 use Rattle.gpl_asm.specs.declared.error.GplError.{GplError}
 use Rattle.gpl_asm.specs.declared.error.GplError.TheVariants.{At, Memory}
 use Rattle.gpl_asm.specs.declared.taken.TakenLine.{TakenLine}
-use Rattle.gpl_asm.specs.Building.{IsBehind, HasAccepted, IsOpen, CanCount}
+use Rattle.gpl_asm.specs.Building.{IsAfter, HasAccepted, IsOpen, CanCount}
 use Rattle.gpl_list_defs.specs.Rows as spec
 use Rattle.gpl_list.specs.declared.rows.Row.{Row}
 use Rattle.gpl_list.specs.declared.rows.NameRow.{NameRow}
@@ -25,7 +25,7 @@ abbrev pub model_of_name : NameRow → spec.NameRow
 model_of_name row = record { name = row.name; value = Absolute row.value; line = row.line }
 
 abbrev pub model_of_address : TakenLine → ℕ
-model_of_address told = (set_or told.origin told.at).number
+model_of_address known = (set_or known.origin known.at).number
 
 -- the name of a line, if it has one
 abbrev pub named : Option (List ℕ) → ℕ → ℕ → List spec.NameRow
@@ -78,7 +78,7 @@ DescribesAll texts lines rows =
 
 -- the lines were taken, and their rows and names are kept
 pub record Keeps (texts : List (ℕ × List ℕ)) (lines : List Line) (read : ReadLines) : Type 0 where
-  pub behind : IsBehind lines read.builder
+  pub after_lines : IsAfter lines read.builder
   pub rows : DescribesAll texts lines read.rows.items
   pub names : map model_of_name read.names.items ≡ spec.name_rows lines
 

@@ -1,7 +1,7 @@
 //! The lines of a listing.
 
 ghost use Rattle.std.specs.Prelude.{◌≡◌, ◌≤◌, ◌+◌, ◌%◌, ◌++◌, length, take, drop};
-ghost use Rattle.source_defs.specs.Digits.{hex_word};
+ghost use Rattle.source_defs.specs.Digits.{hex_word, right_in};
 ghost use Rattle.arrayvec.specs.ArrayVec.{array_vec_len};
 ghost use Rattle.gpl_list_defs.specs.Text as spec;
 ghost use Rattle.gpl_list.specs.Reading.{model_of_name, model_of_row};
@@ -84,10 +84,10 @@ pub(crate) fn further_bytes(bytes: &[u8]) -> &[u8]
 }
 
 /// Appends a number, right in seven places.
-#[tactic(auto, using(std::proofs::Common::append_assoc), unfolding(gpl_list_defs::specs::Text::number_text))]
+#[tactic(auto, using(std::proofs::Common::append_assoc), unfolding(source_defs::specs::Digits::right_in))]
 fn append_number(line: &mut Line, number: u32)
     requires { array_vec_len line.old + 47 ≤ 192 }
-    ensures text { line.new.items ≡ line.old.items ++ spec.number_text number }
+    ensures text { line.new.items ≡ line.old.items ++ right_in 7 number }
     ensures len { array_vec_len line.new ≤ array_vec_len line.old + 47 }
 {
     let mut buffer = Buffer::new();

@@ -17,12 +17,12 @@ use Rattle.gpl_source_defs.specs.Statements.{Statement, Grom, Aorg}
 use Rattle.gpl_source_defs.specs.Locations.{Line, place}
 use Rattle.gpl_source_defs.specs.FirstChecks.{check, names}
 use Rattle.gpl_source_defs.specs.SecondChecks.{Outcome, outcome}
-use Rattle.gpl_source_defs.specs.Programs.{AssembledLine, assembled_line, assembled_at, overlaps, image, bytes_in, program_by, program_behind}
-use Rattle.gpl_list_defs.specs.Rows.{Row, NameRow, address, outcome_bytes, placed_bytes, row, rows, names_in, name_rows}
+use Rattle.gpl_source_defs.specs.Programs.{AssembledLine, assembled_line, assembled_at, overlaps, image, bytes_in, program_by, program_after}
+use Rattle.gpl_list_defs.specs.Rows.{Row, NameRow, address, outcome_bytes, placed_bytes, row_of, rows, names_in, name_rows}
 use Rattle.gpl_list_defs.specs.Listing.{assembled_listing, laid_listing}
 use Rattle.gpl_list_defs.specs.Laws.{with_rows, with_names, ListsOf, ListingsGivePrograms}
 
--- ---- rows and names behind others
+-- ---- rows and names after others
 
 with_rows_append : (at : Image) (first second : List Row) → with_rows at (first ++ second) ≡ with_rows (with_rows at first) second
 with_rows_append at [] second = refl
@@ -89,7 +89,7 @@ module _ (known : Names) (texts : List (ℕ × List ℕ)) where
   one_more before line earlier found is came =
       let at = place before line in
       let bytes : placed_bytes known at line.statement ≡ bytes_in found.outcome = ap outcome_bytes came.came in
-      with_rows_append empty (shown before) (row (placed_bytes known) texts before line ∷ [])
+      with_rows_append empty (shown before) (row_of (placed_bytes known) texts before line ∷ [])
       ∙ rw (is, bytes)
       (rw (at_address (look_up known) at line.statement (image earlier) found.outcome came.came, came.at_is) refl)
 
@@ -112,7 +112,7 @@ assembled_gives texts lines (Ok found) e =
 assembled_gives texts lines (Err refused) e = refl
 
 laid_gives : (texts : List (ℕ × List ℕ)) (answer : Result (List Line) (Refusal GplCause))
-    → ListsOf (laid_listing texts answer) (answer >>= program_behind)
+    → ListsOf (laid_listing texts answer) (answer >>= program_after)
 laid_gives texts (Ok lines) = assembled_gives texts lines (assembled_lines (assembled_line (names lines)) lines) refl
 laid_gives texts (Err refused) = refl
 

@@ -48,19 +48,21 @@ abbrev pub text_of : List (ℕ × List ℕ) → ℕ → List ℕ
 text_of [] number = []
 text_of (line ∷ lines) number = if line.0 == number then line.1 else text_of lines number
 
-abbrev pub row : ListsBytes → List (ℕ × List ℕ) → List Line → Line → Row
-row bytes texts before line =
+-- A line as a row: its number, its address, what is listed of its bytes, and its text.
+abbrev pub row_of : ListsBytes → List (ℕ × List ℕ) → List Line → Line → Row
+row_of listed texts before line =
+    let at = place before line in
     record {
       number = line.number;
-      at = address (place before line) line.statement;
-      bytes = bytes (place before line) line.statement;
+      at = address at line.statement;
+      bytes = listed at line.statement;
       text = text_of texts line.number;
     }
 
 -- The rows of lines, of which the nearest stands first, in their order.
 abbrev pub rows : ListsBytes → List (ℕ × List ℕ) → List Line → List Row
-rows bytes texts [] = []
-rows bytes texts (line ∷ before) = rows bytes texts before ++ row bytes texts before line ∷ []
+rows listed texts [] = []
+rows listed texts (line ∷ before) = rows listed texts before ++ row_of listed texts before line ∷ []
 
 -- the names that a line defines
 abbrev pub names_in : Line → List NameRow

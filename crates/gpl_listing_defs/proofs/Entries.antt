@@ -1,4 +1,4 @@
--- Bytes that are placed one behind the other, where nothing is placed, and what is listed at an address.
+-- Bytes that are placed one after the other, where nothing is placed, and what is listed at an address.
 use Rattle.std.proofs.Common.{◌≡◌, ℕ, ◌/◌, ◌%◌, ◌<◌, Bool, true, false, List, refl, subst, Option, Some, None, arith}
 use Rattle.std.specs.Prelude.{◌==◌, if◌then◌else◌, nat_lt, slice_index, is_some, IsTrue, nat_le}
 use Rattle.grom_defs.specs.Addresses.{next_in_grom}
@@ -108,14 +108,14 @@ module _ (image : List ℕ) (bytes : (k : ℕ) → slice_index image k < 256) wh
       by None = tt
       by (Some operation) = instr_fits operation (slice_index image at) (next_in_grom at)
 
--- ---- Bytes that are placed one behind the other, where nothing is placed, and what is listed at an address
+-- ---- Bytes that are placed one after the other, where nothing is placed, and what is listed at an address
 
-pub placed_behind : (image : Image) (at : ℕ) (xs ys : List ℕ) →
+pub placed_after : (image : Image) (at : ℕ) (xs ys : List ℕ) →
     placed (placed image at xs) (at + length xs) ys ≡ placed image at (xs ++ ys)
-placed_behind image at [] ys = ap (λ n. placed image n ys) (omega arith)
-placed_behind image at (x ∷ xs) ys =
+placed_after image at [] ys = ap (λ n. placed image n ys) (omega arith)
+placed_after image at (x ∷ xs) ys =
     ap (λ n. placed (placed (insert image at x) (at + 1) xs) n ys) (omega arith)
-    ∙ placed_behind (insert image at x) (at + 1) xs ys
+    ∙ placed_after (insert image at x) (at + 1) xs ys
 
 -- nothing was written from an address on
 abbrev pub FreeFrom : Image → ℕ → Type 0

@@ -1,4 +1,4 @@
--- The lines of a listing: each is let through behind others, and placed.
+-- The lines of a listing: each is let through after others, and placed.
 use Rattle.std.proofs.Common.{◌≡◌, ◌⊎◌, inl, inr, ℕ, ◌+◌, ◌%◌, ◌<◌, ◌≤◌, Bool, true, false, List, [], ◌∷◌, ◌++◌}
 use Rattle.std.proofs.Common.{length, refl, ap, sym, subst, ◌∙◌, Ok, Option, Some, None, arith, rules}
 use Rattle.std.specs.Prelude.{◌==◌, codes, IsTrue, nat_lt, nat_le, if◌then◌else◌}
@@ -6,7 +6,7 @@ use Rattle.std.specs.List.{list_all}
 use Rattle.std.proofs.lemmas.Bool.Decides.{nat_tests}
 use Rattle.source_defs.specs.Digits.{hex_word, hex_byte, word_digits, byte_digits}
 use Rattle.source_defs.specs.Lines.{numbered}
-use Rattle.expression_defs.specs.Layout.{laid_behind, assembled_lines}
+use Rattle.expression_defs.specs.Layout.{laid_after, assembled_lines}
 use Rattle.source_defs.specs.ListedLines.{listed, with_operands}
 use Rattle.expression_defs.specs.Symbols.{Names, look_up, predefined}
 use Rattle.grom_defs.specs.declared.size.TheConstants.{GROM_SIZE}
@@ -18,7 +18,7 @@ use Rattle.gpl_source_defs.specs.declared.location.Location.{Location}
 use Rattle.gpl_source_defs.specs.Directives.{directive}
 use Rattle.gpl_source_defs.specs.Mnemonics.{name_of}
 use Rattle.gpl_source_defs.specs.Statements.{Statement, Instruction, Grom, Aorg, Byte, End, operation_statement, declared_size}
-use Rattle.gpl_source_defs.specs.Locations.{Line, start, behind, location, place, address_of, origin_of}
+use Rattle.gpl_source_defs.specs.Locations.{Line, start, after, location, place, address_of, origin_of}
 use Rattle.gpl_source_defs.specs.FirstChecks.{checked, check, line_of, names, is_full, is_bad, is_end}
 use Rattle.gpl_source_defs.specs.SecondChecks.{Bytes, outcome}
 use Rattle.gpl_source_defs.specs.Programs.{AssembledLine, image, entry, overlaps, assembled_line, assembled_at}
@@ -40,7 +40,7 @@ pub record Stands (before : List Line) (earlier : List AssembledLine) (at : Loca
 pub at_first : Stands [] [] start (image [])
 at_first = search rules
 
--- a line behind others that is let through, with what they then come to
+-- a line after others that is let through, with what they then come to
 pub record Taken (before : List Line) (number : ℕ) (text : List ℕ) (last : Bool) (next : Location) (bytes : Image) :
     Type 0 where
   pub line : Line
@@ -49,22 +49,22 @@ pub record Taken (before : List Line) (number : ℕ) (text : List ℕ) (last : B
   pub last_is : line.last ≡ last
   pub stands : Stands (line ∷ before) earlier next bytes
 
--- the location behind a line that sets one, or none
+-- the location after a line that sets one, or none
 abbrev moved : Option Location → Location → ℕ → Location
-moved None here size = behind here size
-moved (Some origin) here size = behind origin size
+moved None here size = after here size
+moved (Some origin) here size = after origin size
 
 pub same_location : (grom m n : ℕ) → m ≡ n →
     ◌≡◌ {A = Location} (record { grom = grom; number = m }) (record { grom = grom; number = n })
 same_location grom m n e = rw e refl
 
-here_again : (at : Location) → ◌≡◌ {A = Location} (behind at 0) at
+here_again : (at : Location) → ◌≡◌ {A = Location} (after at 0) at
 here_again at = same_location at.grom (at.number + 0) at.number (omega arith)
 
-location_behind : (line : Line) (before : List Line) (o : Option Location) → line.origin ≡ o → line.gap ≡ 0 →
+location_after : (line : Line) (before : List Line) (o : Option Location) → line.origin ≡ o → line.gap ≡ 0 →
     location (line ∷ before) ≡ moved o (location before) line.size
-location_behind line before None e gap = rw (e, gap) (same_location _ _ _ (omega arith))
-location_behind line before (Some origin) e gap = rw (e, gap) (same_location _ _ _ (omega arith))
+location_after line before None e gap = rw (e, gap) (same_location _ _ _ (omega arith))
+location_after line before (Some origin) e gap = rw (e, gap) (same_location _ _ _ (omega arith))
 
 assemble_here : (earlier : List AssembledLine) (at there : Location) (held : Image) (said : Statement) (bytes : List ℕ) →
     there ≡ at → image earlier ≡ held → outcome (look_up predefined) at said ≡ Ok (Bytes bytes) →
@@ -124,13 +124,13 @@ module _ {before : List Line} {earlier : List AssembledLine} {at : Location} {he
         last_is = refl;
         stands = record {
           names_are = stands.names_are;
-          location_is = location_behind line before (origin_of at said) refl refl
+          location_is = location_after line before (origin_of at said) refl refl
               ∙ (ap (λ here. moved (origin_of at said) here (declared_size said)) stands.location_is ∙ there);
           assembled_are =
               rw (
                 stands.assembled_are,
                 assemble_here earlier at (place before line) held said bytes
-                    (ap (λ here. behind here 0) stands.location_is ∙ here_again at) stands.image_is second free,
+                    (ap (λ here. after here 0) stands.location_is ∙ here_again at) stands.image_is second free,
               ) refl;
           image_is = ap (λ held. placed held at.number bytes) stands.image_is;
           entry_is = stands.entry_is;
@@ -140,23 +140,23 @@ module _ {before : List Line} {earlier : List AssembledLine} {at : Location} {he
   -- an instruction at its place
   pub instr_taken : (found : GplInstr) → InGromOf at → IsTrue (is_valid found) → InstrFits found →
       at.number + length (bytes_of found) ≤ at.grom + 0x2000 → overlaps held at.number (bytes_of found) ≡ false →
-      Taken before number (listed (instr_text found at.number)) false (behind at (length (bytes_of found)))
+      Taken before number (listed (instr_text found at.number)) false (after at (length (bytes_of found)))
       (placed held at.number (bytes_of found))
   unfolding instr_text outcome
   instr_taken found place valid fits within free =
       let n = instr_names found valid in
       let size = size_back found at.number valid in
-      subst (λ operands. Taken before number (listed (with_operands (name_of (mnemonic_of found)) operands)) false (behind at (length (bytes_of found)))
+      subst (λ operands. Taken before number (listed (with_operands (name_of (mnemonic_of found)) operands)) false (after at (length (bytes_of found)))
       (placed held at.number (bytes_of found))) (sym (tokens_are found at.number))
       (taken (name_of (mnemonic_of found)) (shown (tokens_of found at.number)) (Instruction (left_of found at.number))
       (bytes_of found) _ (instr_fit found at.number valid) (shown_some (tokens_of found at.number))
       (rw (n.no_directive, n.reads, skeleton_back (look_up predefined) (address_of at) found at.number valid fits) refl)
-      (rw (instruction_back (look_up predefined) at found valid fits place) refl) refl (ap (behind at) size) (rw size within)
+      (rw (instruction_back (look_up predefined) at found valid fits place) refl) refl (ap (after at) size) (rw size within)
       free)
 
   -- a byte at its place
   pub byte_taken : (b : ℕ) → b < 256 → at.number + 1 ≤ at.grom + 0x2000 → overlaps held at.number (b ∷ []) ≡ false →
-      Taken before number (listed (codes "BYTE " ++ hex_byte b)) false (behind at 1) (placed held at.number (b ∷ []))
+      Taken before number (listed (codes "BYTE " ++ hex_byte b)) false (after at 1) (placed held at.number (b ∷ []))
   unfolding outcome directive byte_digits
   byte_taken b lt within free =
       let few : nat_le b 0xFF ≡ true = grind (arith, nat_tests) in
@@ -199,17 +199,17 @@ module _ {before : List Line} {earlier : List AssembledLine} {at : Location} {he
       refl (rw below refl) (here_again (record { grom = at.grom; number = at.grom + e })) (omega arith)
 
   -- the last line
-  pub end_taken : at.number ≤ at.grom + 0x2000 → Taken before number (listed (codes "END")) true (behind at 0) held
+  pub end_taken : at.number ≤ at.grom + 0x2000 → Taken before number (listed (codes "END")) true (after at 0) held
   unfolding outcome directive
   end_taken within =
       taken (codes "END") None (End None) [] _ (number_fit _ _ (omega arith) (omega arith) refl (omega arith) refl) (inl refl)
       refl refl refl refl (omega arith) refl
 
--- lines behind others that are let through to the last, with the image that all come to
+-- lines after others that are let through to the last, with the image that all come to
 pub record Ends (before : List Line) (number : ℕ) (texts : List (List ℕ)) (bytes : Image) : Type 0 where
   pub all : List Line
   pub found : List AssembledLine
-  pub laid_is : laid_behind check before (numbered number texts) ≡ Ok all
+  pub laid_is : laid_after check before (numbered number texts) ≡ Ok all
   pub names_are : names all ≡ predefined
   pub assembled_are : assembled_lines (assembled_line predefined) all ≡ Ok found
   pub image_is : image found ≡ bytes
@@ -241,7 +241,7 @@ ends_more before number text texts next bytes whole taken ends = record {
   laid_is =
       rw taken.check_is
       (second taken.line.last (Ok (taken.line ∷ before))
-      (laid_behind check (taken.line ∷ before) (numbered (number + 1) texts)) taken.last_is
+      (laid_after check (taken.line ∷ before) (numbered (number + 1) texts)) taken.last_is
       ∙ ends.laid_is);
   names_are = ends.names_are;
   assembled_are = ends.assembled_are;

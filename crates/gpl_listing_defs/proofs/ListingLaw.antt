@@ -23,7 +23,7 @@ use Rattle.listed_lines.proofs.Scans.{all_both}
 use Rattle.listed_lines.proofs.DigitLaws.{word_passes, byte_passes}
 use Rattle.listed_lines.proofs.LineTexts.{in_line, joined, lines_joined, clean, clean_lines, text_of}
 use Rattle.gpl_listing_defs.proofs.Entries.{Entry, Whole, Single, entry_of}
-use Rattle.gpl_listing_defs.proofs.Entries.{placed_behind, placed_free, empty_free, no_overlap, between, between_more, between_size}
+use Rattle.gpl_listing_defs.proofs.Entries.{placed_after, placed_free, empty_free, no_overlap, between, between_more, between_size}
 use Rattle.gpl_listing_defs.proofs.Lines.{Stands, Taken, Ends, at_first, ends_last, ends_more, same_location}
 use Rattle.gpl_listing_defs.proofs.Lines.{instr_taken, byte_taken, grom_taken, aorg_taken, end_taken, instr_in_line}
 
@@ -46,7 +46,7 @@ module _ (image : List ℕ) (low high : ℕ) (bytes : (k : ℕ) → slice_index 
   held_more at more le inside same =
       let there : low + length (between image low at) ≡ at = between_size image low at le (omega arith) in
       ap (λ n. placed (held at) n more) (sym there)
-      ∙ (placed_behind empty low (between image low at) more
+      ∙ (placed_after empty low (between image low at) more
       ∙ ap (placed empty low) (ap (λ t. between image low at ++ t) (sym same) ∙ sym
       (between_more image low at (length more) le)))
 
@@ -114,7 +114,7 @@ module _ (image : List ℕ) (low high : ℕ) (bytes : (k : ℕ) → slice_index 
       (λ first. absurd (omega arith)) in
       ends_more before number _ _ _ _ (held high) e.taken (go (e.taken.line ∷ before) e.taken.earlier (number + 1) e.taken.stands)
 
-  -- GROM and AORG, and what stands behind them
+  -- GROM and AORG, and what stands after them
   origin_from : (loc : Location) (at : ℕ) (texts : List (List ℕ)) → at < 65536 → loc.number ≤ loc.grom + 0x2000 →
       Goes (at / GROM_SIZE * GROM_SIZE) at texts → (before : List Line) (earlier : List AssembledLine) (number : ℕ) →
       Stands before earlier loc (held at) → Ends before number (map listed (origin_texts at ++ texts)) (held high)

@@ -95,7 +95,10 @@ fn take_line(builder: &mut AsmLines, line: &str) -> Result<(), BuildError>
         return Ok(());
     }
     match builder.line(line.as_bytes()) {
-        Ok(()) => Ok(()),
+        Ok(taken) => {
+            drop(taken);
+            Ok(())
+        }
         Err(AsmError::At { .. }) => unreachable!(),
         Err(AsmError::Memory) => Err(BuildError::Memory),
     }

@@ -11,7 +11,7 @@ use Rattle.gpl_source_defs.specs.declared.causes.GplCause.{GplCause}
 use Rattle.gpl_source_defs.specs.declared.causes.GplCause.TheVariants.{DuplicateLabel, GromFull, BadDirective}
 use Rattle.gpl_source_defs.specs.declared.location.Location.{Location}
 use Rattle.gpl_source_defs.specs.Statements.{Statement, Nothing, Grom, Aorg, Equ, Bss, End, statement_at, declared_size}
-use Rattle.gpl_source_defs.specs.Locations.{address_of, origin_of, behind, passes, IsInGrom}
+use Rattle.gpl_source_defs.specs.Locations.{address_of, origin_of, after, passes, IsInGrom}
 use Rattle.gpl_source_defs.specs.FirstChecks.{Checked, as_text, checked, is_bad, is_full, is_taken, parsed}
 use Rattle.grom_defs.specs.declared.size.TheConstants.{GROM_SIZE}
 
@@ -46,7 +46,7 @@ is_let_through known here text found e =
     }
 
 -- a line leads to a location of its GROM
-fitting : (here : Location) (bytes : ℕ) → IsInGrom here → passes here bytes ≡ false → IsInGrom (behind here bytes)
+fitting : (here : Location) (bytes : ℕ) → IsInGrom here → passes here bytes ≡ false → IsInGrom (after here bytes)
 fitting here bytes is fits = record {
   aligned = is.aligned;
   address = is.address;
@@ -54,7 +54,7 @@ fitting here bytes is fits = record {
   within = grind (arith, nat_tests, fits);
 }
 
-at_start : (address : ℕ) → address ≤ 65535 → not (address % GROM_SIZE == 0) ≡ false → IsInGrom (behind (record { grom = address; number = address }) 0)
+at_start : (address : ℕ) → address ≤ 65535 → not (address % GROM_SIZE == 0) ≡ false → IsInGrom (after (record { grom = address; number = address }) 0)
 at_start address le fine = record {
   aligned = grind (arith, nat_tests, fine);
   address = le;
@@ -63,7 +63,7 @@ at_start address le fine = record {
 }
 
 at_offset : (here : Location) (offset : ℕ) → IsInGrom here → not (nat_lt offset GROM_SIZE) ≡ false
-    → IsInGrom (behind (record { grom = here.grom; number = here.grom + offset }) 0)
+    → IsInGrom (after (record { grom = here.grom; number = here.grom + offset }) 0)
 at_offset here offset is fine = record {
   aligned = is.aligned;
   address = is.address;
@@ -72,7 +72,7 @@ at_offset here offset is fine = record {
 }
 
 pub leads : (here : Location) (label : Option (List ℕ)) (statement : Statement) → IsInGrom here → IfSome (origin_of here statement) (λ origin. origin.grom ≤ 65535)
-    → is_full here statement ≡ false → is_bad label statement ≡ false → IsInGrom (behind (set_or (origin_of here statement) here) (declared_size statement))
+    → is_full here statement ≡ false → is_bad label statement ≡ false → IsInGrom (after (set_or (origin_of here statement) here) (declared_size statement))
 leads here None (Grom address) is le fits fine = at_start address le fine
 leads here (Some name) (Grom address) is le fits fine = at_start address le fine
 leads here None (Aorg offset) is le fits fine = at_offset here offset is fine

@@ -46,10 +46,10 @@ expr_stays (Err error) second same closed = ap as_expr (same closed)
 on : {A B : Type 0} (first second : Result A GplCause) (make : A → Result B GplCause) → Stays is_unresolved first second → Stays is_unresolved (first >>= make) (second >>= make)
 on first second make same = stays_then is_unresolved first second make make same (λ value. stays_same is_unresolved (make value))
 
--- an answer that asks for no name, and one that does behind it
-behind : {A B : Type 0} (first : Result A GplCause) (make other : A → Result B GplCause) → ((value : A) → Stays is_unresolved (make value) (other value))
+-- an answer that asks for no name, and one that does after it
+after : {A B : Type 0} (first : Result A GplCause) (make other : A → Result B GplCause) → ((value : A) → Stays is_unresolved (make value) (other value))
     → Stays is_unresolved (first >>= make) (first >>= other)
-behind first make other next = stays_then is_unresolved first first make other (stays_same is_unresolved first) next
+after first make other next = stays_then is_unresolved first first make other (stays_same is_unresolved first) next
 
 taken_stays : {A : Type 0} (taken : Bool) (first second : Result A GplCause) → Stays is_unresolved first second → Stays is_unresolved (where_taken taken first) (where_taken taken second)
 taken_stays true first second same = same
@@ -96,7 +96,7 @@ module _ (look more : List ℕ → Option Value) (grows : (name : List ℕ) (val
 
     two_stays : (op : TwoName) (word : Bool) (field : List ℕ) → Stays is_unresolved (two_skeleton look here op word field) (two_skeleton more here op word field)
     two_stays op word field =
-        behind (two_forms (operand_texts field)) _ _
+        after (two_forms (operand_texts field)) _ _
         (λ forms.
         taken_stays (takes_two op forms.0 forms.1) _ _
         (stays_then is_unresolved (operand_in look here forms.0) (operand_in more here forms.0) _ _ (operand_in_stays forms.0)
@@ -104,7 +104,7 @@ module _ (look more : List ℕ → Option Value) (grows : (name : List ℕ) (val
 
     move_stays : (field : List ℕ) → Stays is_unresolved (move_skeleton look here field) (move_skeleton more here field)
     move_stays field =
-        behind (move_forms (operand_texts field)) _ _
+        after (move_forms (operand_texts field)) _ _
         (λ forms.
         taken_stays (takes_move forms.length forms.to forms.from) _ _
         (stays_then is_unresolved (source_in look here forms.length) (source_in more here forms.length) _ _ (source_in_stays forms.length)
@@ -112,13 +112,13 @@ module _ (look more : List ℕ → Option Value) (grows : (name : List ℕ) (val
 
     skeleton_stays : (found : Mnemonic) (field : List ℕ) → Stays is_unresolved (skeleton look here found field) (skeleton more here found field)
     skeleton_stays (instr.One op word) field =
-        behind (one_form (operand_texts field)) _ _ (λ form. on (operand_in look here form) (operand_in more here form) _ (operand_in_stays form))
+        after (one_form (operand_texts field)) _ _ (λ form. on (operand_in look here form) (operand_in more here form) _ (operand_in_stays form))
     skeleton_stays (instr.Two op word) field = two_stays op word field
     skeleton_stays instr.Move field = move_stays field
     skeleton_stays _ field = stays_same is_unresolved _
 
     one_stays : (texts : List (List ℕ)) → Stays is_unresolved (number_of_one look here texts) (number_of_one more here texts)
-    one_stays texts = behind (as_operand (one_operand texts)) _ _ number_stays
+    one_stays texts = after (as_operand (one_operand texts)) _ _ number_stays
 
     directive_stays : (found : Directive) (texts : List (List ℕ)) → Stays is_unresolved (directive_statement look here found texts) (directive_statement more here found texts)
     directive_stays named.Data texts = stays_same is_unresolved _
@@ -182,5 +182,5 @@ module _ (look more : List ℕ → Option Value) (grows : (name : List ℕ) (val
 
 pub said_stays : (known more : Names) → Grows known more → (here : Location) (text : List ℕ) → Stays is_unresolved (parsed known here text) (parsed more here text)
 said_stays known more grows here text =
-    behind (as_text (fields text)) _ _
+    after (as_text (fields text)) _ _
     (λ found. statement_stays (look_up known) (look_up more) grows (address_of here) text found.operation found.operands)

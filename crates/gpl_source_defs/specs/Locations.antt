@@ -21,14 +21,14 @@ Line = Laid Location Statement
 abbrev pub start : Location
 start = record { grom = 0x6000; number = 0x6000 }
 
-abbrev pub behind : Location → ℕ → Location
-behind location bytes = record { grom = location.grom; number = location.number + bytes }
+abbrev pub after : Location → ℕ → Location
+after location bytes = record { grom = location.grom; number = location.number + bytes }
 
 abbrev pub location : List Line → Location
-location before = layout.location start behind before
+location before = layout.location start after before
 
 abbrev pub place : List Line → Line → Location
-place before line = layout.place start behind before line
+place before line = layout.place start after before line
 
 -- What $ and a label stand for. Profile: after the last address of all it is 0.
 abbrev pub address_of : Location → ℕ

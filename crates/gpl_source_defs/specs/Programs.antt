@@ -69,8 +69,8 @@ program_by lines assembled_lines =
     record { image = image assembled_lines; entry = entry assembled_lines; names = names lines }
 
 -- the program of lines that the first checks let through
-abbrev pub program_behind : List Line → Result Program (Refusal GplCause)
-program_behind lines = do
+abbrev pub program_after : List Line → Result Program (Refusal GplCause)
+program_after lines = do
   found ← assembled_lines (assembled_line (names lines)) lines
   Ok (program_by lines found)
 
@@ -78,7 +78,7 @@ program_behind lines = do
 abbrev pub program_of : List (ℕ × List ℕ) → Result Program (Refusal GplCause)
 program_of lines = do
   found ← laid check lines
-  program_behind found
+  program_after found
 
 -- the program of some lines, which count from 1
 abbrev pub program_of_lines : List (List ℕ) → Result Program (Refusal GplCause)

@@ -15,7 +15,7 @@ use Rattle.gpl_defs.specs.declared.instruction.Space.{Space}
 use Rattle.gpl_defs.specs.declared.instruction.Space.TheVariants.{Cpu, Vdp}
 use Rattle.gpl_step_defs.specs.declared.cells.TheConstants.{VISIBLE_CELLS, STATUS}
 use Rattle.gpl_step_defs.specs.State.{GplState, IsState}
-use Rattle.gpl_step_defs.specs.Place.{Place, byte_in, byte_at, behind, value_at}
+use Rattle.gpl_step_defs.specs.Place.{Place, byte_in, byte_at, further, value_at}
 use Rattle.gpl_step_defs.specs.Changes.{Changes, with_pc, with_cell, with_video, with_register, with_byte_in, with_byte, with_value, with_double, status_of}
 use Rattle.gpl_step_defs.specs.Changes.{with_status, status_byte, with_flags, with_bit, with_condition, with_overflow}
 
@@ -65,19 +65,19 @@ byte_fits s p h = by p.space
 
 pub value_fits : (s : GplState) (width : Width) (p : Place) → IsState s → value_at s width p < modulus width
 value_fits s Byte p h = byte_fits s p h
-value_fits s Word p h = join-fits (byte_at s p) (byte_at s (behind 1 p)) (byte_fits s p h) (byte_fits s (behind 1 p) h)
+value_fits s Word p h = join-fits (byte_at s p) (byte_at s (further 1 p)) (byte_fits s p h) (byte_fits s (further 1 p) h)
 
 pub with_value_keeps : (width : Width) (p : Place) (number : ℕ) (c : Changes) → number < modulus width → Kept c → Kept (with_value width p number c)
 with_value_keeps Byte p number c lt h = with_byte_keeps p number c lt h
 with_value_keeps Word p number c lt h =
-    with_byte_keeps (behind 1 p) (low number) (with_byte p (high number) c) (low-fits number) (with_byte_keeps p (high number) c (high-fits number lt) h)
+    with_byte_keeps (further 1 p) (low number) (with_byte p (high number) c) (low-fits number) (with_byte_keeps p (high number) c (high-fits number lt) h)
 
 pub with_double_keeps : (width : Width) (p : Place) (number : ℕ) (c : Changes) → number < modulus width * modulus width → Kept c → Kept (with_double width p number c)
 with_double_keeps Byte p number c lt h = with_value_keeps Word p number c lt h
 with_double_keeps Word p number c lt h =
     let more : number / 65536 < 65536 = omega arith in
     let less : number % 65536 < 65536 = omega arith in
-    with_value_keeps Word (behind 2 p) (number % 65536) (with_value Word p (number / 65536) c) less (with_value_keeps Word p (number / 65536) c more h)
+    with_value_keeps Word (further 2 p) (number % 65536) (with_value Word p (number / 65536) c) less (with_value_keeps Word p (number / 65536) c more h)
 
 -- ---- the status
 

@@ -31,7 +31,7 @@ use Rattle.gpl_defs.specs.Valid.{has_words}
 use Rattle.gpl_step_defs.specs.declared.cells.TheConstants.{VALUE_STACK, RETURN_STACK, RANDOM, SEED}
 use Rattle.gpl_step_defs.specs.declared.reason.Reason.{Reason}
 use Rattle.gpl_step_defs.specs.State.{GplState, IsState}
-use Rattle.gpl_step_defs.specs.Place.{Place, behind, is_visible, word_at}
+use Rattle.gpl_step_defs.specs.Place.{Place, further, is_visible, word_at}
 use Rattle.gpl_step_defs.specs.Changes.{Changes, condition, with_pc, with_value, with_cell, with_overflow, status_of}
 use Rattle.gpl_step_defs.specs.Arithmetic.{with_result, Source, with_quotient, divided, exchanged, count_of, repeated, repeated_sign, shifted_left, shifted_right}
 use Rattle.gpl_step_defs.specs.Arithmetic.{two}
@@ -97,7 +97,7 @@ divided_keeps width at dividend divisor c lt h = by (nat_lt 0 divisor) (nat_lt (
         let fits : dividend / divisor < modulus width = grind (arith, nat_tests) in
         let rest : dividend % divisor < modulus width = omega (arith, some, lt) in
         with_overflow_keeps false (with_quotient width at (dividend / divisor) (dividend % divisor) c)
-        (with_value_keeps width (behind (size_of width) at) (dividend % divisor) (with_value width at (dividend / divisor) c) rest (with_value_keeps width at (dividend / divisor) c fits h))
+        (with_value_keeps width (further (size_of width) at) (dividend % divisor) (with_value width at (dividend / divisor) c) rest (with_value_keeps width at (dividend / divisor) c fits h))
 
 exchanged_keeps : (width : Width) (at : Place) (old : ℕ) (source : Source) (place : Option Place) (c : Changes) → old < modulus width → source.number < modulus width → Kept c → Kept (exchanged width at old source place c)
 exchanged_keeps width at old source None c p q h = with_value_keeps width at source.number c q h

@@ -60,15 +60,15 @@ unfolding zeros reading operand_at after
 pointer_at_the_status = refl
 
 -- ST *>8300(@>8302),9 over a pointer to >10 and an index of 4
-pub index_behind_pointer : cells_of (0x14 ∷ []) (steps 1 (given (0 ∷ 0x10 ∷ 0 ∷ 4 ∷ []) (0xBE ∷ 0xD0 ∷ 0 ∷ 2 ∷ 9 ∷ [])))
+pub index_after_pointer : cells_of (0x14 ∷ []) (steps 1 (given (0 ∷ 0x10 ∷ 0 ∷ 4 ∷ []) (0xBE ∷ 0xD0 ∷ 0 ∷ 2 ∷ 9 ∷ [])))
     ≡ Ok (5 ∷ 9 ∷ [])
 unfolding zeros reading operand_at after
-index_behind_pointer = refl
+index_after_pointer = refl
 
 -- ADD @>837C,1
-pub status_behind_the_sum : cells_of (0x7C ∷ []) (steps 1 (program (0xA2 ∷ 0x7C ∷ 1 ∷ []))) ≡ Ok (3 ∷ 0xC0 ∷ [])
+pub status_after_the_sum : cells_of (0x7C ∷ []) (steps 1 (program (0xA2 ∷ 0x7C ∷ 1 ∷ []))) ≡ Ok (3 ∷ 0xC0 ∷ [])
 unfolding zeros reading operand_at after
-status_behind_the_sum = refl
+status_after_the_sum = refl
 
 -- DEC @>8300 over 0 and over 1
 pub borrow_clears_the_carry : each [] ((0x92 ∷ 0 ∷ []) ∷ []) (0 ∷ 0x7C ∷ []) ++ each (1 ∷ []) ((0x92 ∷ 0 ∷ []) ∷ []) (0 ∷ 0x7C ∷ [])

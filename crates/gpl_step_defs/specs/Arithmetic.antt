@@ -44,7 +44,7 @@ use Rattle.gpl_defs.specs.declared.instruction.TwoName.TheVariants.{
   SRL,
   SRC,
 }
-use Rattle.gpl_step_defs.specs.Place.{Place, behind, double_at}
+use Rattle.gpl_step_defs.specs.Place.{Place, further, double_at}
 use Rattle.gpl_step_defs.specs.Changes.{Changes, with_value, with_double, with_flags, with_condition, with_overflow}
 
 -- A result with the status bits that the processor's operation has at that width.
@@ -52,6 +52,7 @@ use Rattle.gpl_step_defs.specs.Changes.{Changes, with_value, with_double, with_f
 abbrev pub with_result : Width → Place → ℕ → Flags → Changes → Changes
 with_result width at number flags c = with_flags flags (with_value width at number c)
 
+-- The sum of two values is stored at a place, and the status has its flags.
 -- GPL Programmer's Guide, the statements for sums and differences.
 abbrev pub added : Width → Place → ℕ → ℕ → Changes → Changes
 added width at x y c = with_result width at (sum_of width x y) (sum_flags width x y) c
@@ -76,7 +77,7 @@ has_quotient width dividend divisor = nat_lt 0 divisor && nat_lt (dividend / div
 
 abbrev pub with_quotient : Width → Place → ℕ → ℕ → Changes → Changes
 with_quotient width at quotient remainder c =
-    with_value width (behind (size_of width) at) remainder (with_value width at quotient c)
+    with_value width (further (size_of width) at) remainder (with_value width at quotient c)
 
 -- GPL Programmer's Guide, "Divide": the quotient, and after it the remainder.
 -- Profile: OVF is cleared; where the quotient does not fit it is set, and nothing else changes.

@@ -11,7 +11,7 @@ use Rattle.gpl_step_defs.specs.declared.cells.TheConstants.{STATUS, CHARACTER, R
 use Rattle.gpl_step_defs.specs.declared.status_bits.TheConstants.{HIGHER_BIT, GREATER_BIT, CONDITION_BIT, CARRY_BIT}
 use Rattle.gpl_step_defs.specs.declared.status_bits.TheConstants.{OVERFLOW_BIT}
 use Rattle.gpl_step_defs.specs.State.{GplState}
-use Rattle.gpl_step_defs.specs.Place.{Place, behind}
+use Rattle.gpl_step_defs.specs.Place.{Place, further}
 use Rattle.gpl_step_defs.specs.declared.limits.TheConstants.{SCREEN_WIDTH}
 
 -- the state so far, and whether a byte was stored at the character's cell
@@ -54,12 +54,12 @@ with_byte p byte c = with_byte_in p.space p.address byte c
 -- GPL Programmer's Guide, the statements: a number of a width, its high byte first
 abbrev pub with_value : Width → Place → ℕ → Changes → Changes
 with_value Byte p number c = with_byte p number c
-with_value Word p number c = with_byte (behind 1 p) (low number) (with_byte p (high number) c)
+with_value Word p number c = with_byte (further 1 p) (low number) (with_byte p (high number) c)
 
 -- GPL Programmer's Guide, "Multiply", "Divide": a number of twice a width, its high part first
 abbrev pub with_double : Width → Place → ℕ → Changes → Changes
 with_double Byte p number c = with_value Word p number c
-with_double Word p number c = with_value Word (behind 2 p) (number % 65536) (with_value Word p (number / 65536) c)
+with_double Word p number c = with_value Word (further 2 p) (number % 65536) (with_value Word p (number / 65536) c)
 
 -- The status. GPL Programmer's Guide, on the status byte: the bits H, GT, COND, CARRY and OVF.
 
@@ -79,10 +79,10 @@ status_byte flags =
 abbrev pub with_flags : Flags → Changes → Changes
 with_flags flags c = with_status (status_byte flags) c
 
--- one bit of the status is set or cleared, and no other changes
+-- the status bit of a mask is set if the test holds, and cleared if not; no other changes
 abbrev pub with_bit : ℕ → Bool → Changes → Changes
-with_bit bit true c = with_status (ones_set (status_of c.state) bit) c
-with_bit bit false c = with_status (ones_cleared Byte (status_of c.state) bit) c
+with_bit mask true c = with_status (ones_set (status_of c.state) mask) c
+with_bit mask false c = with_status (ones_cleared Byte (status_of c.state) mask) c
 
 abbrev pub condition : GplState → Bool
 condition s = is_set (status_of s) CONDITION_BIT

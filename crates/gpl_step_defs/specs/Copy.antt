@@ -12,7 +12,7 @@ use Rattle.gpl_defs.specs.declared.instruction.MoveSource.TheVariants as source
 use Rattle.gpl_step_defs.specs.declared.reason.Reason.{Reason}
 use Rattle.gpl_step_defs.specs.declared.reason.Reason.TheVariants.{Length, Register}
 use Rattle.gpl_step_defs.specs.State.{GplState}
-use Rattle.gpl_step_defs.specs.Place.{Place, behind, place_of, indexed, byte_at, value_at}
+use Rattle.gpl_step_defs.specs.Place.{Place, further, place_of, indexed, byte_at, value_at}
 use Rattle.gpl_step_defs.specs.Changes.{Changes, with_byte, with_register}
 use Rattle.gpl_step_defs.specs.declared.limits.TheConstants.{MOST_MOVED, VIDEO_REGISTERS}
 
@@ -53,7 +53,7 @@ byte_from (FromGrom address) s = slice_index s.image address
 
 -- what follows in memory, in the same GROM, and among the registers
 abbrev pub next_from : From → From
-next_from (FromMemory p) = FromMemory (behind 1 p)
+next_from (FromMemory p) = FromMemory (further 1 p)
 next_from (FromGrom address) = FromGrom (next_in_grom address)
 
 abbrev pub with_byte_to : To → ℕ → Changes → Changes
@@ -61,7 +61,7 @@ with_byte_to (ToMemory p) byte c = with_byte p byte c
 with_byte_to (ToRegisters number) byte c = with_register number byte c
 
 abbrev pub next_to : To → To
-next_to (ToMemory p) = ToMemory (behind 1 p)
+next_to (ToMemory p) = ToMemory (further 1 p)
 next_to (ToRegisters number) = ToRegisters (number + 1)
 
 -- Profile: the bytes go upward one by one, so that a byte that was copied may be copied again.

@@ -22,8 +22,8 @@ pub record Place : Type 0 where
   pub address : ℕ
 
 -- a number of bytes after a place
-abbrev pub behind : ℕ → Place → Place
-behind bytes p = record p { address = plus p.address bytes }
+abbrev pub further : ℕ → Place → Place
+further bytes p = record p { address = plus p.address bytes }
 
 -- So many cells from an offset on are visible. Profile: the sum is taken without wrap.
 abbrev pub is_visible : ℕ → ℕ → Bool
@@ -69,9 +69,9 @@ byte_at s p = byte_in p.space s p.address
 -- the number of a width at a place, its high byte first
 abbrev pub value_at : GplState → Width → Place → ℕ
 value_at s Byte p = byte_at s p
-value_at s Word p = join (byte_at s p) (byte_at s (behind 1 p))
+value_at s Word p = join (byte_at s p) (byte_at s (further 1 p))
 
 -- the number of twice a width
 abbrev pub double_at : GplState → Width → Place → ℕ
 double_at s Byte p = value_at s Word p
-double_at s Word p = double_word (value_at s Word p) (value_at s Word (behind 2 p))
+double_at s Word p = double_word (value_at s Word p) (value_at s Word (further 2 p))

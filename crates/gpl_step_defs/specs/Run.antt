@@ -34,13 +34,13 @@ run (suc limit) s =
       | Err reason ↦ record { done = 0; last = s; stop = Some reason }
     ]
 
--- The turns of the interpreter in a run: the steps that were done, and the one that stopped.
-abbrev pub with_stop : Option Reason → ℕ → ℕ
-with_stop None done = done
-with_stop (Some reason) done = done + 1
+-- The turns of the interpreter in a run: one for each step that was done, and one for the stop if there is one.
+abbrev pub turns_made : Option Reason → ℕ → ℕ
+turns_made None done = done
+turns_made (Some reason) done = done + 1
 
 abbrev pub turns : ℕ → GplState → ℕ
-turns limit s = with_stop (run limit s).stop (run limit s).done
+turns limit s = turns_made (run limit s).stop (run limit s).done
 
 -- How many instructions of the processor a step may take at most.
 -- Profile: 400 where it stops; else 440, and 64 for each byte that MOVE copies, and 6,144 for ALL.

@@ -87,11 +87,11 @@ halted_by items z w u v reason (Ok next) t = absurd (let a = t.0 in cc)
 halted_by items z w u v reason (Err other) t =
     same_watching items (shown_by z.cpu.memory) (shown_by w.cpu.memory) (sym t.2.cells) (sym t.2.vdp)
 
--- the first that holds, where the address that a session stands at was told
-pub first_told : (z : SessionState) (watched : List WatchedItem) {pc : ℕ} {o : Option ℕ}
+-- the first that holds, where the address that a session stands at is known
+pub first_reported : (z : SessionState) (watched : List WatchedItem) {pc : ℕ} {o : Option ℕ}
     → pc ≡ address_in z.ended z.machine → o ≡ first_kept (at_address pc (gpl_state_of z)) watched
     → first_kept (gpl_state_of z) watched ≡ o
-first_told z watched e is = sym (is ∙ ap (λ (n : ℕ). first_kept (at_address n (gpl_state_of z)) watched) e)
+first_reported z watched e is = sym (is ∙ ap (λ (n : ℕ). first_kept (at_address n (gpl_state_of z)) watched) e)
 
 module _ {items : List Item} {x y : SessionState} {t u made : ℕ} {watched : List WatchedItem} (z : SessionState)
     (v : ℕ) (p : Watching items x y t u made watched) where

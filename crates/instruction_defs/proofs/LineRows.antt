@@ -30,7 +30,7 @@ look name =
 abbrev line : List ℕ → List ℕ → Result (List Value) FormError
 line operation field = first_checks operation field >>= λ skeleton. second_checks look (Relocatable 0) skeleton
 
--- a move with a word behind it, in lower case; a value in parentheses that is no index
+-- a move with a word after it, in lower case; a value in parentheses that is no index
 moves : line (codes "mov") (codes "@>8300,*5+") ∷ line (codes "A") (codes "@PLACE(R1),R1") ∷ line (codes "MOV") (codes "@'('(1),1") ∷ []
     ≡ Ok (Absolute 0xCD60 ∷ Absolute 0x8300 ∷ []) ∷ Ok (Absolute 0xA061 ∷ Relocatable 8 ∷ []) ∷ Ok (Absolute 0xC061 ∷ Absolute 0x28 ∷ []) ∷ []
 unfolding mnemonic form_of first_checks second_checks token_at tokens_from in_quotes operands_from

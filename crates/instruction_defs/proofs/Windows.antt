@@ -6,7 +6,7 @@ use Rattle.tms_defs.specs.Instructions.{instr_at, operation_of}
 use Rattle.tms_defs.specs.declared.instruction.Place.{Place}
 use Rattle.tms_defs.specs.declared.instruction.Instr.{Instr}
 use Rattle.tms_defs.specs.declared.instruction.Instr.TheVariants.{Two, Reg, One, Imm, Bare}
-use Rattle.instruction_defs.specs.Operations.{name_of}
+use Rattle.tms_defs.specs.Instructions.{name_of}
 use Rattle.instruction_defs.specs.Operands.{following_words, has_immediate, has_value, size_in_words}
 use Rattle.instruction_defs.specs.Printed.{printed, printed_where, operands_text, operand_text, two_texts, with_operands}
 use Rattle.count_defs.specs.Counts.{one_if}

@@ -17,7 +17,7 @@ use Rattle.tms_defs.specs.declared.instruction.JumpOp.{JumpOp}
 use Rattle.tms_defs.specs.declared.instruction.JumpOp.TheVariants.{SBO, SBZ, TB}
 use Rattle.tms_defs.specs.declared.instruction.Instr.{Instr}
 use Rattle.tms_defs.specs.declared.instruction.Instr.TheVariants.{Two, Reg, Shift, One, Jump, Imm, Bare}
-use Rattle.instruction_defs.specs.Operations.{name_of}
+use Rattle.tms_defs.specs.Instructions.{name_of}
 use Rattle.instruction_defs.specs.Operands.{following_words, has_immediate, has_value, size_in_words}
 
 abbrev pub register_text : ℕ → List ℕ

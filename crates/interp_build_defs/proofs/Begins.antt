@@ -23,14 +23,14 @@ holds_entry entry bytes zeros = record {
   size = length_with bytes entry_cell entry ∙ zeros.size;
   word = same_word bytes entry_cell entry (omega (arith, zeros.size));
   before = λ at below. other_byte bytes entry_cell entry at (omega arith) (omega arith) ∙ zeros.zeros at;
-  behind = λ at past. other_byte bytes entry_cell entry at (omega arith) (omega arith) ∙ zeros.zeros at;
+  beyond = λ at past. other_byte bytes entry_cell entry at (omega arith) (omega arith) ∙ zeros.zeros at;
 }
 
--- Low expansion memory holds words from its beginning on, and behind them zeros.
+-- Low expansion memory holds words from its beginning on, and after them zeros.
 record Holds (shipped : List ℕ) (bytes : List ℕ) : Type 0 where
   size : length bytes ≡ 8192
   words : (number : ℕ) → number < length shipped → word_in bytes (2 * number) ≡ slice_index shipped number
-  behind : (at : ℕ) → 2 * length shipped ≤ at → slice_index bytes at ≡ 0
+  beyond : (at : ℕ) → 2 * length shipped ≤ at → slice_index bytes at ≡ 0
 
 -- A memory that words that are shipped are loaded into.
 record Stands (shipped image : List ℕ) (entry : ℕ) (memory : Memory) : Type 0 where
@@ -50,7 +50,7 @@ stands_placed shipped image linked entry vdp empty after few has new_vdp fresh p
   low_expansion = record {
     size = placed.size ∙ fresh.low_expansion.size;
     words = λ number inside. placed.words number inside (inr (all_occur shipped linked has number inside));
-    behind = λ at past. placed.behind at past ∙ fresh.low_expansion.zeros at;
+    beyond = λ at past. placed.beyond at past ∙ fresh.low_expansion.zeros at;
   };
   high_expansion = subst (HoldsZeros 24576) (sym placed.high_expansion) fresh.high_expansion;
   rom = subst (HoldsZeros 8192) (sym placed.rom) fresh.rom;
@@ -77,7 +77,7 @@ opaque_words = (INTERP, refl, omega arith)
 holds_words : (shipped bytes : List ℕ) → shipped ≡ INTERP → Holds shipped bytes → HoldsWords bytes
 holds_words shipped bytes same holds =
     let these : Holds INTERP bytes = subst (λ (list : List ℕ). Holds list bytes) same holds in
-    record { size = these.size; words = these.words; behind = these.behind }
+    record { size = these.size; words = these.words; beyond = these.beyond }
 
 -- what the interpreter's words are loaded into
 boots : (shipped image : List ℕ) (linked : LinkedMemory) (entry : ℕ) (x : MachineState) → HasShipped shipped linked → length shipped ≤ 4096

@@ -37,7 +37,7 @@ found_first pair pairs =
 pub none_is_not : (word : ℕ) (found : Option ℕ) → found ≡ None → found ≡ Some word → ⊥
 none_is_not word found none some = cc
 
--- what is found behind the first pair is found
+-- what is found after the first pair is found
 found_later : (pair : ℕ × ℕ) (pairs : List (ℕ × ℕ)) (at word : ℕ) → T (below_all nat_cmp pair.0 pairs)
     → find nat_cmp at pairs ≡ Some word → find nat_cmp at (pair ∷ pairs) ≡ Some word
 found_later pair pairs at word below found = by (eq_by_cmp nat_cmp at pair.0) refl

@@ -19,7 +19,7 @@ placed_low memory number word few =
     ap (λ (there : Region). word_placed_in there memory word) (region_low (ORIGIN + 2 * number) (omega arith) (omega arith) ∙ ap LowExpansion at)
 
 -- A memory in which words were placed: all but low expansion memory is as before, each of the words that was right before
--- or occurs among the pairs is right, and behind the words all is as before.
+-- or occurs among the pairs is right, and after the words all is as before.
 pub record Placed (shipped : List ℕ) (pairs : List (ℕ × ℕ)) (before after : Memory) : Type 0 where
   pub scratchpad : after.scratchpad ≡ before.scratchpad
   pub high_expansion : after.high_expansion ≡ before.high_expansion
@@ -30,7 +30,7 @@ pub record Placed (shipped : List ℕ) (pairs : List (ℕ × ℕ)) (before after
   pub words : (number : ℕ) → number < length shipped
       → (word_in before.low_expansion (2 * number) ≡ slice_index shipped number) ⊎ Occurs (ORIGIN + 2 * number) pairs
       → word_in after.low_expansion (2 * number) ≡ slice_index shipped number
-  pub behind : (at : ℕ) → 2 * length shipped ≤ at → slice_index after.low_expansion at ≡ slice_index before.low_expansion at
+  pub beyond : (at : ℕ) → 2 * length shipped ≤ at → slice_index after.low_expansion at ≡ slice_index before.low_expansion at
 
 -- no pair
 placed_none : (shipped : List ℕ) (memory : Memory) → Placed shipped [] memory memory
@@ -42,7 +42,7 @@ placed_none shipped memory = record {
   grom = refl;
   size = refl;
   words = λ number inside held. right number held;
-  behind = λ at past. refl;
+  beyond = λ at past. refl;
 }
   where
     right : (number : ℕ) → (word_in memory.low_expansion (2 * number) ≡ slice_index shipped number) ⊎ ⊥
@@ -82,8 +82,8 @@ placed_word shipped pair pairs before after put few size inside at placed = reco
   grom = placed.grom;
   size = placed.size ∙ length_with before.low_expansion (2 * put) (slice_index shipped put);
   words = λ number within held. placed.words number within (left number held);
-  behind = λ place past.
-      placed.behind place past ∙ other_byte before.low_expansion (2 * put) (slice_index shipped put) place (omega arith) (omega arith);
+  beyond = λ place past.
+      placed.beyond place past ∙ other_byte before.low_expansion (2 * put) (slice_index shipped put) place (omega arith) (omega arith);
 }
   where
     left : (number : ℕ)

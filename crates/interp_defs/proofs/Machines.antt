@@ -9,7 +9,7 @@ use Rattle.console_defs.proofs.RunLaws.{steps-add}
 use Rattle.gpl_step_defs.specs.declared.reason.Reason.{Reason}
 use Rattle.gpl_step_defs.specs.State.{GplState, start}
 use Rattle.gpl_step_defs.specs.Run as gpl
-use Rattle.gpl_step_defs.specs.Run.{GplRun, bound, one_more, run, turns, with_stop}
+use Rattle.gpl_step_defs.specs.Run.{GplRun, bound, one_more, run, turns, turns_made}
 use Rattle.gpl_step_defs.specs.Step.{step}
 use Rattle.gpl_step_defs.proofs.RunLaws.{runs_are_steps}
 use Rattle.interp_defs.specs.Boot.{IsBoot}
@@ -111,25 +111,6 @@ module _ (s : GplState) (earlier led turn : ℕ) (x z y : MachineState) (w : Tur
         next = λ i below. by_place i below (eqb i earlier) refl;
       }
 
--- instructions after instructions
-led_on : (a b c : ℕ) (x y z : MachineState) → steps a x ≡ Gives y → steps b y ≡ Gives z → c ≡ a + b
-    → steps c x ≡ Gives z
-led_on a b c x y z first second sum =
-    ap (λ n. steps n x) sum ∙ steps-add a b x ∙ ap (λ (r : Answer MachineState). r >>= steps b) first ∙ second
-
--- all turns lead on from the first machine
-leads : (s : GplState) (number count : ℕ) (x y : MachineState) (w : TurnsMade s number count x y) (i : ℕ) → i ≤ number
-    → steps (w.made i) x ≡ Gives (w.machine i)
-leads s number count x y w zero within = ap (λ n. steps n x) w.none ∙ ap (λ m. Gives m) (sym w.first)
-leads s number count x y w (suc i) within =
-    let more : i + 1 ≡ suc i = omega arith in
-    let t = w.next i (omega (arith, within)) in
-    let before = leads s number count x y w i (omega (arith, within)) in
-    let on : steps (w.made (i + 1)) x ≡ Gives (w.machine (i + 1)) =
-    led_on (w.made i) t.1.turn (w.made (i + 1)) x (w.machine i) (w.machine (i + 1)) before t.1.is_turn.runs.leads
-    t.1.adds in
-    subst (λ k. steps (w.made k) x ≡ Gives (w.machine k)) more on
-
 -- a run of as many steps as were made does not stop, and is at the same state
 state_of : GplState → Result GplState Reason → GplState
 state_of other (Ok s) = s
@@ -179,12 +160,12 @@ module _ (s : GplState) (limit count : ℕ) (x y : MachineState) (w : TurnsMade 
   matched : (stop : Option Reason) → (run limit s).stop ≡ stop → EndsAs stop (run limit s).last y
       → (i : ℕ) → i ≤ (run limit s).done → Matches (run i s).last (w.machine i)
   matched (Some reason) is ends i within =
-      let all : turns limit s ≡ (run limit s).done + 1 = ap (λ o. with_stop o (run limit s).done) is in
+      let all : turns limit s ≡ (run limit s).done + 1 = ap (λ o. turns_made o (run limit s).done) is in
       (w.next i (omega (arith, all, within))).0
   matched None is ends i within = by (nat_lt i (run limit s).done) refl
     where
       all : turns limit s ≡ (run limit s).done
-      all = ap (λ (o : Option Reason). with_stop o (run limit s).done) is
+      all = ap (λ (o : Option Reason). turns_made o (run limit s).done) is
 
       by : (less : Bool) → nat_lt i (run limit s).done ≡ less → Matches (run i s).last (w.machine i)
       by true l = let below : i < turns limit s = grind (arith, nat_tests) in (w.next i below).0
@@ -194,18 +175,14 @@ module _ (s : GplState) (limit count : ℕ) (x y : MachineState) (w : TurnsMade 
           let state : (run i s).last ≡ (run limit s).last = ap (λ (k : ℕ). (run k s).last) here ∙ all_made limit s in
           subst (λ m. Matches (run i s).last m) (sym machine) (subst (λ t. Matches t y) (sym state) ends)
 
-  state_at : (i : ℕ) → (run i s).done ≡ i → gpl.steps i s ≡ Ok (run i s).last
-  state_at i made = subst (λ n. gpl.steps n s ≡ Ok (run i s).last) made (runs_are_steps i s).steps
-
   pub runs_steps : EndsAs (run limit s).stop (run limit s).last y → RunsSteps s limit count x y
   runs_steps ends =
       record {
         machine = w.machine;
         instructions = w.made;
+        first = w.first;
         none = w.none;
         machines = record {
-          leads = leads s (turns limit s) count x y w;
-          states = λ i within. state_at i (run_made limit s i within).0;
           matches = matched (run limit s).stop refl ends;
           next = λ i below. (w.next i below).1;
         };
@@ -213,12 +190,6 @@ module _ (s : GplState) (limit count : ℕ) (x y : MachineState) (w : TurnsMade 
         all = w.all;
         ends = ends;
       }
-
--- the first machine is the one that the run begins with
-begins : {s : GplState} {limit count : ℕ} {x y : MachineState} (r : RunsSteps s limit count x y) → x ≡ r.machine 0
-begins {x = x} r =
-    let given : Gives x ≡ Gives (r.machine 0) = ap (λ n. steps n x) (sym r.none) ∙ r.machines.leads 0 (omega arith) in
-    cc given
 
 -- what is counted from a later number on
 counted_on : (s : GplState) (count before after : ℕ) (x y : MachineState) → TurnsWithin s before after x y
@@ -239,13 +210,9 @@ runs_program {image} {entry} {limit} {count} {made} {boot} {first} {left} is_mac
       instructions = λ i. count + r.instructions i;
       first =
           subst (λ n. Boots n boot (r.machine 0)) (omega (arith, r.none))
-          (subst (λ m. Boots count boot m) (begins r) boots);
+          (subst (λ m. Boots count boot m) (sym r.first) boots);
       within = omega (arith, r.none, within);
       machines = record {
-        leads = λ i below.
-            led_on count (r.instructions i) (count + r.instructions i) boot first (r.machine i) boots.leads
-            (r.machines.leads i below) refl;
-        states = r.machines.states;
         matches = r.machines.matches;
         next = λ i below.
             counted_on (run i (start image entry)).last count (r.instructions i) (r.instructions (i + 1))
@@ -254,3 +221,22 @@ runs_program {image} {entry} {limit} {count} {made} {boot} {first} {left} is_mac
       last = r.last;
       ends = r.ends;
     }
+
+-- The law that the numbers of instructions are those from boot: so many lead from there to the machine after each turn.
+pub machines_follow : {image : List ℕ} {entry limit : ℕ} {left : MachineState} (p : RunsProgram image entry limit left)
+    (i : ℕ) → i ≤ turns limit (start image entry) → steps (p.instructions i) p.boot ≡ Gives (p.machine i)
+machines_follow p zero within = p.first.leads
+machines_follow {image} {entry} {limit} p (suc i) within =
+    let more : i + 1 ≡ suc i = omega arith in
+    let t = p.machines.next i (omega (arith, within)) in
+    let on : steps (p.instructions (i + 1)) p.boot ≡ Gives (p.machine (i + 1)) =
+    ap (λ n. steps n p.boot) t.adds
+    ∙ steps-add (p.instructions i) t.turn p.boot
+    ∙ ap (λ (r : Answer MachineState). r >>= steps t.turn) (machines_follow p i (omega (arith, within)))
+    ∙ t.is_turn.runs.leads in
+    subst (λ k. steps (p.instructions k) p.boot ≡ Gives (p.machine k)) more on
+
+-- The law that the states are those of the steps: each is the one after so many steps in a row.
+pub states_follow : (limit : ℕ) (s : GplState) (i : ℕ) → i ≤ (run limit s).done → gpl.steps i s ≡ Ok (run i s).last
+states_follow limit s i within =
+    subst (λ n. gpl.steps n s ≡ Ok (run i s).last) (run_made limit s i within).0 (runs_are_steps i s).steps

@@ -48,32 +48,32 @@ module _ (xs ys : List ℕ) (fits : (at : ℕ) → slice_index xs at < 256) (fit
       ((k : ℕ) → k < place → slice_index xs k ≡ 0) → ((k : ℕ) → k < place → slice_index ys k ≡ 0) →
       ((k : ℕ) → place + 2 ≤ k → slice_index xs k ≡ 0) → ((k : ℕ) → place + 2 ≤ k → slice_index ys k ≡ 0) →
       slice_index xs at ≡ slice_index ys at
-  one_word place at same before before_too behind behind_too = by (nat_lt at place) refl (nat_lt at (place + 2)) refl
+  one_word place at same before before_too beyond after_too = by (nat_lt at place) refl (nat_lt at (place + 2)) refl
     where
       by : (first : Bool) → nat_lt at place ≡ first → (inside : Bool) → nat_lt at (place + 2) ≡ inside →
           slice_index xs at ≡ slice_index ys at
       by true f inside i = let lt : at < place = grind (arith, nat_tests) in before at lt ∙ sym (before_too at lt)
       by false f true i = bytes_of_word place at same (grind (arith, nat_tests)) (grind (arith, nat_tests))
-      by false f false i = let le : place + 2 ≤ at = grind (arith, nat_tests) in behind at le ∙ sym (behind_too at le)
+      by false f false i = let le : place + 2 ≤ at = grind (arith, nat_tests) in beyond at le ∙ sym (after_too at le)
 
-  -- Lists with so many words from their beginning on, and zeros behind them, agree.
+  -- Lists with so many words from their beginning on, and zeros after them, agree.
   one_words : (count at : ℕ) → ((number : ℕ) → number < count → word_in xs (2 * number) ≡ word_in ys (2 * number)) →
       ((k : ℕ) → 2 * count ≤ k → slice_index xs k ≡ 0) → ((k : ℕ) → 2 * count ≤ k → slice_index ys k ≡ 0) →
       slice_index xs at ≡ slice_index ys at
-  one_words count at same behind behind_too = by (nat_lt at (2 * count)) refl
+  one_words count at same beyond after_too = by (nat_lt at (2 * count)) refl
     where
       by : (inside : Bool) → nat_lt at (2 * count) ≡ inside → slice_index xs at ≡ slice_index ys at
       by true is =
           let lt : at < 2 * count = grind (arith, nat_tests) in
           bytes_of_word (2 * (at / 2)) at (same (at / 2) (omega arith)) (omega arith) (omega arith)
-      by false is = let le : 2 * count ≤ at = grind (arith, nat_tests) in behind at le ∙ sym (behind_too at le)
+      by false is = let le : 2 * count ≤ at = grind (arith, nat_tests) in beyond at le ∙ sym (after_too at le)
 
 -- One scratchpad holds an entry.
 one_scratchpad : (entry : ℕ) (xs ys : List ℕ) → HoldsBytes 256 xs → HoldsBytes 256 ys → HoldsEntry entry xs →
     HoldsEntry entry ys → xs ≡ ys
 one_scratchpad entry xs ys a b p q =
     same_list xs ys (p.size ∙ sym q.size)
-    (λ at below. one_word xs ys a.fits b.fits 0xE0 at (p.word ∙ sym q.word) p.before q.before p.behind q.behind)
+    (λ at below. one_word xs ys a.fits b.fits 0xE0 at (p.word ∙ sym q.word) p.before q.before p.beyond q.beyond)
 
 -- One low expansion memory holds the interpreter.
 one_low : (xs ys : List ℕ) → HoldsBytes 8192 xs → HoldsBytes 8192 ys → HoldsWords xs → HoldsWords ys → xs ≡ ys
@@ -81,7 +81,7 @@ one_low xs ys a b p q =
     same_list xs ys (p.size ∙ sym q.size)
     (λ at below.
     let same = λ (number : ℕ) (lt : number < length INTERP). p.words number lt ∙ sym (q.words number lt) in
-    one_words xs ys a.fits b.fits (length INTERP) at same p.behind q.behind)
+    one_words xs ys a.fits b.fits (length INTERP) at same p.beyond q.beyond)
 
 -- One video processor is new.
 pub one_vdp : (a b : VdpState) → IsNewVdp a → IsNewVdp b → a ≡ b

@@ -18,13 +18,13 @@ pub record HoldsEntry (entry : ℕ) (scratchpad : List ℕ) : Type 0 where
   pub size : length scratchpad ≡ 256
   pub word : word_in scratchpad entry_cell ≡ entry
   pub before : (at : ℕ) → at < entry_cell → slice_index scratchpad at ≡ 0
-  pub behind : (at : ℕ) → entry_cell + 2 ≤ at → slice_index scratchpad at ≡ 0
+  pub beyond : (at : ℕ) → entry_cell + 2 ≤ at → slice_index scratchpad at ≡ 0
 
 -- Low expansion memory holds the interpreter, and after it zeros.
 pub record HoldsWords (bytes : List ℕ) : Type 0 where
   pub size : length bytes ≡ 8192
   pub words : HoldsInterpreter bytes
-  pub behind : (at : ℕ) → 2 * length INTERP ≤ at → slice_index bytes at ≡ 0
+  pub beyond : (at : ℕ) → 2 * length INTERP ≤ at → slice_index bytes at ≡ 0
 
 -- A machine with the interpreter, an image in the GROMs and the entry of a GPL program in register 0;
 -- all else is as in a new machine.

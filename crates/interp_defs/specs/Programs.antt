@@ -1,10 +1,8 @@
 -- GPL programs run by the interpreter: its machines beside the states of the definitions.
-use Rattle.std.specs.Prelude.{◌≡◌, ◌<◌, ◌≤◌, ℕ, ◌+◌, List, Option, Some, None, Ok}
-use Rattle.tms_defs.specs.Accesses.{Gives}
-use Rattle.console_defs.specs.Machine.{MachineState, IsMachine, steps}
+use Rattle.std.specs.Prelude.{◌≡◌, ◌<◌, ◌≤◌, ℕ, ◌+◌, List, Option, Some, None}
+use Rattle.console_defs.specs.Machine.{MachineState, IsMachine}
 use Rattle.gpl_step_defs.specs.declared.reason.Reason.{Reason}
 use Rattle.gpl_step_defs.specs.State.{GplState, start}
-use Rattle.gpl_step_defs.specs.Run as gpl
 use Rattle.gpl_step_defs.specs.Run.{run, turns, bound}
 use Rattle.interp_defs.specs.Boot.{IsBoot}
 use Rattle.interp_defs.specs.Match.{Matches, IsHalted}
@@ -19,12 +17,9 @@ pub record TurnsWithin (s : GplState) (before after : ℕ) (x y : MachineState) 
   pub adds : after ≡ before + turn
 
 -- The machines of a run of up to `limit` steps from a state: `machine i` is the machine after i turns, and
--- `instructions i` the number of instructions of the processor that lead to it from x. It matches the state after i
--- steps, and the turn from there has at most as many instructions as the bound of that step.
-pub record AreMachines (s : GplState) (limit : ℕ) (x : MachineState) (machine : ℕ → MachineState)
-    (instructions : ℕ → ℕ) : Type 0 where
-  pub leads : (i : ℕ) → i ≤ turns limit s → steps (instructions i) x ≡ Gives (machine i)
-  pub states : (i : ℕ) → i ≤ (run limit s).done → gpl.steps i s ≡ Ok (run i s).last
+-- `instructions i` the number of instructions of the processor up to it. It matches the state after i steps, and the
+-- turn from there has at most as many instructions as the bound of that step.
+pub record AreMachines (s : GplState) (limit : ℕ) (machine : ℕ → MachineState) (instructions : ℕ → ℕ) : Type 0 where
   pub matches : (i : ℕ) → i ≤ (run limit s).done → Matches (run i s).last (machine i)
   pub next : (i : ℕ) → i < turns limit s
       → TurnsWithin (run i s).last (instructions i) (instructions (i + 1)) (machine i) (machine (i + 1))
@@ -34,13 +29,14 @@ abbrev pub EndsAs : Option Reason → GplState → MachineState → Type 0
 EndsAs None last y = Matches last y
 EndsAs (Some reason) last y = IsHalted last reason y
 
--- From x the interpreter makes a run of up to `limit` steps from a state, and y is left: it is the machine after the
--- last turn, and the turns have `count` instructions in all.
+-- From x the interpreter makes a run of up to `limit` steps from a state, and y is left: x is the machine before the
+-- first turn and y the one after the last, and the turns have `count` instructions in all.
 pub record RunsSteps (s : GplState) (limit count : ℕ) (x y : MachineState) : Type 0 where
   pub machine : ℕ → MachineState
   pub instructions : ℕ → ℕ
+  pub first : machine 0 ≡ x
   pub none : instructions 0 ≡ 0
-  pub machines : AreMachines s limit x machine instructions
+  pub machines : AreMachines s limit machine instructions
   pub last : machine (turns limit s) ≡ y
   pub all : instructions (turns limit s) ≡ count
   pub ends : EndsAs (run limit s).stop (run limit s).last y
@@ -61,7 +57,7 @@ pub record RunsProgram (image : List ℕ) (entry limit : ℕ) (left : MachineSta
   pub instructions : ℕ → ℕ
   pub first : Boots (instructions 0) boot (machine 0)
   pub within : instructions 0 ≤ most_of_boot
-  pub machines : AreMachines (start image entry) limit boot machine instructions
+  pub machines : AreMachines (start image entry) limit machine instructions
   pub last : machine (turns limit (start image entry)) ≡ left
   pub ends : let r = run limit (start image entry) in
       EndsAs r.stop r.last left

@@ -58,11 +58,11 @@ fn rows_are_those_of_the_source(rt: HostRuntime) -> Result<(), Fail> {
     for &(index, place, count, first) in LINES {
         assert!(rt; is_row(index, place, count, first), "line {index}");
     }
-    for &(behind, place, count, first) in LAST_LINES {
-        let index = row_count().saturating_sub(behind + 1);
+    for &(after, place, count, first) in LAST_LINES {
+        let index = row_count().saturating_sub(after + 1);
         assert!(rt;
             is_row(index, place, count, first),
-            "{behind} lines before the last"
+            "{after} lines before the last"
         );
     }
     for &(index, name, value) in NAMES {

@@ -99,7 +99,7 @@ all_same (x ∷ z) e = none_differs (is_different x) _ (length z) _ (prefix_len-
 split : (z : List (ℕ × ℕ)) (i n : ℕ) → prefix_len is_same (drop i z) ≡ cond (eqb (prefix_len is_same (chunk i n z)) (length (chunk i n z))) (length (chunk i n z) + prefix_len is_same (drop (i + n) z)) (prefix_len is_same (chunk i n z))
 split z i n = ap (prefix_len is_same) (chunk-drop i n z) ∙ prefix_len-append is_same (chunk i n z) (drop (i + n) z)
 
--- where no lane differs, the search goes on behind the chunk
+-- where no lane differs, the search goes on after the chunk
 pub through : (z : List (ℕ × ℕ)) (i n : ℕ) → i + n ≤ length z → mask_l (map is_different (chunk i n z)) ≡ 0 → prefix_len is_same (drop i z) ≡ n + prefix_len is_same (drop (i + n) z)
 through z i n room none =
     let c = chunk i n z in
@@ -113,7 +113,7 @@ within z i n room few some =
     split z i n ∙ ap (λ b. cond b (length c + prefix_len is_same (drop (i + n) z)) (prefix_len is_same c)) (ne_eqb _ _ (λ (e : prefix_len is_same c ≡ length c). omega (arith, all_same c (sym (same_run c) ∙ e))))
     ∙ same_run c ∙ sym (trailing_mask_l is_different 64 c (omega (arith, length-chunk i n z room)) some)
 
--- the count of a chunk, and of what is behind it
+-- the count of a chunk, and of what is after it
 pub counted : (z : List (ℕ × ℕ)) (i n : ℕ) → count_by is_different (drop i z) ≡ count_ones (mask_l (map is_different (chunk i n z))) + count_by is_different (drop (i + n) z)
 counted z i n =
     let c = chunk i n z in
@@ -144,7 +144,7 @@ module _ (a b : List ℕ) (at : ℕ) (in_a : at < length a) (in_b : at < length 
   pub counted_here : get_or a at 0 ≢ get_or b at 0 → count_by is_different (drop at (zip a b)) ≡ 1 + count_by is_different (drop (at + 1) (zip a b))
   counted_here other = count_here false (ne_eqb _ _ other)
 
--- behind the shorter list there is no place
+-- after the shorter list there is no place
 pub no_place : (a b : List ℕ) (at : ℕ) → min (length a) (length b) ≤ at → prefix_len is_same (drop at (zip a b)) ≡ 0
 no_place a b at le = prefix_len-drop_all is_same (zip a b) at (omega (arith, length-zip a b))
 

@@ -9,7 +9,7 @@ sum_of_lanes : (xs : List ℕ) → sum_l xs ≡ sum xs
 sum_of_lanes [] = refl
 sum_of_lanes (x ∷ xs) = ap (λ s. x + s) (sum_of_lanes xs) ∙ sym (sum_by-cons (λ y. y) x xs)
 
--- the sum from a place on: that of the chunk there, and that of what is behind it
+-- the sum from a place on: that of the chunk there, and that of what is after it
 pub chunk_and_rest : (xs : List ℕ) (i n : ℕ) → sum (drop i xs) ≡ sum (chunk i n xs) + sum (drop (i + n) xs)
 chunk_and_rest xs i n = ap sum (chunk-drop i n xs) ∙ sum_by-append (λ x. x) (chunk i n xs) (drop (i + n) xs)
 

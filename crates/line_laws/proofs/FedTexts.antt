@@ -19,12 +19,12 @@ no_return : (byte : ℕ) → nat_le 0x20 byte ≡ true → is_carriage_return by
 no_return byte e = grind (arith, nat_tests, e)
 
 -- the first line feed is the one that ends the line
-feeds_behind : (text rest : List ℕ) (at : ℕ) → IsWithoutControls text
+feeds_after : (text rest : List ℕ) (at : ℕ) → IsWithoutControls text
     → line_feeds_from at (text ++ 10 ∷ rest) ≡ (at + length text) ∷ line_feeds_from (at + length text + 1) rest
-feeds_behind [] rest at one = let here : at + 0 ≡ at = omega arith in rw here refl
-feeds_behind (byte ∷ bytes) rest at one =
+feeds_after [] rest at one = let here : at + 0 ≡ at = omega arith in rw here refl
+feeds_after (byte ∷ bytes) rest at one =
     let found = both (nat_le 0x20 byte) _ one in
-    let ih = feeds_behind bytes rest (at + 1) found.1 in
+    let ih = feeds_after bytes rest (at + 1) found.1 in
     let here : at + length (byte ∷ bytes) ≡ at + 1 + length bytes = omega arith in
     rw (no_feed byte found.0, ih, here) refl
 
@@ -41,7 +41,7 @@ last_byte [] rest at one lt = absurd (omega (arith, lt))
 last_byte (byte ∷ bytes) rest zero one lt = no_return byte (both _ _ one).0
 last_byte (byte ∷ bytes) rest (suc at) one lt = last_byte bytes rest at (both _ _ one).1 (omega (arith, lt))
 
--- the text behind a front, and its first line
+-- the text after a front, and its first line
 module _ (front text rest : List ℕ) (one : IsWithoutControls text) where
   abbrev whole : List ℕ
   whole = front ++ (text ++ 10 ∷ rest)
@@ -81,7 +81,7 @@ module _ (front text rest : List ℕ) (one : IsWithoutControls text) where
   lines_step number =
       let lt = feed_inside in
       let inside : nat_lt (length front) (length whole) ≡ true = grind (arith, nat_tests) in
-      step_to text rest whole number (length front) (length front + length text) inside (feeds_behind text rest (length front) one)
+      step_to text rest whole number (length front) (length front + length text) inside (feeds_after text rest (length front) one)
 
 -- the lines of a text from a place on, each with its number
 abbrev lines_at : List ℕ → ℕ → ℕ → List ℕ → List (ℕ × List ℕ)
@@ -101,16 +101,16 @@ none_left front number =
     let no : nat_lt (length front) (length (front ++ [])) ≡ false = grind (arith, nat_tests) in
     rw no refl
 
-lines_behind : (texts : List (List ℕ)) (front : List ℕ) (number : ℕ) → AllByRecursion IsWithoutControls texts
+lines_after : (texts : List (List ℕ)) (front : List ℕ) (number : ℕ) → AllByRecursion IsWithoutControls texts
     → lines_at (front ++ fed_text texts) number (length front) (fed_text texts) ≡ numbered number texts
-lines_behind [] front number all = none_left front number
-lines_behind (text ∷ texts) front number all =
+lines_after [] front number all = none_left front number
+lines_after (text ∷ texts) front number all =
     let rest : List ℕ = fed_text texts in
     let ended : List ℕ = text ++ 10 ∷ [] in
     let body : fed_text (text ∷ texts) ≡ text ++ 10 ∷ rest = append_assoc text (10 ∷ []) rest in
     let same : (front ++ ended) ++ rest ≡ front ++ (text ++ 10 ∷ rest) = append_assoc front ended rest ∙ ap (λ xs. front ++ xs) body in
     let size : length (front ++ ended) ≡ length front + length text + 1 = omega (arith, length-append front ended, length-append text (10 ∷ [])) in
-    let ih = lines_behind texts (front ++ ended) (number + 1) all.1 in
+    let ih = lines_after texts (front ++ ended) (number + 1) all.1 in
     let others : lines_at (front ++ (text ++ 10 ∷ rest)) (number + 1) (length front + length text + 1) rest ≡ numbered (number + 1) texts =
     subst (λ at. lines_at (front ++ (text ++ 10 ∷ rest)) (number + 1) at rest ≡ numbered (number + 1) texts) size
     (subst (λ xs. lines_at xs (number + 1) (length (front ++ ended)) rest ≡ numbered (number + 1) texts) same ih) in
@@ -118,4 +118,4 @@ lines_behind (text ∷ texts) front number all =
     (one_more front text rest number all.0 ∙ ap (λ found. (number, text) ∷ found) others)
 
 pub fed_texts_have_their_lines : FedTextsHaveTheirLines
-fed_texts_have_their_lines texts all = lines_behind texts [] 1 all
+fed_texts_have_their_lines texts all = lines_after texts [] 1 all

@@ -1,4 +1,4 @@
--- Lines that are known by themselves are laid one behind the other.
+-- Lines that are known by themselves are laid one after the other.
 use Rattle.std.proofs.Common.{◌≡◌, ℕ, ◌+◌, Bool, true, false, List, [], ◌∷◌, ◌++◌, Some, None, Ok, refl, sym, ap}
 use Rattle.std.proofs.Common.{subst, ◌∙◌, arith}
 use Rattle.std.specs.Prelude.{Option, Result, ◌&&◌, ◌||◌, not, is_some, if◌then◌else◌}
@@ -9,20 +9,20 @@ use Rattle.source_defs.specs.Fields.{Fields, fields}
 use Rattle.expression_defs.specs.Symbols.{Names, look_up}
 use Rattle.expression_defs.specs.Expression.{Value}
 use Rattle.source_defs.specs.Lines.{numbered}
-use Rattle.expression_defs.specs.Layout.{laid_behind, with_names, has_ended, set_or, since_origin, bytes_taken}
+use Rattle.expression_defs.specs.Layout.{laid_after, with_names, has_ended, set_or, since_origin, bytes_taken}
 use Rattle.asm_defs.specs.declared.causes.AsmCause.{AsmCause}
 use Rattle.asm_defs.specs.declared.location.Location.{Location}
 use Rattle.asm_defs.specs.Statements.{Statement, as_text, statement_in, Nothing, Instruction, Aorg, Equ, Data}
-use Rattle.asm_defs.specs.Locations.{Line, behind, location}
+use Rattle.asm_defs.specs.Locations.{Line, after, location}
 use Rattle.asm_defs.specs.FirstChecks.{Checked, ParsedLine, any_known, label_in, moved, checked, check, known_of}
-use Rattle.asm_defs.specs.FirstChecks.{line_of, location_behind, names, refs, defs, refs_in, defs_in, is_end}
+use Rattle.asm_defs.specs.FirstChecks.{line_of, location_after, names, refs, defs, refs_in, defs_in, is_end}
 use Rattle.asm_defs.specs.FirstChecks.{label_entry, external_entries}
 use Rattle.asm_defs.specs.FirstChecks.{is_too_far, is_bad, as_expr, move}
 use Rattle.asm_defs.specs.declared.causes.AsmCause.TheVariants.{Overflow, BadDirective}
 use Rattle.asm_defs.specs.SecondChecks.{outcome}
 use Rattle.asm_defs.proofs.CheckLaws.{bound}
 use Rattle.line_laws.specs.KnownLines.{KnownLine, nothing_before, known_line, known_lines, names_in, all_names}
-use Rattle.line_laws.specs.KnownLines.{names_behind, look_in, are_new, is_plain, is_plain_statement, are_plain}
+use Rattle.line_laws.specs.KnownLines.{names_after, look_in, are_new, is_plain, is_plain_statement, are_plain}
 use Rattle.line_laws.specs.KnownLines.{end_of}
 use Rattle.line_laws.proofs.EarlierLines.{is_free, said_same, moved_same}
 use Rattle.line_laws.proofs.Small.{both, append_none}
@@ -35,17 +35,17 @@ pub record Parts (look : List ℕ → Option Value) (at : Location) (text : List
   pub says : statement_in text there ≡ Ok statement
   pub leads : moved (nothing_before at) (record { label = there.label; statement = statement }) ≡ Ok line.found
   pub comes : outcome look line.at line.found.statement ≡ Ok line.outcome
-  pub stands : line.at ≡ behind at line.found.move.gap
+  pub stands : line.at ≡ after at line.found.move.gap
 
 pub parts_of : (look : List ℕ → Option Value) (at : Location) (text : List ℕ) (line : KnownLine) → known_line look at text ≡ Ok line → Parts look at text line
 parts_of look at text line e =
     let a = bound (as_text (fields text)) _ line e in
     let b = bound (statement_in text a.0) _ line a.2 in
     let c = bound (moved (nothing_before at) (record { label = a.0.label; statement = b.0 })) _ line b.2 in
-    let d = bound (outcome look (behind at c.0.move.gap) c.0.statement) _ line c.2 in
-    let made : ◌≡◌ {A = KnownLine} (record { at = behind at c.0.move.gap; found = c.0; outcome = d.0 }) line = cc (d.2) in
+    let d = bound (outcome look (after at c.0.move.gap) c.0.statement) _ line c.2 in
+    let made : ◌≡◌ {A = KnownLine} (record { at = after at c.0.move.gap; found = c.0; outcome = d.0 }) line = cc (d.2) in
     let is : c.0 ≡ line.found = ap (λ (l : KnownLine). l.found) made in
-    let placed : behind at c.0.move.gap ≡ line.at = ap (λ (l : KnownLine). l.at) made in
+    let placed : after at c.0.move.gap ≡ line.at = ap (λ (l : KnownLine). l.at) made in
     let come : d.0 ≡ line.outcome = ap (λ (l : KnownLine). l.outcome) made in
     record {
       there = a.0;
@@ -54,8 +54,8 @@ parts_of look at text line e =
       says = b.1;
       leads = c.1 ∙ ap Ok is;
       comes = subst (λ place. outcome look place line.found.statement ≡ Ok line.outcome) placed
-          (subst (λ (found : Checked). outcome look (behind at c.0.move.gap) found.statement ≡ Ok line.outcome) is (d.1 ∙ ap Ok come));
-      stands = sym placed ∙ ap (λ (found : Checked). behind at found.move.gap) is;
+          (subst (λ (found : Checked). outcome look (after at c.0.move.gap) found.statement ≡ Ok line.outcome) is (d.1 ∙ ap Ok come));
+      stands = sym placed ∙ ap (λ (found : Checked). after at found.move.gap) is;
     }
 
 let_through : {A : Type 0} (b : Bool) (cause : AsmCause) (value found : A) → unless b cause value ≡ Ok found → value ≡ found
@@ -72,11 +72,11 @@ said_kept at line found e =
     let d = let_through (is_bad before line.label line.statement) BadDirective (record { label = line.label; statement = line.statement; move = b.0 }) found b.2 in
     (ap (λ (line : Checked). line.label) d, ap (λ (line : Checked). line.statement) d)
 
--- a line behind others
+-- a line after others
 module _ (look : List ℕ → Option Value) (text : List ℕ) (line : KnownLine) where
-  pub checked_behind : (before : List Line) → known_line look (location before) text ≡ Ok line → is_free line.found.statement ≡ true
+  pub checked_after : (before : List Line) → known_line look (location before) text ≡ Ok line → is_free line.found.statement ≡ true
       → any_known (names before) (label_in line.found.label) ≡ false → checked (known_of before) text ≡ Ok line.found
-  checked_behind before e free new =
+  checked_after before e free new =
       let p = parts_of look (location before) text line e in
       let kept = said_kept (location before) (record { label = p.there.label; statement = p.statement }) line.found p.leads in
       let free_there : is_free p.statement ≡ true = ap is_free kept.1 ∙ free in
@@ -85,27 +85,27 @@ module _ (look : List ℕ → Option Value) (text : List ℕ) (line : KnownLine)
       (said_same (names before) (location before) (known_of before).reached (defs before) (refs before) text p.there p.statement p.are_fields p.says free_there new_there)
       ∙ moved_same (names before) (location before) (known_of before).reached (defs before) (refs before) (record { label = p.there.label; statement = p.statement }) line.found free_there p.leads
 
-  pub check_behind : (before : List Line) (number : ℕ) → known_line look (location before) text ≡ Ok line → is_free line.found.statement ≡ true
+  pub check_after : (before : List Line) (number : ℕ) → known_line look (location before) text ≡ Ok line → is_free line.found.statement ≡ true
       → any_known (names before) (label_in line.found.label) ≡ false → check before number text ≡ Ok (line_of number line.found)
-  check_behind before number e free new = ap (λ answer. answer >>= λ found. Ok (line_of number found)) (checked_behind before e free new)
+  check_after before number e free new = ap (λ answer. answer >>= λ found. Ok (line_of number found)) (checked_after before e free new)
 
--- the location behind one line more
+-- the location after one line more
 location_by : (origin : Option Location) (here : Location) (before : List Line) (gap size : ℕ)
-    → behind (set_or origin here) (bytes_taken (if is_some origin then [] else since_origin before) + (gap + size))
-    ≡ behind (set_or origin (behind here (bytes_taken (since_origin before)))) (gap + size)
+    → after (set_or origin here) (bytes_taken (if is_some origin then [] else since_origin before) + (gap + size))
+    ≡ after (set_or origin (after here (bytes_taken (since_origin before)))) (gap + size)
 location_by (Some location) here before gap size =
     let sum : 0 + (gap + size) ≡ gap + size = omega arith in
-    ap (behind location) sum
+    ap (after location) sum
 location_by None here before gap size =
     let since = bytes_taken (since_origin before) in
     let sum : here.number + (since + (gap + size)) ≡ here.number + since + (gap + size) = omega arith in
     ap (λ number. record { part = here.part; number = number }) sum
 
 pub location_more : (before : List Line) (number : ℕ) (found : Checked)
-    → location (line_of number found ∷ before) ≡ location_behind (location before) found.move
+    → location (line_of number found ∷ before) ≡ location_after (location before) found.move
 location_more before number found = location_by found.move.origin _ before found.move.gap found.move.size
 
--- what names stand for behind some lines
+-- what names stand for after some lines
 abbrev pub StandFor : Names → List (List ℕ × Value) → Type 0
 StandFor known entries = (name : List ℕ) → look_up known name ≡ look_in entries name
 
@@ -113,16 +113,16 @@ pub one_more : (known : Names) (entries : List (List ℕ × Value)) (entry : Lis
 one_more known entries entry stand name =
     get-insert nat_list_cmp_total known entry.0 entry.1 name ∙ rw (stand name) refl
 
--- names behind others, one list behind the other
-pub names_append : (known entries others : List (List ℕ × Value)) → names_behind known (entries ++ others) ≡ names_behind (names_behind known entries) others
+-- names after others, one list after the other
+pub names_append : (known entries others : List (List ℕ × Value)) → names_after known (entries ++ others) ≡ names_after (names_after known entries) others
 names_append known [] others = refl
 names_append known (entry ∷ entries) others = names_append (entry ∷ known) entries others
 
 -- a line whose label is new
 pub record IsNew (known : Names) (entries more : List (List ℕ × Value)) (label : Option (List ℕ)) (value : Value) : Type 0 where
   pub fresh : any_known known (label_in label) ≡ false
-  pub rest : are_new (names_behind entries (label_entry label value)) more ≡ true
-  pub stand : StandFor (with_names known (label_entry label value)) (names_behind entries (label_entry label value))
+  pub rest : are_new (names_after entries (label_entry label value)) more ≡ true
+  pub stand : StandFor (with_names known (label_entry label value)) (names_after entries (label_entry label value))
 
 not_known : (found : Option Value) (rest : Bool) → (not (is_some found) && rest) ≡ true → (is_some found ≡ false) × (rest ≡ true)
 not_known (Some value) rest e = cc e
@@ -154,7 +154,7 @@ plain_free (Equ text) plain = record { free = refl; refs = refl; defs = refl; go
 plain_free (Data texts) plain = record { free = refl; refs = refl; defs = refl; going_on = refl }
 plain_free _ plain = cc plain
 
--- the lines as they are laid behind others
+-- the lines as they are laid after others
 abbrev pub laid_list : List Line → ℕ → List KnownLine → List Line
 laid_list before number [] = before
 laid_list before number (line ∷ lines) = laid_list (line_of number line.found ∷ before) (number + 1) lines
@@ -165,16 +165,16 @@ append_nothing entries (Some name) value e = ap (λ entries. (name, value) ∷ e
 
 -- what is so of such lines
 pub record AreLaid (look : List ℕ → Option Value) (texts : List (List ℕ)) (lines : List KnownLine) (before : List Line) (number : ℕ) (known : List (List ℕ × Value)) : Type 0 where
-  pub laid : laid_behind check before (numbered number texts) ≡ Ok (laid_list before number lines)
+  pub laid : laid_after check before (numbered number texts) ≡ Ok (laid_list before number lines)
   pub at : location (laid_list before number lines) ≡ end_of (location before) lines
-  pub names : StandFor (names (laid_list before number lines)) (names_behind known (all_names lines))
+  pub names : StandFor (names (laid_list before number lines)) (names_after known (all_names lines))
   pub going_on : has_ended (laid_list before number lines) ≡ has_ended before
   pub refs : refs (laid_list before number lines) ≡ refs before
   pub defs : defs (laid_list before number lines) ≡ defs before
 
 module _ (look : List ℕ → Option Value) where
   abbrev Others : Location → List (List ℕ) → KnownLine → List KnownLine → Type 0
-  Others at texts line others = known_lines look (location_behind at line.found.move) texts ≡ Ok others
+  Others at texts line others = known_lines look (location_after at line.found.move) texts ≡ Ok others
 
   -- the first of some lines, and the others
   pub record First (at : Location) (text : List ℕ) (texts : List (List ℕ)) (line : KnownLine) (lines : List KnownLine) : Type 0 where
@@ -185,11 +185,11 @@ module _ (look : List ℕ → Option Value) where
       → (line : KnownLine) × (others : List KnownLine) × (lines ≡ line ∷ others) × First at text texts line others
   first_of at text texts lines e =
       let a = bound (known_line look at text) _ lines e in
-      let b = bound (known_lines look (location_behind at a.0.found.move) texts) _ lines a.2 in
+      let b = bound (known_lines look (location_after at a.0.found.move) texts) _ lines a.2 in
       (a.0, b.0, sym (cc (b.2)), record { is = a.1; others = b.1 })
 
   going : (check_one : Result Line AsmCause) (found : Line) (before : List Line) (rest : List (ℕ × List ℕ)) (number : ℕ) → check_one ≡ Ok found → found.last ≡ false
-      → (at_line number check_one >>= λ line. if line.last then Ok (line ∷ before) else laid_behind check (line ∷ before) rest) ≡ laid_behind check (found ∷ before) rest
+      → (at_line number check_one >>= λ line. if line.last then Ok (line ∷ before) else laid_after check (line ∷ before) rest) ≡ laid_after check (found ∷ before) rest
   going check_one found before rest number e going_on = rw e (rw going_on refl)
 
   abbrev LaysAll : List (List ℕ) → List KnownLine → Type 0
@@ -210,11 +210,11 @@ module _ (look : List ℕ → Option Value) where
         let fresh = new_by (names before) known (all_names others) line.found.label line.found.move.label stand new in
         let there = location_more before number line.found in
         let own : here.names ≡ names_in line = append_nothing _ line.found.label line.found.move.label (ap (λ names. external_entries names) free.refs) in
-        let stand_next : StandFor (names (here ∷ before)) (names_behind known (names_in line)) =
-        subst (λ entries. StandFor (with_names (names before) entries) (names_behind known (names_in line))) (sym own) fresh.stand in
-        let next = lays (here ∷ before) (number + 1) (names_behind known (names_in line))
+        let stand_next : StandFor (names (here ∷ before)) (names_after known (names_in line)) =
+        subst (λ entries. StandFor (with_names (names before) entries) (names_after known (names_in line))) (sym own) fresh.stand in
+        let next = lays (here ∷ before) (number + 1) (names_after known (names_in line))
         (ap (λ at. known_lines look at texts) there ∙ first.others) fair.1 stand_next fresh.rest in
-        let checked = check_behind look text line before number first.is free.free fresh.fresh in
+        let checked = check_after look text line before number first.is free.free fresh.fresh in
         record {
           laid = going (check before number text) here before (numbered (number + 1) texts) number checked free.going_on ∙ next.laid;
           at = next.at ∙ ap (λ at. end_of at others) there;

@@ -1,4 +1,4 @@
--- The pieces of words that stand one behind the other, and their linked memory.
+-- The pieces of words that stand one after the other, and their linked memory.
 use Rattle.std.proofs.Common.{◌≡◌, ℕ, zero, suc, ◌+◌, ◌-◌, ◌*◌, ◌/◌, ◌%◌, ◌<◌, ◌≤◌, Bool, true, false, cond, List, []}
 use Rattle.std.proofs.Common.{◌∷◌, ◌++◌, Some, None, Ok, length, refl, sym, ap, ◌∙◌, arith, nat_cmp, eqb-true}
 use Rattle.std.specs.Prelude.{Option, ◌&&◌, not, ◌==◌, nat_le, if◌then◌else◌, map, slice_get}
@@ -20,7 +20,7 @@ use Rattle.asm_defs.specs.declared.location.Part.{Part}
 use Rattle.asm_defs.specs.declared.location.Part.TheVariants as part
 use Rattle.asm_defs.specs.Memory.{AssembledLine, content_at, spot_by, joined, pieces, pieces_at, pieces_from, part_words}
 use Rattle.link_defs.specs.Placing.{sections, first_base, word_at, section_words, value_of}
-use Rattle.link_defs.specs.First.{first, first_behind}
+use Rattle.link_defs.specs.First.{first, first_after}
 use Rattle.link_defs.specs.LinkedMemory.{LinkedMemory, linked, linked_parts, filled, is_outside, is_taken, is_loadable}
 use Rattle.line_laws.specs.KnownLines.{pieces_of}
 use Rattle.line_laws.proofs.PlacedWords.{HoldWords, content_of, cells, cells_length}
@@ -49,9 +49,9 @@ module _ (f : ℕ → Option Content) where
       rw (none (2 * first) (omega arith) (omega arith), none (2 * first + 1) (omega arith) (omega arith))
       (none_from found (first + 1) n (λ p le lt. none p (omega (arith, le)) (omega (arith, lt))))
 
--- what stands behind the first word
-content_behind : (a : ℕ) (word : ℕ) (words : List ℕ) (p : ℕ) → 2 * (a + 1) ≤ p → content_of (2 * a) (word ∷ words) p ≡ content_of (2 * (a + 1)) words p
-content_behind a word words p le =
+-- what stands after the first word
+content_after : (a : ℕ) (word : ℕ) (words : List ℕ) (p : ℕ) → 2 * (a + 1) ≤ p → content_of (2 * a) (word ∷ words) p ≡ content_of (2 * (a + 1)) words p
+content_after a word words p le =
     let here : nat_le (2 * a) p ≡ true = grind (arith, nat_tests, le) in
     let there : nat_le (2 * (a + 1)) p ≡ true = grind (arith, nat_tests, le) in
     let place : p - 2 * a ≡ suc (suc (p - 2 * (a + 1))) = omega (arith, le) in
@@ -72,7 +72,7 @@ pieces_there f a (word ∷ words) same =
     let next : 2 * (a + 1) ≡ 2 * a + 2 = omega arith in
     ap (λ pieces. pieces ++ pieces_from f part.Absolute (a + 1) (length words)) (at_word f part.Absolute a _ _ high low)
     ∙ (ap (λ rest. record { at = spot.Absolute (2 * a); word = spot.Absolute word } ∷ rest)
-    (pieces_there f (a + 1) words (λ p le. same p (omega (arith, le)) ∙ content_behind a word words p le))
+    (pieces_there f (a + 1) words (λ p le. same p (omega (arith, le)) ∙ content_after a word words p le))
     ∙ ap (λ from. record { at = spot.Absolute (2 * a); word = spot.Absolute word } ∷ pieces_of from words) next)
 
 pub content_none : (from : ℕ) (words : List ℕ) (p : ℕ) → from + 2 * length words ≤ p → content_of from words p ≡ None
@@ -88,8 +88,8 @@ content_not_yet from words p lt =
 pub nothing_before : (front pieces : List Piece) → front ≡ [] → front ++ pieces ≡ pieces
 nothing_before front pieces e = ap (λ front. front ++ pieces) e
 
-nothing_behind : (pieces rest : List Piece) → rest ≡ [] → pieces ++ rest ≡ pieces
-nothing_behind pieces rest e = rw e (append-nil pieces)
+nothing_after : (pieces rest : List Piece) → rest ≡ [] → pieces ++ rest ≡ pieces
+nothing_after pieces rest e = rw e (append-nil pieces)
 
 all_pieces : (f : ℕ → Option Content) (a rest most : ℕ) (words : List ℕ) → a + (length words + rest) ≡ most
     → ((p : ℕ) → f p ≡ content_of (2 * a) words p) → pieces_from f part.Absolute 0 most ≡ pieces_of (2 * a) words
@@ -100,7 +100,7 @@ all_pieces f a rest most words size same =
     ∙ (nothing_before _ _ (none_from f part.Absolute 0 a (λ p le lt. same p ∙ content_not_yet (2 * a) words p (omega (arith, lt))))
     ∙ (ap (λ first. pieces_from f part.Absolute first (length words + rest)) zero_more
     ∙ (pieces_split f part.Absolute a (length words) rest
-    ∙ (nothing_behind _ _ (none_from f part.Absolute (a + length words) rest (λ p le lt. same p ∙ content_none (2 * a) words p (omega (arith, le))))
+    ∙ (nothing_after _ _ (none_from f part.Absolute (a + length words) rest (λ p le lt. same p ∙ content_none (2 * a) words p (omega (arith, le))))
     ∙ pieces_there f a words (λ p le. same p))))))
 
 -- the pieces of lines that hold words
@@ -112,7 +112,7 @@ pieces_held lines a words hold le =
     nothing_before _ _ (none_from (content_at [] lines part.Relocatable) part.Relocatable 0 32768 (λ p from to. hold.relocatable p))
     ∙ all_pieces (content_at [] lines part.Absolute) a (32768 - (a + length words)) 32768 words sum hold.absolute
 
--- the words of such pieces behind their addresses
+-- the words of such pieces after their addresses
 abbrev pub pairs_of : ℕ → List ℕ → List (ℕ × ℕ)
 pairs_of from [] = []
 pairs_of from (word ∷ words) = (from, word) ∷ pairs_of (from + 2) words
@@ -131,7 +131,7 @@ pairs_there base from (word ∷ words) fit =
 loadable : (a : ℕ) → 0x1000 ≤ a → a < 0x2000 → is_loadable (2 * a) ≡ true
 loadable a from to = let even : 2 * a % 2 ≡ 0 = omega arith in grind (arith, nat_tests, even, from, to)
 
-none_outside : (before : List (ℕ × ℕ)) (a : ℕ) (words : List ℕ) → 0x1000 ≤ a → a + length words ≤ 0x2000 → first_behind is_outside before (pairs_of (2 * a) words) ≡ None
+none_outside : (before : List (ℕ × ℕ)) (a : ℕ) (words : List ℕ) → 0x1000 ≤ a → a + length words ≤ 0x2000 → first_after is_outside before (pairs_of (2 * a) words) ≡ None
 none_outside before a [] from to = refl
 none_outside before a (word ∷ words) from to =
     let inside : not (is_loadable (2 * a)) ≡ false = ap not (loadable a from (omega (arith, to))) in
@@ -142,7 +142,7 @@ none_outside before a (word ∷ words) from to =
 not_tied : (at other : ℕ) → other < at → eq_by_cmp nat_cmp at other ≡ false
 not_tied at other lt = grind (arith, nat_tests)
 
-pub none_taken : (before : List (ℕ × ℕ)) (from : ℕ) (words : List ℕ) → ((at : ℕ) → from ≤ at → find nat_cmp at before ≡ None) → first_behind is_taken before (pairs_of from words) ≡ None
+pub none_taken : (before : List (ℕ × ℕ)) (from : ℕ) (words : List ℕ) → ((at : ℕ) → from ≤ at → find nat_cmp at before ≡ None) → first_after is_taken before (pairs_of from words) ≡ None
 none_taken before from [] free = refl
 none_taken before from (word ∷ words) free =
     let none : find nat_cmp from before ≡ None = free from (omega arith) in

@@ -10,17 +10,17 @@ use Rattle.expression_defs.specs.Layout.{laid}
 use Rattle.object_defs.specs.declared.spot.Spot.{Spot}
 use Rattle.asm_defs.specs.declared.location.Location.{Location}
 use Rattle.asm_defs.specs.Locations.{Line, start, location}
-use Rattle.asm_defs.specs.FirstChecks.{check, line_of, names, location_behind}
+use Rattle.asm_defs.specs.FirstChecks.{check, line_of, names, location_after}
 use Rattle.asm_defs.specs.SecondChecks.{outcome}
-use Rattle.line_laws.specs.KnownLines.{KnownLine, known_line, known_lines, names_in, all_names, names_behind}
+use Rattle.line_laws.specs.KnownLines.{KnownLine, known_line, known_lines, names_in, all_names, names_after}
 use Rattle.line_laws.specs.KnownLines.{are_new, are_plain, is_plain, end_of, look_in, is_plain_statement}
 use Rattle.line_laws.specs.Laws.{looks, AreKnown, StandsIn, KnownLinesStand}
-use Rattle.line_laws.proofs.LaidLines.{laid_list, are_laid, check_behind, parts_of, first_of, new_by, plain_free}
+use Rattle.line_laws.proofs.LaidLines.{laid_list, are_laid, check_after, parts_of, first_of, new_by, plain_free}
 use Rattle.line_laws.proofs.Whole.{front, final, first, final_known, final_checked, all_laid, looked, registers_stand}
 use Rattle.line_laws.proofs.Small.{both}
 
 new_parts : (known entries others : List (List ℕ × Value)) → are_new known (entries ++ others) ≡ true
-    → (are_new known entries ≡ true) × (are_new (names_behind known entries) others ≡ true)
+    → (are_new known entries ≡ true) × (are_new (names_after known entries) others ≡ true)
 new_parts known [] others e = (refl, e)
 new_parts known (entry ∷ entries) others e =
     let b = both (not (is_some (look_in known entry.0))) (are_new (entry ∷ known) (entries ++ others)) e in
@@ -53,7 +53,7 @@ module _ (look : List ℕ → Option Value) (d : KnownLine) where
     inside : index < length texts
 
   known_step : (text : List ℕ) (texts : List (List ℕ)) (from : Location) (line : KnownLine) (others : List KnownLine) → known_line look from text ≡ Ok line
-      → known_lines look (location_behind from line.found.move) texts ≡ Ok others → known_lines look from (text ∷ texts) ≡ Ok (line ∷ others)
+      → known_lines look (location_after from line.found.move) texts ≡ Ok others → known_lines look from (text ∷ texts) ≡ Ok (line ∷ others)
   known_step text texts from line others is are = rw is (rw are refl)
 
   none_inside : (index : ℕ) (lines : List KnownLine) → ◌≡◌ {A = List KnownLine} [] lines → index < length lines → ⊥
@@ -68,7 +68,7 @@ module _ (look : List ℕ → Option Value) (d : KnownLine) where
   split (text ∷ texts) lines at (suc index) e lt =
       let f = first_of look at text texts lines e in
       let size : length lines ≡ suc (length f.1) = ap length f.2 in
-      let s = split texts f.1 (location_behind at f.0.found.move) index f.3.others (omega (arith, size, lt)) in
+      let s = split texts f.1 (location_after at f.0.found.move) index f.3.others (omega (arith, size, lt)) in
       subst (λ lines. Split (text ∷ texts) lines at (suc index)) (sym f.2)
       (record {
         front = f.0 ∷ s.front;
@@ -83,7 +83,7 @@ module _ (look : List ℕ → Option Value) (d : KnownLine) where
   same_length [] lines at e = let none : ◌≡◌ {A = List KnownLine} [] lines = cc e in sym (ap length none)
   same_length (text ∷ texts) lines at e =
       let f = first_of look at text texts lines e in
-      ap length f.2 ∙ ap suc (same_length texts f.1 (location_behind at f.0.found.move) f.3.others)
+      ap length f.2 ∙ ap suc (same_length texts f.1 (location_after at f.0.found.move) f.3.others)
 
 module _ {A : Type 0} where
   take_front : (items more : List A) (n : ℕ) → n ≤ length items → take n (items ++ more) ≡ take n items
@@ -101,10 +101,10 @@ module _ {A : Type 0} where
   take_all_of (item ∷ items) more zero e = absurd (omega (arith, e))
   take_all_of (item ∷ items) more (suc n) e = ap (λ items. item ∷ items) (take_all_of items more n (omega (arith, e)))
 
-  index_behind : (items : List A) (last : A) (n : ℕ) (d : A) → n ≡ length items → slice_index_or (items ++ last ∷ []) n d ≡ last
-  index_behind [] last n d e = ap (λ n. slice_index_or (last ∷ []) n d) e
-  index_behind (item ∷ items) last zero d e = absurd (omega (arith, e))
-  index_behind (item ∷ items) last (suc n) d e = index_behind items last n d (omega (arith, e))
+  index_after : (items : List A) (last : A) (n : ℕ) (d : A) → n ≡ length items → slice_index_or (items ++ last ∷ []) n d ≡ last
+  index_after [] last n d e = ap (λ n. slice_index_or (last ∷ []) n d) e
+  index_after (item ∷ items) last zero d e = absurd (omega (arith, e))
+  index_after (item ∷ items) last (suc n) d e = index_after items last n d (omega (arith, e))
 
 module _ (half : ℕ) (texts : List (List ℕ)) (last : List ℕ) (defined : List (List ℕ × Value)) (lines : List KnownLine) (end : KnownLine) (spot : Spot) (is : AreKnown (2 * half) texts last defined lines end spot) where
   abbrev look : List ℕ → Option Value
@@ -113,7 +113,7 @@ module _ (half : ℕ) (texts : List (List ℕ)) (last : List ℕ) (defined : Lis
   abbrev every : List Line
   every = final half texts last defined lines end spot is ∷ front half texts last defined lines end spot is
 
-  -- a line behind lines that are laid
+  -- a line after lines that are laid
   stands_by : (index : ℕ) (some : List (List ℕ)) (text : List ℕ) (before : List Line) (line : KnownLine)
       → take index (texts ++ last ∷ []) ≡ some → slice_index_or (texts ++ last ∷ []) index [] ≡ text
       → laid check (numbered 1 some) ≡ Ok before → known_line look (location before) text ≡ Ok line
@@ -145,18 +145,18 @@ module _ (half : ℕ) (texts : List (List ℕ)) (last : List ℕ) (defined : Lis
         let laid_front = are_laid look (take index texts) s.front [] 1 registers s.known plain.0 registers_stand parts.0 in
         let before = laid_list [] 1 s.front in
         let known : known_line look (location before) text ≡ Ok line = ap (λ at. known_line look at text) laid_front.at ∙ s.one in
-        let fresh = new_by (names before) (names_behind registers (all_names s.front)) (all_names s.rest) line.found.label line.found.move.label laid_front.names parts.1 in
+        let fresh = new_by (names before) (names_after registers (all_names s.front)) (all_names s.rest) line.found.label line.found.move.label laid_front.names parts.1 in
         let free = plain_free line.found.statement (both (is_plain_statement line.found.statement) _ plain.1).0 in
         stands_by index (take index texts) text before line
         (take_front texts (last ∷ []) index (omega (arith, s.inside)))
         (index_front texts (last ∷ []) index [] s.inside) laid_front.laid known
-        (check_behind look text line before (index + 1) known free.free fresh.fresh)
+        (check_after look text line before (index + 1) known free.free fresh.fresh)
 
     last_stands : (index : ℕ) → index ≡ length texts → StandsIn (texts ++ last ∷ []) index end.at end.outcome
     last_stands index e =
         let before = front half texts last defined lines end spot is in
         let numbers : 1 + length texts ≡ index + 1 = omega (arith, e) in
-        stands_by index texts last before end (take_all_of texts (last ∷ []) index e) (index_behind texts last index [] e)
+        stands_by index texts last before end (take_all_of texts (last ∷ []) index e) (index_after texts last index [] e)
         (first half texts last defined lines end spot is).laid (final_known half texts last defined lines end spot is)
         (subst (λ number. check before number last ≡ Ok (line_of number end.found)) numbers (final_checked half texts last defined lines end spot is))
 
@@ -169,7 +169,7 @@ module _ (half : ℕ) (texts : List (List ℕ)) (last : List ℕ) (defined : Lis
     stands_where index false inside lt =
         let size = length-append lines (end ∷ []) in
         let here : index ≡ length lines = grind (arith, nat_tests, inside, lt, size) in
-        subst (λ line. StandsIn (texts ++ last ∷ []) index line.at line.outcome) (sym (index_behind lines end index d here))
+        subst (λ line. StandsIn (texts ++ last ∷ []) index line.at line.outcome) (sym (index_after lines end index d here))
         (last_stands index (here ∙ same_length look d texts lines start is.known))
 
 pub known_lines_stand : KnownLinesStand

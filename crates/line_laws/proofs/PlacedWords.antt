@@ -1,4 +1,4 @@
--- What plain lines place: their words, one behind the other.
+-- What plain lines place: their words, one after the other.
 use Rattle.std.proofs.Common.{inl, inr, ◌≡◌, ℕ, zero, suc, ◌+◌, ◌-◌, ◌*◌, ◌<◌, ◌≤◌, Bool, true, false, List, [], ◌∷◌}
 use Rattle.std.proofs.Common.{◌++◌, Some, None, length, length-append, refl, sym, ap, subst, ◌∙◌, arith}
 use Rattle.std.specs.Prelude.{Option, ◌⊎◌, ◌&&◌, ◌||◌, nat_le, nat_lt, if◌then◌else◌, slice_get, map}
@@ -77,11 +77,11 @@ placed_contents references at _ words e absolute = cc e
 abbrev pub content_of : ℕ → List ℕ → ℕ → Option Content
 content_of from words p = if nat_le from p then slice_get (cells words) (p - from) else None
 
-get_behind : {A : Type 0} (items more : List A) (k : ℕ) → slice_get (items ++ more) (length items + k) ≡ slice_get more k
-get_behind [] more k = let same : 0 + k ≡ k = omega arith in ap (slice_get more) same
-get_behind (item ∷ items) more k =
+get_after : {A : Type 0} (items more : List A) (k : ℕ) → slice_get (items ++ more) (length items + k) ≡ slice_get more k
+get_after [] more k = let same : 0 + k ≡ k = omega arith in ap (slice_get more) same
+get_after (item ∷ items) more k =
     let same : length (item ∷ items) + k ≡ suc (length items + k) = omega arith in
-    ap (slice_get (item ∷ (items ++ more))) same ∙ get_behind items more k
+    ap (slice_get (item ∷ (items ++ more))) same ∙ get_after items more k
 
 get_before : {A : Type 0} (items more : List A) (k : ℕ) → k < length items → slice_get (items ++ more) k ≡ slice_get items k
 get_before [] more k lt = absurd (omega (arith, lt))
@@ -98,7 +98,7 @@ module _ (from : ℕ) (words more : List ℕ) where
       let inside : nat_le from p ≡ true = grind (arith, nat_tests) in
       let size = cells_length words in
       let split : p - from ≡ length (cells words) + (p - reached) = omega (arith, size, le) in
-      rw (inside, cells_append words more, split) (get_behind (cells words) (cells more) (p - reached))
+      rw (inside, cells_append words more, split) (get_after (cells words) (cells more) (p - reached))
 
   -- at another
   content_before : (p : ℕ) → p < reached → content_of from (words ++ more) p ≡ content_of from words p
@@ -167,13 +167,13 @@ module _ (line : AssembledLine) (at : ℕ) (more : List ℕ) (next : ComesNext l
   record Covered (p : ℕ) : Type 0 where
     part : line.at.part ≡ part.Absolute
     number : line.at.number ≡ at
-    behind : at ≤ p
+    after : at ≤ p
     within : p < at + 2 * length more
 
   covered_by : (p : ℕ) → (line.at.number ≤ p) × (p < line.at.number + 2 * length more) → Stands line.at at more → Covered p
   covered_by p inside (inl none) = absurd (omega (arith, inside.0, inside.1, none))
   covered_by p inside (inr there) =
-      record { part = there.0; number = there.1; behind = omega (arith, inside.0, there.1); within = omega (arith, inside.1, there.1) }
+      record { part = there.0; number = there.1; after = omega (arith, inside.0, there.1); within = omega (arith, inside.1, there.1) }
 
   covered : (p : ℕ) (part : Part) → covers line part p ≡ true → Covered p
   covered p part e = covered_by p (among_is p part e) stands
@@ -186,14 +186,14 @@ module _ (line : AssembledLine) (at : ℕ) (more : List ℕ) (next : ComesNext l
       let also = both (same_part line.at.part part.Relocatable) _ (both (same_part line.at.part part.Relocatable && nat_le line.at.number p) _ e).0 in
       cc (same, also.0))
 
-  -- nor one behind the words
-  not_behind : (p : ℕ) → at + 2 * length more ≤ p → covers line part.Absolute p ≡ false
-  not_behind p le = false_from_ne_true _ (λ e. omega (arith, le, (covered p part.Absolute e).within))
+  -- nor one after the words
+  not_after : (p : ℕ) → at + 2 * length more ≤ p → covers line part.Absolute p ≡ false
+  not_after p le = false_from_ne_true _ (λ e. omega (arith, le, (covered p part.Absolute e).within))
 
-  -- a place from there on that is not covered is behind the words
-  behind_by : (p : ℕ) → covers line part.Absolute p ≡ false → at ≤ p → Stands line.at at more → at + 2 * length more ≤ p
-  behind_by p e le (inl none) = omega (arith, le, none)
-  behind_by p e le (inr there) =
+  -- a place from there on that is not covered is after the words
+  after_by : (p : ℕ) → covers line part.Absolute p ≡ false → at ≤ p → Stands line.at at more → at + 2 * length more ≤ p
+  after_by p e le (inl none) = omega (arith, le, none)
+  after_by p e le (inr there) =
       let same : same_part line.at.part part.Absolute ≡ true = ap (λ (found : Part). same_part found part.Absolute) there.0 in
       let rest : among p ≡ false = sym (ap (λ b. b && nat_le line.at.number p && nat_lt p (line.at.number + bytes_in line.outcome)) same) ∙ e in
       grind (arith, nat_tests, rest, size, le, there.1)
@@ -204,8 +204,8 @@ module _ (line : AssembledLine) (at : ℕ) (more : List ℕ) (next : ComesNext l
       where
         apart : covers line part.Absolute p ≡ false → (b : Bool) → nat_le at p ≡ b → content_of from words p ≡ content_of from (words ++ more) p
         apart e true le =
-            let behind = behind_by p e (grind (arith, nat_tests, le)) stands in
-            sym (content_past from words more p (omega (arith, ends, behind)))
+            let after = after_by p e (grind (arith, nat_tests, le)) stands in
+            sym (content_past from words more p (omega (arith, ends, after)))
         apart e false le =
             let before : p < from + 2 * length words = grind (arith, nat_tests, le, ends) in
             sym (content_before from words more p before)
@@ -216,7 +216,7 @@ module _ (line : AssembledLine) (at : ℕ) (more : List ℕ) (next : ComesNext l
             let same : p - line.at.number ≡ p - (from + 2 * length words) = ap (λ n. p - n) (c.number ∙ ends) in
             chosen _ true _ _ e
             ∙ (ap (λ items. slice_get items (p - line.at.number)) (placed_contents _ line.at line.outcome more next.words c.part)
-            ∙ (ap (slice_get (cells more)) same ∙ sym (content_there from words more p (omega (arith, ends, c.behind)))))
+            ∙ (ap (slice_get (cells more)) same ∙ sym (content_there from words more p (omega (arith, ends, c.after)))))
         by false e = chosen _ false _ _ e ∙ (hold.absolute p ∙ apart e (nat_le at p) refl)
 
     pub hold_more : HoldWords references (line ∷ lines) from (words ++ more)
@@ -225,7 +225,7 @@ module _ (line : AssembledLine) (at : ℕ) (more : List ℕ) (next : ComesNext l
       relocatable = λ p. rw (not_relocatable p) (hold.relocatable p);
       free = λ p le.
           let total = length-append words more in
-          rw (not_behind p (omega (arith, le, total, ends))) (hold.free p (omega (arith, le, total, ends)));
+          rw (not_after p (omega (arith, le, total, ends))) (hold.free p (omega (arith, le, total, ends)));
       none = λ p. rw (not_relocatable p) (hold.none p);
     }
 

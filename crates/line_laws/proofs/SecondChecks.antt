@@ -29,7 +29,7 @@ use Rattle.line_laws.proofs.Small.{both}
 abbrev pub as_assembled : KnownLine → AssembledLine
 as_assembled line = record { at = line.at; outcome = line.outcome }
 
--- what lines come to behind others
+-- what lines come to after others
 abbrev pub assembled_list : List AssembledLine → List KnownLine → List AssembledLine
 assembled_list earlier [] = earlier
 assembled_list earlier (line ∷ lines) = assembled_list (as_assembled line ∷ earlier) lines
@@ -49,8 +49,8 @@ module _ (earlier : List AssembledLine) (line : AssembledLine) (from : ℕ) (wor
 
   pub has_room : with_room earlier line ≡ Ok line
   has_room =
-      let behind = hold_more line (from + 2 * length words) more next [] earlier from words refl hold in
-      let few = few_words (line ∷ earlier) behind.none in
+      let after = hold_more line (from + 2 * length words) more next [] earlier from words refl hold in
+      let few = few_words (line ∷ earlier) after.none in
       let fits : nat_lt 32768 (word_count (line ∷ earlier)) ≡ false = grind (arith, nat_tests, few) in
       room_by line _ _ fits (overlaps_none (stands line (from + 2 * length words) more next))
 
@@ -69,7 +69,7 @@ pub assembled_step : (known : Names) (before : List Line) (earlier : List Assemb
 assembled_step known before earlier number found line answer is e = rw is (rw e refl)
 
 module _ (look : List ℕ → Option Value) (known : Names) (same : look ≡ look_up known) (from : ℕ) where
-  -- a line behind others
+  -- a line after others
   pub assemble_is : (text : List ℕ) (line : KnownLine) (before : List Line) (number : ℕ) (earlier : List AssembledLine) → known_line look (location before) text ≡ Ok line
       → with_room earlier (as_assembled line) ≡ Ok (as_assembled line) → assembled_line known before earlier (line_of number line.found) ≡ Ok (as_assembled line)
   assemble_is text line before number earlier e room =
@@ -100,13 +100,13 @@ module _ (look : List ℕ → Option Value) (known : Names) (same : look ≡ loo
         let some = (both (is_plain_statement line.found.statement) _ fair.0).1 in
         let next : ComesNext (as_assembled line) (from + 2 * length words) (line_words line) = record { words = known_words (outcome_words line.outcome) some; place = near.0 } in
         let room = has_room earlier (as_assembled line) from words (line_words line) hold next in
-        let behind = hold_more (as_assembled line) (from + 2 * length words) (line_words line) next [] earlier from words refl hold in
+        let after = hold_more (as_assembled line) (from + 2 * length words) (line_words line) next [] earlier from words refl hold in
         let there = location_more before number line.found in
         let total : from + 2 * length words + 2 * length (line_words line) ≡ from + 2 * length (words ++ line_words line) = omega (arith, length-append words (line_words line)) in
         let now = assembled_step known before earlier number line.found (as_assembled line) (assembled_lines (assembled_line known) before) is
         (assemble_is text line before number earlier first.is room) in
         let rest = assembles (line_of number line.found ∷ before) (number + 1) (as_assembled line ∷ earlier) (words ++ line_words line)
-        (ap (λ at. known_lines look at texts) there ∙ first.others) fair.1 (ap (λ n. are_close n others) (sym total) ∙ near.1) now behind in
+        (ap (λ at. known_lines look at texts) there ∙ first.others) fair.1 (ap (λ n. are_close n others) (sym total) ∙ near.1) now after in
         record {
           assembled_lines = rest.assembled_lines;
           hold = subst (λ words. HoldWords [] (assembled_list (as_assembled line ∷ earlier) others) from words) (append_assoc words (line_words line) (all_words others)) rest.hold;

@@ -25,14 +25,14 @@ use Rattle.asm_defs.specs.FirstChecks.{label_entry, external_entries}
 use Rattle.asm_defs.specs.SecondChecks.{Outcome, Words, Entry}
 use Rattle.asm_defs.specs.declared.content.Content.{Content}
 use Rattle.asm_defs.specs.Memory.{AssembledLine, covers, same_part, is_placed, bytes_in, any_from, word_count, pieces}
-use Rattle.asm_defs.specs.Memory.{references_of, behind_by, behind_word, spot_by, is_placed_in}
-use Rattle.asm_defs.proofs.PlacedWords.{behind_words}
-use Rattle.asm_defs.specs.Modules.{assembled_line, with_room, module_by, module_behind, module_of_lines, entry, entry_by}
+use Rattle.asm_defs.specs.Memory.{references_of, after_by, after_word, spot_by, is_placed_in}
+use Rattle.asm_defs.proofs.PlacedWords.{after_words}
+use Rattle.asm_defs.specs.Modules.{assembled_line, with_room, module_by, module_after, module_of_lines, entry, entry_by}
 use Rattle.asm_defs.specs.Modules.{unused, definition_in}
-use Rattle.line_laws.specs.KnownLines.{KnownLine, known_line, all_names, all_words, names_behind, are_new, are_close}
+use Rattle.line_laws.specs.KnownLines.{KnownLine, known_line, all_names, all_words, names_after, are_new, are_close}
 use Rattle.line_laws.specs.Laws.{looks, AreKnown, HasWords, KnownLinesHaveTheirWords}
 use Rattle.line_laws.proofs.EarlierLines.{is_free}
-use Rattle.line_laws.proofs.LaidLines.{StandFor, laid_list, AreLaid, are_laid, check_behind}
+use Rattle.line_laws.proofs.LaidLines.{StandFor, laid_list, AreLaid, are_laid, check_after}
 use Rattle.line_laws.proofs.PlacedWords.{HoldWords, few_words, content_of}
 use Rattle.line_laws.proofs.SecondChecks.{as_assembled, assembled_list, assemble_is, AreAssembled, are_assembled, assembled_step}
 use Rattle.line_laws.proofs.SecondChecks.{room_by}
@@ -47,26 +47,26 @@ none_by true k = refl
 none_by false k = refl
 
 -- where no name is external, no use is one
-no_use : (at : Spot) (word : Value) → behind_word [] at word ≡ []
+no_use : (at : Spot) (word : Value) → after_word [] at word ≡ []
 no_use at (Absolute number) = refl
 no_use at _ = refl
 
-no_words : (found : Part) (at : ℕ) (words : List Value) → behind_words found [] at words ≡ []
+no_words : (found : Part) (at : ℕ) (words : List Value) → after_words found [] at words ≡ []
 no_words found at [] = refl
 no_words found at (word ∷ words) =
-    ap (λ references. behind_words found references (at + 2) words) (no_use (spot_by found at) word) ∙ no_words found (at + 2) words
+    ap (λ references. after_words found references (at + 2) words) (no_use (spot_by found at) word) ∙ no_words found (at + 2) words
 
 either_none : (b : Bool) (references : List Reference) → references ≡ [] → (if b then references else []) ≡ []
 either_none true references e = e
 either_none false references e = refl
 
-no_line : (at : Location) (found : Outcome) → behind_by at [] found ≡ []
+no_line : (at : Location) (found : Outcome) → after_by at [] found ≡ []
 no_line at (Words words) = either_none (is_placed_in at.part) _ (no_words at.part at.number words)
 no_line at _ = refl
 
 pub no_uses : (lines : List AssembledLine) → references_of [] lines ≡ []
 no_uses [] = refl
-no_uses (line ∷ lines) = ap (λ references. behind_by line.at references line.outcome) (no_uses lines) ∙ no_line line.at line.outcome
+no_uses (line ∷ lines) = ap (λ references. after_by line.at references line.outcome) (no_uses lines) ∙ no_line line.at line.outcome
 
 -- a line that places no bytes
 module _ (line : AssembledLine) (none : bytes_in line.outcome ≡ 0) where
@@ -128,7 +128,7 @@ module _ (half : ℕ) (texts : List (List ℕ)) (last : List ℕ) (defined : Lis
   final_free = ap is_free is.ends.1
 
   pub final_checked : check front number last ≡ Ok final
-  final_checked = check_behind (looks defined) last end front number final_known final_free (ap (λ label. any_known (names front) (label_in label)) is.unnamed)
+  final_checked = check_after (looks defined) last end front number final_known final_free (ap (λ label. any_known (names front) (label_in label)) is.unnamed)
 
   pub all_laid : laid check (numbered 1 (texts ++ last ∷ [])) ≡ Ok (final ∷ front)
   all_laid =
@@ -138,9 +138,9 @@ module _ (half : ℕ) (texts : List (List ℕ)) (last : List ℕ) (defined : Lis
   names_same : names (final ∷ front) ≡ names front
   names_same = ap (with_names (names front)) (own_names end.found.statement end.found.label end.found.move.label is.ends.0 is.unnamed is.ends.1)
 
-  stand : StandFor (names (final ∷ front)) (names_behind registers defined)
-  stand = subst (λ entries. StandFor (names (final ∷ front)) (names_behind registers entries)) is.names
-      (subst (λ known. StandFor known (names_behind registers (all_names lines))) (sym names_same) first.names)
+  stand : StandFor (names (final ∷ front)) (names_after registers defined)
+  stand = subst (λ entries. StandFor (names (final ∷ front)) (names_after registers entries)) is.names
+      (subst (λ known. StandFor known (names_after registers (all_names lines))) (sym names_same) first.names)
 
   pub looked : looks defined ≡ look_up (names (final ∷ front))
   looked i name = sym (stand name) i
@@ -175,7 +175,7 @@ module _ (half : ℕ) (texts : List (List ℕ)) (last : List ℕ) (defined : Lis
 
   pub assembled : module_of_lines (texts ++ last ∷ []) ≡ Ok whole
   assembled =
-      ap (λ answer. answer >>= module_behind) all_laid
+      ap (λ answer. answer >>= module_after) all_laid
       ∙ ap (λ answer. answer >>= λ found. Ok (module_by (final ∷ front) found)) all_assembled
 
   pub has_words : half + length (all_words lines) ≤ 32768 → HasWords (2 * half) (all_words lines) spot whole

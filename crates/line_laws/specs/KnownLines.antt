@@ -16,9 +16,9 @@ use Rattle.asm_defs.specs.declared.causes.AsmCause.{AsmCause}
 use Rattle.asm_defs.specs.declared.location.Location.{Location}
 use Rattle.asm_defs.specs.declared.location.Part.{Part}
 use Rattle.asm_defs.specs.declared.location.Part.TheVariants as part
-use Rattle.asm_defs.specs.Locations.{behind}
+use Rattle.asm_defs.specs.Locations.{after}
 use Rattle.asm_defs.specs.Statements.{Statement, Nothing, Instruction, Aorg, Equ, Data, as_text, statement_in}
-use Rattle.asm_defs.specs.FirstChecks.{EarlierLines, Checked, moved, label_entry, location_behind}
+use Rattle.asm_defs.specs.FirstChecks.{EarlierLines, Checked, moved, label_entry, location_after}
 use Rattle.asm_defs.specs.SecondChecks as outcome
 use Rattle.asm_defs.specs.SecondChecks.{Outcome, outcome}
 
@@ -39,21 +39,21 @@ known_line look location text = do
   fields ← as_text (fields text)
   statement ← statement_in text fields
   found ← moved (nothing_before location) (record { label = fields.label; statement = statement })
-  come ← outcome look (behind location found.move.gap) found.statement
-  Ok (record { at = behind location found.move.gap; found = found; outcome = come })
+  come ← outcome look (after location found.move.gap) found.statement
+  Ok (record { at = after location found.move.gap; found = found; outcome = come })
 
 -- lines by themselves, one after the other
 abbrev pub known_lines : (List ℕ → Option Value) → Location → List (List ℕ) → Result (List KnownLine) AsmCause
 known_lines look location [] = Ok []
 known_lines look location (text ∷ texts) = do
   line ← known_line look location text
-  others ← known_lines look (location_behind location line.found.move) texts
+  others ← known_lines look (location_after location line.found.move) texts
   Ok (line ∷ others)
 
 -- the location after lines
 abbrev pub end_of : Location → List KnownLine → Location
 end_of location [] = location
-end_of location (line ∷ lines) = end_of (location_behind location line.found.move) lines
+end_of location (line ∷ lines) = end_of (location_after location line.found.move) lines
 
 -- the names that a line defines, and the names of all lines
 abbrev pub names_in : KnownLine → List (List ℕ × Value)
@@ -63,9 +63,9 @@ abbrev pub all_names : List KnownLine → List (List ℕ × Value)
 all_names lines = flat_map names_in lines
 
 -- names with more after them, the last first; what a name stands for
-abbrev pub names_behind : List (List ℕ × Value) → List (List ℕ × Value) → List (List ℕ × Value)
-names_behind known [] = known
-names_behind known (entry ∷ entries) = names_behind (entry ∷ known) entries
+abbrev pub names_after : List (List ℕ × Value) → List (List ℕ × Value) → List (List ℕ × Value)
+names_after known [] = known
+names_after known (entry ∷ entries) = names_after (entry ∷ known) entries
 
 abbrev pub look_in : List (List ℕ × Value) → List ℕ → Option Value
 look_in known name = find (slice_cmp nat_cmp) name known

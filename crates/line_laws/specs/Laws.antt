@@ -15,12 +15,12 @@ use Rattle.asm_defs.specs.FirstChecks.{check, names}
 use Rattle.asm_defs.specs.SecondChecks as outcome
 use Rattle.asm_defs.specs.SecondChecks.{Outcome, outcome}
 use Rattle.asm_defs.specs.Modules.{module_of_lines}
-use Rattle.line_laws.specs.KnownLines.{KnownLine, known_line, known_lines, end_of, all_names, names_behind, look_in}
+use Rattle.line_laws.specs.KnownLines.{KnownLine, known_line, known_lines, end_of, all_names, names_after, look_in}
 use Rattle.line_laws.specs.KnownLines.{are_new, are_plain, are_close, all_words, pieces_of}
 
 -- what all names of a source stand for, by the names that its lines define
 abbrev pub looks : List (List ℕ × Value) → List ℕ → Option Value
-looks defined name = look_in (names_behind registers defined) name
+looks defined name = look_in (names_after registers defined) name
 
 -- Lines that are plain, by the names that they define: these are new, and the words stand one after the other from an
 -- absolute place on. After them stands a last line, which is END with an entry.

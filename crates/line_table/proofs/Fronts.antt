@@ -1,4 +1,4 @@
--- Blocks, one behind the other.
+-- Blocks, one after the other.
 use Rattle.std.proofs.Common.{ℕ, ◌+◌, List, [], ◌++◌, refl, sym, subst}
 use Rattle.std.specs.Prelude.{take, drop}
 use Rattle.expression_defs.specs.Expression.{Value}

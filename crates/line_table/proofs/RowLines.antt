@@ -7,7 +7,7 @@ use Rattle.source_defs.specs.Refusals.{map_ok}
 use Rattle.expression_defs.specs.Expression.{Value}
 use Rattle.asm_defs.specs.declared.causes.AsmCause.{AsmCause}
 use Rattle.asm_defs.specs.declared.location.Location.{Location}
-use Rattle.asm_defs.specs.FirstChecks.{location_behind}
+use Rattle.asm_defs.specs.FirstChecks.{location_after}
 use Rattle.asm_defs.proofs.CheckLaws.{bound}
 use Rattle.line_laws.specs.KnownLines.{KnownLine, known_line, known_lines, line_words, names_in, all_names, all_words}
 use Rattle.line_laws.specs.KnownLines.{end_of, is_plain, are_plain, are_close, is_at}
@@ -29,7 +29,7 @@ shown line = record { at = line.at; words = line_words line }
 abbrev pub row_shown : LineRow → Shown
 row_shown row = record { at = location_of row; words = row_words row }
 
--- what is said of some lines by their rows, the names that they define, and the location behind them
+-- what is said of some lines by their rows, the names that they define, and the location after them
 pub record Summary : Type 0 where
   pub rows : List Shown
   pub names : List (List ℕ × Value)
@@ -71,7 +71,7 @@ module _ (look : List ℕ → Option Value) where
   reads_of from next texts rows names e = reads_by from next texts rows names (known_lines look from texts) refl e
 
   known_step : (text : List ℕ) (texts : List (List ℕ)) (from : Location) (line : KnownLine) (others : List KnownLine) → known_line look from text ≡ Ok line
-      → known_lines look (location_behind from line.found.move) texts ≡ Ok others → known_lines look from (text ∷ texts) ≡ Ok (line ∷ others)
+      → known_lines look (location_after from line.found.move) texts ≡ Ok others → known_lines look from (text ∷ texts) ≡ Ok (line ∷ others)
   known_step text texts from line others is are = rw is (rw are refl)
 
   pub known_append : (texts more : List (List ℕ)) (from : Location) (lines others : List KnownLine) → known_lines look from texts ≡ Ok lines
@@ -81,9 +81,9 @@ module _ (look : List ℕ → Option Value) where
       subst (λ lines. known_lines look from more ≡ Ok (lines ++ others)) none (subst (λ lines. known_lines look (end_of from lines) more ≡ Ok others) (sym none) f)
   known_append (text ∷ texts) more from lines others e f =
       let a = bound (known_line look from text) _ lines e in
-      let b = bound (known_lines look (location_behind from a.0.found.move) texts) _ lines a.2 in
+      let b = bound (known_lines look (location_after from a.0.found.move) texts) _ lines a.2 in
       let same : a.0 ∷ b.0 ≡ lines = cc (b.2) in
-      let rest = known_append texts more (location_behind from a.0.found.move) b.0 others b.1 (subst (λ lines. known_lines look (end_of from lines) more ≡ Ok others) (sym same) f) in
+      let rest = known_append texts more (location_after from a.0.found.move) b.0 others b.1 (subst (λ lines. known_lines look (end_of from lines) more ≡ Ok others) (sym same) f) in
       subst (λ lines. known_lines look from (text ∷ (texts ++ more)) ≡ Ok (lines ++ others)) same (known_step text (texts ++ more) from a.0 (b.0 ++ others) a.1 rest)
 
 append_names : (lines more : List KnownLine) → all_names (lines ++ more) ≡ all_names lines ++ all_names more
@@ -100,11 +100,11 @@ append_plain (line ∷ lines) more e f = by (is_plain line) e (append_plain line
 
 append_end : (lines more : List KnownLine) (from : Location) → end_of from (lines ++ more) ≡ end_of (end_of from lines) more
 append_end [] more from = refl
-append_end (line ∷ lines) more from = append_end lines more (location_behind from line.found.move)
+append_end (line ∷ lines) more from = append_end lines more (location_after from line.found.move)
 
 -- lines, and then others
-module _ (look : List ℕ → Option Value) (a b c : Location) (texts more : List (List ℕ)) (rows others : List LineRow) (names behind : List (List ℕ × Value)) where
-  pub join : Reads look a texts rows names b → Reads look b more others behind c → Reads look a (texts ++ more) (rows ++ others) (names ++ behind) c
+module _ (look : List ℕ → Option Value) (a b c : Location) (texts more : List (List ℕ)) (rows others : List LineRow) (names after : List (List ℕ × Value)) where
+  pub join : Reads look a texts rows names b → Reads look b more others after c → Reads look a (texts ++ more) (rows ++ others) (names ++ after) c
   join first then = record {
     lines = first.lines ++ then.lines;
     known = known_append look texts more a first.lines then.lines first.known
@@ -130,7 +130,7 @@ module _ {A : Type 0} where
       let sum : suc m + n ≡ suc (m + n) = omega arith in
       ap (λ n. take n (item ∷ items)) sum ∙ ap (λ items. item ∷ items) (take_on items m n)
 
--- the words of rows stand one behind the other from an absolute place on
+-- the words of rows stand one after the other from an absolute place on
 abbrev pub close_rows : ℕ → List Shown → Bool
 close_rows number [] = true
 close_rows number (row ∷ rows) = (is_empty row.words || is_at number row.at) && close_rows (number + 2 * length row.words) rows

@@ -7,8 +7,8 @@ use Rattle.std.specs.Option.{unwrap_or}
 use Rattle.std.specs.Ordering.{nat_cmp}
 use Rattle.std.specs.Cmp.Lexicographic.{slice_cmp}
 use Rattle.std.specs.FinMap.{FinMap, find, from_entries}
-use Rattle.source_defs.specs.Refusals.{◌>>=◌}
 use Rattle.object_defs.specs.Modules.{Module}
+use Rattle.source_defs.specs.Refusals.{◌>>=◌}
 use Rattle.link_defs.specs.Causes.{LinkCause, DuplicateDef, OutOfMemoryRange, Overlap, Unresolved, NoEntry}
 use Rattle.link_defs.specs.Placing.{Section, sections, defs_of, section_words, refs_of, entries_of}
 use Rattle.link_defs.specs.First.{first, refused_by}
@@ -17,8 +17,9 @@ use Rattle.link_defs.specs.Chains.{Uses, uses_of}
 pub record LinkedMemory : Type 0 where
   -- the word at each address that has one
   pub words : FinMap nat_cmp ℕ
-  -- the names that the modules define, with their values, in order
+  -- the names that the modules define, with their values, in the order of the modules and of their definitions
   pub names : List (List ℕ × ℕ)
+  -- the address where execution begins
   pub entry : ℕ
 
 -- the value of a name

@@ -3,12 +3,12 @@ use Rattle.std.proofs.Common.{◌≡◌, ℕ, true, List, [], ◌∷◌, ◌++�
 use Rattle.std.specs.Prelude.{IsSome}
 use Rattle.std.specs.Ordering.{nat_cmp, eq_by_cmp}
 use Rattle.std.specs.FinMap.{find}
-use Rattle.link_defs.specs.First.{first, first_behind}
+use Rattle.link_defs.specs.First.{first, first_after}
 use Rattle.link_defs.specs.LinkedMemory.{is_loadable, is_outside}
 use Rattle.link_loader.specs.Tables.{replaced}
 use Rattle.link_loader.proofs.Words.{pick, tied}
 
-found_inside : (at : ℕ) (before words : List (ℕ × ℕ)) → first_behind is_outside before words ≡ None → IsSome (find nat_cmp at words) → is_loadable at ≡ true
+found_inside : (at : ℕ) (before words : List (ℕ × ℕ)) → first_after is_outside before words ≡ None → IsSome (find nat_cmp at words) → is_loadable at ≡ true
 found_inside at before [] none found = absurd cc
 found_inside at before (word ∷ words) none found =
     pick (is_loadable word.0)

@@ -8,32 +8,32 @@ use Rattle.std.specs.FinMap.{find, get, get-from_entries}
 use Rattle.source_defs.proofs.RefusalLaws.{bound}
 use Rattle.link_defs.specs.Causes.{LinkCause, DuplicateDef, OutOfMemoryRange, Overlap, Unresolved}
 use Rattle.link_defs.specs.Placing.{sections, defs_of, section_words, refs_of, entries_of}
-use Rattle.link_defs.specs.First.{first, first_behind, refused_by}
+use Rattle.link_defs.specs.First.{first, first_after, refused_by}
 use Rattle.link_defs.specs.Chains.{uses_of}
 use Rattle.link_defs.specs.LinkedMemory.{LinkedMemory, is_defined_again, is_outside, is_taken, is_unresolved, first_entry, filled, linked}
 use Rattle.link_defs.specs.Laws.{PlacedWordsAreHeld}
 use Rattle.link_loader.proofs.Filled.{found_filled}
 use Rattle.link_loader.proofs.Words.{pick, ties, none_found}
 
-found_behind : (q : ℕ) (before words : List (ℕ × ℕ)) → find nat_cmp q before ≡ None → find nat_cmp q (before ++ words) ≡ find nat_cmp q words
-found_behind q [] words none = refl
-found_behind q (word ∷ before) words none =
-    pick (eq_by_cmp nat_cmp q word.0) (λ e. let some = rw e at none in absurd cc) (λ e. rw e (found_behind q before words (rw e at none)))
+found_after : (q : ℕ) (before words : List (ℕ × ℕ)) → find nat_cmp q before ≡ None → find nat_cmp q (before ++ words) ≡ find nat_cmp q words
+found_after q [] words none = refl
+found_after q (word ∷ before) words none =
+    pick (eq_by_cmp nat_cmp q word.0) (λ e. let some = rw e at none in absurd cc) (λ e. rw e (found_after q before words (rw e at none)))
 
 found_here : (word : ℕ × ℕ) (words : List (ℕ × ℕ)) → find nat_cmp word.0 (word ∷ words) ≡ Some word.1
 found_here word words = let same : (word.0 == word.0) ≡ true = grind arith in rw (ties word.0 word.0, same) refl
 
 -- where no word stands at the address of one before, each is found by its address
-each_found : (before words : List (ℕ × ℕ)) (k : ℕ) (d : ℕ × ℕ) → first_behind is_taken before words ≡ None → k < length words → find nat_cmp (get_or words k d).0 (before ++ words) ≡ Some (get_or words k d).1
+each_found : (before words : List (ℕ × ℕ)) (k : ℕ) (d : ℕ × ℕ) → first_after is_taken before words ≡ None → k < length words → find nat_cmp (get_or words k d).0 (before ++ words) ≡ Some (get_or words k d).1
 each_found before [] k d none lt = absurd (omega (arith, lt))
 each_found before (word ∷ words) k d none lt =
     pick (is_some (find nat_cmp word.0 before)) (λ is. let some = rw is at none in absurd cc)
     (λ is. by k lt (each_found (before ++ word ∷ []) words) is (rw is at none))
   where
-    by : (k : ℕ) → k < length (word ∷ words) → ((j : ℕ) (d : ℕ × ℕ) → first_behind is_taken (before ++ word ∷ []) words ≡ None → j < length words
+    by : (k : ℕ) → k < length (word ∷ words) → ((j : ℕ) (d : ℕ × ℕ) → first_after is_taken (before ++ word ∷ []) words ≡ None → j < length words
         → find nat_cmp (get_or words j d).0 ((before ++ word ∷ []) ++ words) ≡ Some (get_or words j d).1) → is_some (find nat_cmp word.0 before) ≡ false
-        → first_behind is_taken (before ++ word ∷ []) words ≡ None → find nat_cmp (get_or (word ∷ words) k d).0 (before ++ word ∷ words) ≡ Some (get_or (word ∷ words) k d).1
-    by zero lt rest is none = found_behind word.0 before (word ∷ words) (none_found (find nat_cmp word.0 before) is) ∙ found_here word words
+        → first_after is_taken (before ++ word ∷ []) words ≡ None → find nat_cmp (get_or (word ∷ words) k d).0 (before ++ word ∷ words) ≡ Some (get_or (word ∷ words) k d).1
+    by zero lt rest is none = found_after word.0 before (word ∷ words) (none_found (find nat_cmp word.0 before) is) ∙ found_here word words
     by (suc k) lt rest is none = rw append_assoc at (rest k d none (omega (arith, lt)))
 
 none_taken : (found value : Option (ℕ × ℕ)) → refused_by (λ (word : ℕ × ℕ). Overlap word.0) found ≡ Ok value → found ≡ None

@@ -48,14 +48,14 @@ pub none_closed : (n : ℕ) → has_parentheses (hex_word n) ≡ false
 unfolding word_digits
 none_closed n = rw (not_true _ (digit_passes (λ byte. not (byte == 0x29)) n refl)) refl
 
--- behind the end of a text stand no tokens
+-- after the end of a text stand no tokens
 none_left : (left : ℕ) (text : List ℕ) → tokens_from left text (length text) ≡ Ok []
 unfolding tokens_from
 none_left zero text = refl
 none_left (suc left) text =
     let past : nat_lt (length text) (length text) ≡ false = grind (arith, nat_tests) in rw past refl
 
--- the tokens of digits behind their sign
+-- the tokens of digits after their sign
 sign_tokens : (d : ℕ) (numbers : List ℕ) → length numbers ≤ 3 →
     tokens (0x3E ∷ digits_of (d ∷ numbers))
     ≡ Ok (token_to (Number (value_after 16 0 (digits_of (d ∷ numbers)))) 0 (1 + length (digits_of (d ∷ numbers))) ∷ [])

@@ -12,7 +12,7 @@ use Rattle.source_defs.specs.Fields.{fields, in_quotes}
 use Rattle.source_defs.specs.ListedLines.{listed, listing_line, with_operands}
 use Rattle.source_defs.proofs.LineSteps.{lines_from_step, lines_from_end}
 use Rattle.listed_lines.proofs.Scans.{and_left, and_right, not_true, all_both, all_get, all_also, starts, starts_with, At, at_start, to_end}
-use Rattle.listed_lines.proofs.Scans.{size_is, behind, part_is, byte_is, scanned, scanned_where}
+use Rattle.listed_lines.proofs.Scans.{size_is, after, part_is, byte_is, scanned, scanned_where}
 
 abbrev unblank : ℕ → Bool
 unblank byte = not (is_blank byte)
@@ -44,7 +44,7 @@ pub record Cut (line name field : List ℕ) : Type 0 where
 abbrev lead : List ℕ
 lead = codes "       "
 
--- a name, a gap of blanks and a field behind the blanks of a listed line
+-- a name, a gap of blanks and a field after the blanks of a listed line
 module _ (name gap field : List ℕ) (some : 0 < length name) (few : length name + (length gap + length field) ≤ 249)
     (name_is : list_all unblank name ≡ true) (field_is : list_all unblank field ≡ true)
     (gap_is : list_all (λ byte. not (unblank byte)) gap ≡ true) (stops : starts is_blank (gap ++ field) ≡ true)
@@ -58,8 +58,8 @@ module _ (name gap field : List ℕ) (some : 0 < length name) (few : length name
   cut : Cut line name field
   unfolding fields
   cut =
-      let at_gap = behind name (gap ++ field) at_name in
-      let at_field = to_end (behind gap field at_gap) in
+      let at_gap = after name (gap ++ field) at_name in
+      let at_field = to_end (after gap field at_gap) in
       let size = size_is gap field at_gap in
       let start : ℕ = 7 + length name + length gap in
       let a = scanned lead (name ++ (gap ++ field)) (at_start line) unblank refl (starts_with unblank name _ some name_is) in
@@ -149,7 +149,7 @@ split_from : (ls : List (List ℕ)) (text : List ℕ) (from number : ℕ) → At
 split_from [] text from number left e = rw (lines_from_end text number from (omega (arith, left.size))) refl
 split_from (l ∷ ls) text from number left e =
     let here : At text from (l ++ 10 ∷ joined ls) = rw (append_assoc l (10 ∷ []) (joined ls)) at left in
-    let next = behind (10 ∷ []) (joined ls) (behind l (10 ∷ joined ls) here) in
+    let next = after (10 ∷ []) (joined ls) (after l (10 ∷ joined ls) here) in
     line_step text l (joined ls) from here (and_left _ (list_all (λ l. list_all in_line l) ls) e) number
     ∙ ap (λ lines. (number, l) ∷ lines) (split_from ls text (from + length l + 1) (number + 1) next (and_right (list_all in_line l) _ e))
 

@@ -1,4 +1,4 @@
--- Operands with commas between them, and a text behind which another stands in parentheses.
+-- Operands with commas between them, and a text after which another stands in parentheses.
 use Rattle.std.proofs.Common.{◌≡◌, ℕ, ◌+◌, ◌<◌, Bool, true, false, not, ◌&&◌, List, [], ◌∷◌, ◌++◌}
 use Rattle.std.proofs.Common.{length, take, length-append, refl, ◌∙◌, arith}
 use Rattle.std.specs.Prelude.{map, nat_lt, ◌==◌, slice_range}
@@ -12,14 +12,14 @@ use Rattle.source_defs.specs.ListedLines.{two_texts}
 use Rattle.source_defs.specs.Operands.{operands_from, operand_texts}
 use Rattle.source_defs.specs.Parentheses.{last_place, opening, closes_at, has_parentheses}
 use Rattle.source_defs.proofs.OperandSteps.{operands_from_step}
-use Rattle.listed_lines.proofs.Scans.{and_left, and_right, all_both, all_also, At, at_start, to_end, size_is, behind, part_is, byte_is, scanned_where}
+use Rattle.listed_lines.proofs.Scans.{and_left, and_right, all_both, all_also, At, at_start, to_end, size_is, after, part_is, byte_is, scanned_where}
 use Rattle.listed_lines.proofs.Scans.{unquoted, not_quoted}
 
 -- what the text of an operand holds
 abbrev pub whole : ℕ → Bool
 whole byte = unquoted byte && not (is_comma byte)
 
--- an operand, and others behind commas
+-- an operand, and others after commas
 abbrev pub commas : List ℕ → List (List ℕ) → List ℕ
 commas text [] = text
 commas text (next ∷ texts) = two_texts text (commas next texts)
@@ -49,7 +49,7 @@ module _ (field : List ℕ) (quotes : list_all unquoted field ≡ true) where
       let outside = not_quoted field (from + length text) quotes (omega arith) in
       let ends = scanned_where text (0x2C ∷ commas next texts) left is_comma (λ k. not (in_quotes field 0 k)) (λ some. rw outside refl) uncut refl in
       let inside : nat_lt (from + length text) (length field) ≡ true = grind (arith, nat_tests) in
-      let rest = behind (0x2C ∷ []) (commas next texts) (behind text (0x2C ∷ commas next texts) left) in
+      let rest = after (0x2C ∷ []) (commas next texts) (after text (0x2C ∷ commas next texts) left) in
       let others = operands_at next texts (from + length text + 1) rest (and_left _ (all_whole texts) f) (and_right (list_all whole next) _ f) in
       rw (operands_from_step field from (omega arith), ends, inside, part_is text (0x2C ∷ commas next texts) left, others) refl
 
@@ -71,14 +71,14 @@ pub two_operands : (first second : List ℕ) → list_all whole first ≡ true �
 two_operands first second e f =
     operands_back first (second ∷ []) (omega (arith, length-append first (0x2C ∷ second))) e (rw f refl)
 
--- an address, and behind it an index in parentheses
+-- an address, and after it an index in parentheses
 module _ (outer inner : List ℕ) (quotes : list_all unquoted (outer ++ 0x28 ∷ (inner ++ 0x29 ∷ [])) ≡ true)
     (own : list_all (λ byte. not (byte == 0x28)) outer ≡ true) where
   abbrev pub text_with : List ℕ
   text_with = outer ++ 0x28 ∷ (inner ++ 0x29 ∷ [])
 
   at_inner : At text_with (0 + length outer + 1) (inner ++ 0x29 ∷ [])
-  at_inner = behind (0x28 ∷ []) (inner ++ 0x29 ∷ []) (behind outer (0x28 ∷ (inner ++ 0x29 ∷ [])) (at_start text_with))
+  at_inner = after (0x28 ∷ []) (inner ++ 0x29 ∷ []) (after outer (0x28 ∷ (inner ++ 0x29 ∷ [])) (at_start text_with))
 
   pub opening_is : opening text_with ≡ length outer
   opening_is =
@@ -92,7 +92,7 @@ module _ (outer inner : List ℕ) (quotes : list_all unquoted (outer ++ 0x28 ∷
   closes_is =
       let size = size_is inner (0x29 ∷ []) at_inner in
       let last : last_place text_with ≡ 0 + length outer + 1 + length inner + 0 = omega arith in
-      let byte = byte_is (0x29 ∷ []) [] (to_end (behind inner (0x29 ∷ []) at_inner)) 0 (omega arith) in
+      let byte = byte_is (0x29 ∷ []) [] (to_end (after inner (0x29 ∷ []) at_inner)) 0 (omega arith) in
       rw (not_quoted text_with (last_place text_with) quotes (omega arith), last, byte) refl
 
   pub has_is : has_parentheses text_with ≡ true

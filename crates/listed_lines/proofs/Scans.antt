@@ -77,8 +77,8 @@ module _ {text : List ℕ} {from : ℕ} (token more : List ℕ) (at : At text fr
   pub size_is : length text ≡ from + (length token + length more)
   size_is = at.size ∙ ap (λ n. from + n) (length-append token more)
 
-  pub behind : At text (from + length token) more
-  behind = record {
+  pub after : At text (from + length token) more
+  after = record {
     there = sym (drop-drop (length token) from text) ∙ (ap (drop (length token)) at.there ∙ drop-append_seam token more);
     size = omega (arith, size_is);
   }
@@ -94,12 +94,12 @@ module _ {text : List ℕ} {from : ℕ} (token more : List ℕ) (at : At text fr
   pub byte_is : (k : ℕ) → k < length token → get_or text (from + k) 0 ≡ get_or token k 0
   byte_is k lt = read k ∙ get_or_append_left token more 0 k lt
 
-  byte_behind : get_or text (from + length token) 0 ≡ get_or more 0 0
-  byte_behind =
+  byte_after : get_or text (from + length token) 0 ≡ get_or more 0 0
+  byte_after =
       let none : length token + 0 ≡ length token = omega arith in
       read (length token) ∙ rw none at (get_or-append-add token more 0 0)
 
-  -- the token is given back: none of its bytes passes, and the one behind it does, wherever it stands
+  -- the token is given back: none of its bytes passes, and the one after it does, wherever it stands
   ends_at : (stops test : ℕ → Bool) → ((k : ℕ) → stops (get_or text k 0) ≡ false → test k ≡ false) →
       (0 < length more → stops (get_or text (from + length token) 0) ≡ true → test (from + length token) ≡ true) →
       list_all (λ byte. not (stops byte)) token ≡ true → starts stops more ≡ true →
@@ -109,7 +109,7 @@ module _ {text : List ℕ} {from : ℕ} (token more : List ℕ) (at : At text fr
       rw size
       (least_is test from (length token + length more) (length token) (omega arith)
       (λ k lt. goes (from + k) (rw (byte_is k lt) (not_true _ (all_get (λ byte. not (stops byte)) token k lt own))))
-      (λ lt. ends (omega arith) (rw byte_behind (first_is stops more next (omega arith)))))
+      (λ lt. ends (omega arith) (rw byte_after (first_is stops more next (omega arith)))))
 
   pub scanned : (stops : ℕ → Bool) → list_all (λ byte. not (stops byte)) token ≡ true → starts stops more ≡ true →
       least_place (λ k. stops (get_or text k 0)) text from ≡ from + length token

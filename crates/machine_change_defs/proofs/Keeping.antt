@@ -27,7 +27,7 @@ use Rattle.tms_defs.specs.Accesses.{Answer, Gives, AtPort, NoInstruction, ◌>>=
 use Rattle.tms_defs.specs.Operand.{Cpu, Mode, Register, Indirect, Symbolic, Increment, mode_of, register_in, register}
 use Rattle.tms_defs.specs.Jumps.{jump_target, condition}
 use Rattle.tms_defs.specs.Step.{with_word, with_words, next_word, operand, value_at, with_value, with_flags, stored}
-use Rattle.tms_defs.specs.Step.{kept_in, two, in_row, values_at, with_division, reg, count_of, shift, one, jump_where}
+use Rattle.tms_defs.specs.Step.{kept_in, two, two_words_from, values_at, with_division, reg, count_of, shift, one, jump_where}
 use Rattle.tms_defs.specs.Step.{immediate, imm, bare, executed, executed_where, execution, is_unsupported, step}
 use Rattle.tms_defs.specs.Step.{step_end}
 
@@ -121,7 +121,7 @@ module _ (M : Type 0) (access : Accesses M) (P : M → Type 0) (bytes : Bool)
   do_two x h _ b f v d = holds_then _ _ (at_value x h b f d) (λ u k. to_stored u.1 k b f d _ _)
 
   do_division : (x : Cpu M) → P x.memory → (o : Option (ℕ × ℕ)) (a : ℕ) → Kept (with_division M access o a x)
-  do_division x h (Some q) a = to_words x h (in_row a q)
+  do_division x h (Some q) a = to_words x h (two_words_from a q)
   do_division x h None a = holds x h
 
   do_one : (x : Cpu M) → P x.memory → (o : OneOp) (a : ℕ) → Kept (one M access o a x)
@@ -142,7 +142,7 @@ module _ (M : Type 0) (access : Accesses M) (P : M → Type 0) (bytes : Bool)
   do_reg x h XOP n s =
       holds_num _ _ (λ v. holds_then _ _ (to_words x h (kept_in v.0 x ++ ((register_in v.0 11, s) ∷ [])))
       (λ z k. holds (record z { wp = v.0; pc = v.1; status = with_extension z.status }) k))
-  do_reg x h MPY n s = holds_num _ _ (λ v. to_words x h (in_row (register n x) (product_of v.1 v.0)))
+  do_reg x h MPY n s = holds_num _ _ (λ v. to_words x h (two_words_from (register n x) (product_of v.1 v.0)))
   do_reg x h DIV n s =
       holds_num {X = ℕ × ℕ} (values_at M access s (register n x) x) _ (λ v.
       holds_num {X = ℕ} (access.word x.memory (plus (register n x) 2)) _ (λ l. holds_then _ _ (do_division x h (division_of v.1 l v.0) (register n x))

@@ -1,6 +1,7 @@
 -- What every instruction leaves: how many bytes each part of the memory has, the ROM, and the bytes of the GROMs.
 use Rattle.std.proofs.Common.{◌≡◌, ℕ, zero, suc, ◌+◌, Bool, true, false, List, length, Option, Some, None, refl, ◌∙◌}
-use Rattle.std.proofs.Common.{rules}
+use Rattle.std.proofs.Common.{rules, sym, subst}
+use Rattle.console_defs.proofs.MemoryLaws.{word_written_in, write_is_by_region}
 use Rattle.std.proofs.Math.ListN.{set}
 use Rattle.std.proofs.lemmas.List.{length-set}
 use Rattle.tms_defs.specs.Words.{even, high, low}
@@ -9,7 +10,7 @@ use Rattle.console_defs.specs.Vdp.{VdpState, PairKind, RegisterWrite, pair_kind,
 use Rattle.console_defs.specs.Grom.{GromState, grom_half_taken}
 use Rattle.console_defs.specs.Memory.{Memory, console, Port, VdpDataRead, VdpStatusRead, VdpDataWrite, VdpAddressWrite, GromDataRead, GromAddressRead}
 use Rattle.console_defs.specs.Memory.{GromAddressWrite, Region, LowExpansion, HighExpansion, Scratchpad, PortOf, region}
-use Rattle.console_defs.specs.Memory.{word_written_in, byte_read_in, byte_written_in, port_read, port_written}
+use Rattle.console_defs.specs.Memory.{byte_read_in, byte_written_in, port_read, port_written}
 use Rattle.console_defs.specs.Machine.{MachineState, machine_step}
 use Rattle.console_defs.specs.Runs.{after_steps}
 use Rattle.machine_change_defs.specs.Laws.{Keeps}
@@ -87,7 +88,7 @@ module _ (first m : Memory) (k : Keeps first m) where
 pub step_leaves : (first : Memory) (x : MachineState) → Keeps first x.cpu.memory → Keeps first (machine_step x).1.cpu.memory
 step_leaves first x k =
     step_keeps Memory console (Keeps first) true
-    (λ m a w h. written first m h (region (even a)) (even a) w)
+    (λ m a w h. subst (Holds (Keeps first)) (sym (write_is_by_region m a w)) (written first m h (region (even a)) (even a) w))
     (λ any m a h. holds _ (byte_gave first m h (region a)))
     (λ any m a b h. holds _ (byte_took first m h (region a) b))
     x.cpu k (λ word done. all_allowed (instr_at word))

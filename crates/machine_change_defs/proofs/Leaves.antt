@@ -1,9 +1,10 @@
 -- What instructions on words and jumps leave.
-use Rattle.std.proofs.Common.{◌≡◌, ℕ, ◌∙◌, sym, ap, refl, false}
+use Rattle.std.proofs.Common.{◌≡◌, ℕ, ◌∙◌, sym, ap, subst, refl, false}
 use Rattle.tms_defs.specs.Words.{even}
 use Rattle.tms_defs.specs.Instructions.{instr_at}
 use Rattle.tms_defs.specs.declared.step_end.StepEnd.TheVariants.{Done}
-use Rattle.console_defs.specs.Memory.{Memory, console, Region, PortOf, region, word_written_in}
+use Rattle.console_defs.specs.Memory.{Memory, console, Region, PortOf, region}
+use Rattle.console_defs.proofs.MemoryLaws.{word_written_in, write_is_by_region}
 use Rattle.console_defs.specs.Machine.{MachineState, machine_step}
 use Rattle.machine_change_defs.proofs.Keeping.{Holds, holds, Allowed, step_keeps, IsJump, jump_leaves}
 
@@ -26,7 +27,9 @@ module _ (x : MachineState) (word : ℕ) (done : (machine_step x).0 ≡ Done wor
   pub words_leave : Allowed false (instr_at word) → SamePorts x.cpu.memory (machine_step x).1.cpu.memory
   words_leave allowed =
       step_keeps Memory console (SamePorts x.cpu.memory) false
-      (λ m a w h. written x.cpu.memory m h (region (even a)) (even a) w)
+      (λ m a w h.
+      subst (Holds (SamePorts x.cpu.memory)) (sym (write_is_by_region m a w))
+      (written x.cpu.memory m h (region (even a)) (even a) w))
       (λ never m a h. absurd (cc))
       (λ never m a b h. absurd (cc))
       x.cpu (refl, refl) (λ w e. rw (same_word w e) allowed)

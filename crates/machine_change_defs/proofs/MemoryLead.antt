@@ -15,7 +15,7 @@ use Rattle.machine_change_defs.specs.declared.area.Area.{Area}
 use Rattle.machine_change_defs.specs.declared.area.Area.TheVariants.{Scratchpad, LowExpansion, HighExpansion, Video, Registers}
 use Rattle.machine_change_defs.specs.declared.latches.Latches.{Latches}
 use Rattle.machine_change_defs.specs.Seen.{SeenMemory, seen_memory, size_of, area_bytes, with_bytes, workspace_place, workspace_at, replaced, with_workspace}
-use Rattle.machine_change_defs.specs.Changes.{RegisterChange, register_change, register_changes, registers_applied, new_number, new_held, new_mark, renewed}
+use Rattle.machine_change_defs.specs.Changes.{RegisterChange, register_change, register_changes, registers_applied, number_if_changed, held_if_changed, mark_if_changed, renewed}
 use Rattle.machine_change_defs.specs.Changes.{latch_changes, latches_applied, other_changes, others_applied, changes_at, changes_applied}
 use Rattle.machine_change_defs.specs.Laws.{ChangesGiveMemory, memory_by_changes}
 use Rattle.machine_change_defs.proofs.Keeping.{pick}
@@ -71,17 +71,17 @@ registers_lead : (b a : List ℕ) → length b ≡ 32 → length a ≡ 32 → re
 registers_lead b a bl al = registers_from [] [] b a 0 16 refl refl bl al
 
 -- ---- what the ports hold
-number_renewed : (old new : ℕ) → renewed (new_number old new) old ≡ new
+number_renewed : (old new : ℕ) → renewed (number_if_changed old new) old ≡ new
 number_renewed old new = pick (nat_eq old new) (λ e. rw e (grind (arith, nat_tests))) (λ e. rw e refl)
 
-held_renewed : (old new : Option ℕ) → renewed (new_held old new) old ≡ new
+held_renewed : (old new : Option ℕ) → renewed (held_if_changed old new) old ≡ new
 held_renewed None None = refl
 held_renewed (Some old) (Some new) =
     pick (nat_eq old new)
     (λ e. rw e (ap Some (let same : old ≡ new = grind (arith, nat_tests) in same))) (λ e. rw e refl)
 held_renewed _ _ = refl
 
-mark_renewed : (old new : Bool) → renewed (new_mark old new) old ≡ new
+mark_renewed : (old new : Bool) → renewed (mark_if_changed old new) old ≡ new
 mark_renewed false false = refl
 mark_renewed true false = refl
 mark_renewed _ _ = refl

@@ -42,9 +42,9 @@ one limit (Ok linked) first second p q = one_run limit linked first second p q
 one limit (Err line) first second p q = p ∙ sym q
 
 -- the lines of fewer instructions are a front of those of more
-lines_behind : (x : MachineState) (few made : ℕ) → few ≤ made → (rest : List (List ℕ)) × (step_lines x made ≡ step_lines x few ++ rest)
+lines_after : (x : MachineState) (few made : ℕ) → few ≤ made → (rest : List (List ℕ)) × (step_lines x made ≡ step_lines x few ++ rest)
 unfolding step_lines
-lines_behind x few made le =
+lines_after x few made le =
     let sum : few + (made - few) ≡ made = omega arith in
     (map (line_after x) (range_with_len few (made - few)), ap (λ (n : ℕ). step_lines x n) (sym sum) ∙ mapped_split (line_after x) few (made - few))
 
@@ -62,13 +62,13 @@ begins_run limit linked front report p q =
     let run : IsRun None limit q.executes.made p.start q.ending q.left =
     subst (λ s. IsRun None limit q.executes.made s q.ending q.left) start q.executes.run in
     let le = not_shorter limit p.made q.executes.made p.start q.left q.ending p.runs run in
-    let behind = lines_behind p.start p.made q.executes.made le in
+    let later = lines_after p.start p.made q.executes.made le in
     let after = exec_lines q.ending q.left ++ expansion_lines q.left.cpu.memory in
-    let is : report ≡ Whole (end_status q.ending) (step_lines p.start p.made ++ (behind.0 ++ after)) =
+    let is : report ≡ Whole (end_status q.ending) (step_lines p.start p.made ++ (later.0 ++ after)) =
     q.is ∙ ap (λ s. whole s q.executes.made q.ending q.left) start
-    ∙ ap (λ lines. Whole (end_status q.ending) (lines ++ after)) behind.1
-    ∙ ap (Whole (end_status q.ending)) (append_assoc (step_lines p.start p.made) behind.0 after) in
-    subst (λ f. Begins f report) (sym p.is) (end_status q.ending, behind.0 ++ after, is)
+    ∙ ap (λ lines. Whole (end_status q.ending) (lines ++ after)) later.1
+    ∙ ap (Whole (end_status q.ending)) (append_assoc (step_lines p.start p.made) later.0 after) in
+    subst (λ f. Begins f report) (sym p.is) (end_status q.ending, later.0 ++ after, is)
 
 begins : (limit : ℕ) (linked : Result LinkedMemory (List ℕ)) (front report : Report) → StepsFront limit linked front → StepsReport limit linked report → Begins front report
 begins limit (Ok linked) front report p q = begins_run limit linked front report p q

@@ -35,21 +35,21 @@ registers_applied (c ∷ cs) workspace =
 
 -- ---- what the ports hold beside memory
 
--- a number that is new
-abbrev pub new_number : ℕ → ℕ → Option ℕ
-new_number old new = if old == new then None else Some new
+-- a number where it differs from the one before
+abbrev pub number_if_changed : ℕ → ℕ → Option ℕ
+number_if_changed old new = if old == new then None else Some new
 
-abbrev pub new_held : Option ℕ → Option ℕ → Option (Option ℕ)
-new_held None None = None
-new_held None (Some new) = Some (Some new)
-new_held (Some old) None = Some None
-new_held (Some old) (Some new) = option_map Some (new_number old new)
+abbrev pub held_if_changed : Option ℕ → Option ℕ → Option (Option ℕ)
+held_if_changed None None = None
+held_if_changed None (Some new) = Some (Some new)
+held_if_changed (Some old) None = Some None
+held_if_changed (Some old) (Some new) = option_map Some (number_if_changed old new)
 
-abbrev pub new_mark : Bool → Bool → Option Bool
-new_mark false false = None
-new_mark false true = Some true
-new_mark true false = Some false
-new_mark true true = None
+abbrev pub mark_if_changed : Bool → Bool → Option Bool
+mark_if_changed false false = None
+mark_if_changed false true = Some true
+mark_if_changed true false = Some false
+mark_if_changed true true = None
 
 -- the new one, if there is one
 abbrev pub renewed : {T : Type 0} → Option T → T → T
@@ -67,12 +67,12 @@ pub record LatchChanges : Type 0 where
 abbrev pub latch_changes : Latches → Latches → LatchChanges
 latch_changes old new =
     record {
-      video_address = new_number old.video_address new.video_address;
-      video_fetched = new_number old.video_fetched new.video_fetched;
-      video_held = new_held old.video_held new.video_held;
-      grom_counter = new_number old.grom_counter new.grom_counter;
-      grom_fetched = new_number old.grom_fetched new.grom_fetched;
-      grom_half_written = new_mark old.grom_half_written new.grom_half_written;
+      video_address = number_if_changed old.video_address new.video_address;
+      video_fetched = number_if_changed old.video_fetched new.video_fetched;
+      video_held = held_if_changed old.video_held new.video_held;
+      grom_counter = number_if_changed old.grom_counter new.grom_counter;
+      grom_fetched = number_if_changed old.grom_fetched new.grom_fetched;
+      grom_half_written = mark_if_changed old.grom_half_written new.grom_half_written;
     }
 
 abbrev pub latches_applied : LatchChanges → Latches → Latches
@@ -88,7 +88,7 @@ latches_applied made old =
 
 -- ---- all of it
 
--- The changes of bytes and of what the ports hold.
+-- The changes of bytes other than those of the workspace, and of what the ports hold.
 pub record OtherChanges : Type 0 where
   pub scratchpad : List Change
   pub low_expansion : List Change
@@ -113,8 +113,8 @@ pub record MemoryChanges : Type 0 where
   pub workspace : List RegisterChange
   pub others : OtherChanges
 
--- The changes of an instruction, by where the workspace stands that it had. The other changes are those from the memory
--- that has the new words of the registers already.
+-- The changes of an instruction, by where the workspace stands that it had: first the registers whose words changed;
+-- then whatever is still different once the workspace has its new bytes.
 abbrev pub changes_at : Option (Area × ℕ) → SeenMemory → SeenMemory → MemoryChanges
 changes_at place before after =
     record {

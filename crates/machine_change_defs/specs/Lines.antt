@@ -1,7 +1,7 @@
 -- The lines of a run of the machine: a line for each instruction, and the expansion memory after it.
 use Rattle.std.specs.Prelude.{ℕ, suc, ◌+◌, List, [], ◌∷◌, ◌++◌, codes, map}
 use Rattle.std.specs.List.{range_with_len}
-use Rattle.source_defs.specs.Digits.{word_digits, hex_word}
+use Rattle.source_defs.specs.Digits.{word_digits, hex_word, right_in}
 use Rattle.tms_defs.specs.Accesses.{Answer, Gives, AtPort, NoInstruction}
 use Rattle.tms_defs.specs.Operand.{Cpu}
 use Rattle.tms_defs.specs.Status.{status_word}
@@ -11,7 +11,6 @@ use Rattle.console_defs.specs.Memory.{Memory, word_read}
 use Rattle.console_defs.specs.Machine.{MachineState}
 use Rattle.console_defs.specs.Runs.{after_steps}
 use Rattle.report_defs.specs.Rows.{rows_lines}
-use Rattle.report_defs.specs.Trace.{number_text}
 use Rattle.machine_change_defs.specs.Seen.{seen_memory}
 use Rattle.machine_change_defs.specs.Changes.{MemoryChanges, memory_changes}
 use Rattle.machine_change_defs.specs.Text.{changes_text}
@@ -40,7 +39,7 @@ instruction_text cpu = (printed (code_words cpu.memory cpu.pc) cpu.pc).text
 -- Profile: the line of an instruction begins with its number, the processor before it, and its text.
 unfoldable pub step_front : ℕ → MachineState → List ℕ
 step_front number x =
-    number_text number ++ (codes " " ++ (processor_text x.cpu ++ (codes " " ++ instruction_text x.cpu)))
+    right_in 6 number ++ (codes " " ++ (processor_text x.cpu ++ (codes " " ++ instruction_text x.cpu)))
 
 -- what an instruction changed, by the machines before and after it
 abbrev pub step_changes : MachineState → MachineState → MemoryChanges
@@ -62,7 +61,7 @@ step_lines x count = map (line_after x) (range_with_len 0 count)
 unfoldable pub low_lines : List ℕ → List (List ℕ)
 low_lines bytes = codes "low\n" ∷ rows_lines 0x2000 bytes
 
--- Profile: then the high part.
+-- Profile: then the high part, by its addresses from >A000 on.
 unfoldable pub high_lines : List ℕ → List (List ℕ)
 high_lines bytes = codes "high\n" ∷ rows_lines 0xA000 bytes
 

@@ -1,8 +1,10 @@
 -- What is seen of the memory of a machine: all of it but the ROM and the bytes of the GROMs, which no instruction
 -- changes.
-use Rattle.std.specs.Prelude.{ℕ, ◌+◌, ◌-◌, ◌&&◌, nat_le, if◌then◌else◌, List, [], ◌++◌, take, drop, slice_range, Option}
+use Rattle.std.specs.Prelude.{ℕ, ◌+◌, ◌-◌, ◌==◌, if◌then◌else◌, List, [], ◌++◌, take, drop, slice_range, Option}
 use Rattle.std.specs.Prelude.{Some, None}
+use Rattle.std.specs.Option.{option_map}
 use Rattle.console_defs.specs.Memory.{Memory}
+use Rattle.console_defs.specs.Machine.{workspace_base}
 use Rattle.machine_change_defs.specs.declared.area.Area.{Area}
 use Rattle.machine_change_defs.specs.declared.area.Area.TheVariants.{Scratchpad, LowExpansion, HighExpansion}
 use Rattle.machine_change_defs.specs.declared.area.Area.TheVariants.{Video, Registers}
@@ -60,14 +62,14 @@ with_bytes HighExpansion bytes m = record m { high_expansion = bytes }
 with_bytes Video bytes m = record m { video = bytes }
 with_bytes Registers bytes m = record m { registers = bytes }
 
--- Where the 32 bytes of a workspace stand: the area, and the place in it.
--- Profile: it is shown by its registers where it lies wholly in the scratchpad from >8300 on, or in expansion memory.
+-- the area from an address on
+abbrev pub area_from : ℕ → Area
+area_from base =
+    if base == 0x8300 then Scratchpad else if base == 0x2000 then LowExpansion else HighExpansion
+
+-- where the 32 bytes of a workspace that can be shown stand: the area, and the place in it
 abbrev pub workspace_place : ℕ → Option (Area × ℕ)
-workspace_place wp =
-    if nat_le 0x8300 wp && nat_le wp 0x83E0 then Some (Scratchpad, wp - 0x8300)
-    else if nat_le 0x2000 wp && nat_le wp 0x3FE0 then Some (LowExpansion, wp - 0x2000)
-    else if nat_le 0xA000 wp && nat_le wp 0xFFE0 then Some (HighExpansion, wp - 0xA000)
-    else None
+workspace_place wp = option_map (λ base. (area_from base, wp - base)) (workspace_base wp)
 
 abbrev pub workspace_at : Option (Area × ℕ) → SeenMemory → List ℕ
 workspace_at None m = []

@@ -1,11 +1,11 @@
 -- How a line shows all that its instruction changed.
-use Rattle.std.specs.Prelude.{ℕ, ◌+◌, Bool, true, false, List, [], ◌∷◌, ◌++◌, codes, Option, Some, None}
+use Rattle.std.specs.Prelude.{ℕ, ◌+◌, Bool, true, false, List, [], ◌++◌, codes, Option, Some, None}
 use Rattle.std.specs.List.{flat_map}
 use Rattle.std.specs.Fmt.{decimal}
 use Rattle.source_defs.specs.Digits.{word_digits, hex_word, byte_digits}
 use Rattle.report_defs.specs.Trace.{cell_place, register_place}
 use Rattle.change_defs.specs.Changes.{Change}
-use Rattle.change_defs.specs.Text.{placed_change}
+use Rattle.change_defs.specs.Text.{change_texts}
 use Rattle.machine_change_defs.specs.declared.area.Area.{Area}
 use Rattle.machine_change_defs.specs.declared.area.Area.TheVariants.{Scratchpad, LowExpansion, HighExpansion}
 use Rattle.machine_change_defs.specs.declared.area.Area.TheVariants.{Video, Registers}
@@ -23,18 +23,9 @@ place_text HighExpansion at = hex_word (0xA000 + at)
 place_text Video at = codes "V" ++ hex_word at
 place_text Registers at = codes "W" ++ register_place at
 
--- a change, of which the one before ended at a place
-unfoldable pub change_text : Area → ℕ → Change → List ℕ
-change_text area end c = placed_change (place_text area c.at) end c
-
--- the text of changes, of which the one before ended at a place
-abbrev pub change_texts : Area → ℕ → List Change → List ℕ
-change_texts area end [] = []
-change_texts area end (c ∷ cs) = change_text area end c ++ change_texts area (c.at + c.count) cs
-
 -- the text of the changes of an area
 unfoldable pub area_text : Area → List Change → List ℕ
-area_text area cs = change_texts area 0 cs
+area_text area cs = change_texts (place_text area) 0 cs
 
 -- Profile: what a port holds is shown by a name and its new value.
 abbrev pub latch_text : {T : Type 0} → List ℕ → (T → List ℕ) → Option T → List ℕ

@@ -2,7 +2,8 @@
 use Rattle.std.proofs.Common.{◌≡◌, ℕ, zero, suc, ◌+◌, ◌-◌, ◌*◌, Bool, true, false, cond, ◌&&◌, List, [], ◌∷◌, ◌++◌, take, get_or}
 use Rattle.std.proofs.Common.{Option, Some, None, refl, sym, ap, ap₂, ◌∙◌, subst, arith}
 use Rattle.std.specs.List.{flat_map, range_with_len}
-use Rattle.std.specs.Prelude.{nat_le, slice_range}
+use Rattle.std.specs.Option.{option_map}
+use Rattle.std.specs.Prelude.{◌==◌, slice_range}
 use Rattle.std.proofs.lemmas.Bool.{eq-eqb}
 use Rattle.std.proofs.lemmas.List.{take-append-drop}
 use Rattle.std.proofs.lemmas.List.Folds.{drop_split}
@@ -14,14 +15,14 @@ use Rattle.tms_defs.specs.declared.step_end.StepEnd.TheVariants.{Done}
 use Rattle.console_defs.specs.Vdp.{VdpState}
 use Rattle.console_defs.specs.Grom.{GromState}
 use Rattle.console_defs.specs.Memory.{Memory}
-use Rattle.console_defs.specs.Machine.{MachineState, machine_step}
+use Rattle.console_defs.specs.Machine.{MachineState, machine_step, workspace_base}
 use Rattle.step_changes.proofs.Neighbours.{none}
 use Rattle.change_defs.specs.Changes.{changes}
 use Rattle.machine_change_defs.specs.declared.area.Area.{Area}
 use Rattle.machine_change_defs.specs.declared.area.Area.TheVariants.{Scratchpad, LowExpansion, HighExpansion, Video, Registers}
 use Rattle.machine_change_defs.specs.declared.latches.Latches.{Latches}
-use Rattle.machine_change_defs.specs.Seen.{SeenMemory, seen_memory, area_bytes, with_bytes, workspace_place, workspace_at, replaced, with_workspace}
-use Rattle.machine_change_defs.specs.Changes.{RegisterChange, register_change, new_held, new_mark, latch_changes, other_changes, changes_at, memory_changes}
+use Rattle.machine_change_defs.specs.Seen.{SeenMemory, seen_memory, area_bytes, area_from, with_bytes, workspace_place, workspace_at, replaced, with_workspace}
+use Rattle.machine_change_defs.specs.Changes.{RegisterChange, register_change, held_if_changed, mark_if_changed, latch_changes, other_changes, changes_at, memory_changes}
 use Rattle.machine_change_defs.specs.Text.{area_text, latches_text, bytes_text, ports_text, changes_text}
 use Rattle.machine_change_defs.proofs.Leaves.{SamePorts, words_leave, jumps_leave}
 use Rattle.machine_steps.specs.declared.reach.Reach.{Reach}
@@ -46,11 +47,11 @@ registers_none ws from (suc n) =
     ap (λ (cs : List RegisterChange). cs ++ flat_map (register_change ws ws) (range_with_len (from + 1) n)) (register_none ws from)
     ∙ registers_none ws (from + 1) n
 
-held_none : (held : Option ℕ) → new_held held held ≡ None
+held_none : (held : Option ℕ) → held_if_changed held held ≡ None
 held_none None = refl
 held_none (Some byte) = rw (eq-eqb byte byte refl) refl
 
-mark_none : (mark : Bool) → new_mark mark mark ≡ None
+mark_none : (mark : Bool) → mark_if_changed mark mark ≡ None
 mark_none true = refl
 mark_none false = refl
 
@@ -110,14 +111,17 @@ pub record KeepsPorts (m n : SeenMemory) : Type 0 where
   pub latches : n.latches ≡ m.latches
 
 pub workspace_keeps : (wp : ℕ) (ws : List ℕ) (m : SeenMemory) → KeepsPorts m (with_workspace (workspace_place wp) ws m)
-workspace_keeps wp ws m =
-    by (nat_le 0x8300 wp && nat_le wp 0x83E0) (nat_le 0x2000 wp && nat_le wp 0x3FE0) (nat_le 0xA000 wp && nat_le wp 0xFFE0)
+workspace_keeps wp ws m = by (workspace_base wp)
   where
-    by : (s t u : Bool) → KeepsPorts m (with_workspace (cond s (Some (Scratchpad, wp - 0x8300)) (cond t (Some (LowExpansion, wp - 0x2000)) (cond u (Some (HighExpansion, wp - 0xA000)) None))) ws m)
-    by true t u = record { video = refl; registers = refl; latches = refl }
-    by false true u = record { video = refl; registers = refl; latches = refl }
-    by false false true = record { video = refl; registers = refl; latches = refl }
-    by false false false = record { video = refl; registers = refl; latches = refl }
+    by_area : (base : ℕ) (low high : Bool) →
+        KeepsPorts m (with_workspace (Some (cond low Scratchpad (cond high LowExpansion HighExpansion), wp - base)) ws m)
+    by_area base true high = record { video = refl; registers = refl; latches = refl }
+    by_area base false true = record { video = refl; registers = refl; latches = refl }
+    by_area base false false = record { video = refl; registers = refl; latches = refl }
+
+    by : (base : Option ℕ) → KeepsPorts m (with_workspace (option_map (λ base. (area_from base, wp - base)) base) ws m)
+    by None = record { video = refl; registers = refl; latches = refl }
+    by (Some base) = by_area base (base == 0x8300) (base == 0x2000)
 
 -- ---- instructions
 ports_stay : (m n : Memory) → SamePorts m n → Stays Words (seen_memory m) (seen_memory n)

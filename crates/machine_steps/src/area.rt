@@ -3,6 +3,7 @@
 ghost use Rattle.std.specs.Prelude.{◌≡◌, ◌≤◌, ◌<◌, ◌+◌, ◌*◌, false, ◌++◌, length, codes};
 ghost use Rattle.arrayvec.specs.ArrayVec.{array_vec_len};
 ghost use Rattle.change_defs.specs.Changes.{changes};
+ghost use Rattle.change_defs.specs.Text.{change_text};
 ghost use Rattle.step_changes.specs.declared.line.TheConstants.{LONGEST};
 ghost use Rattle.machine_change_defs.specs.Seen.{size_of};
 ghost use Rattle.machine_change_defs.specs.Text as spec;
@@ -45,11 +46,11 @@ fn append_area(line: &mut LongLine, area: Area, before: &[u8], now: &[u8]) -> bo
 }
 
 /// The text of a change, of which the one before ended at a place.
-#[tactic(auto, using(std::proofs::Common::append_assoc), unfolding(machine_change_defs::specs::Text::change_text))]
+#[tactic(auto, using(std::proofs::Common::append_assoc), unfolding(change_defs::specs::Text::change_text))]
 fn change_text(area: Area, end: usize, at: usize, byte: u8, count: usize) -> Line
     requires at { at < size_of area }
     requires count { count ≤ 24576 }
-    ensures text { result.items ≡ spec.change_text area end (record { at = at; byte = byte; count = count }) }
+    ensures text { result.items ≡ change_text (spec.place_text area) end (record { at = at; byte = byte; count = count }) }
     ensures size { array_vec_len result ≤ 16 }
 {
     let mut line = Line::new();

@@ -22,7 +22,7 @@ pub fn put_expansion<O: Sink>(bus: &Bus, out: &mut O) -> Result<(), Failed>
 }
 
 /// Writes the low expansion memory.
-#[tactic(auto, unfolding(machine_change_defs::specs::Lines::low_lines), using(bench_io::proofs::Writes::written_behind, bench_io::proofs::Writes::missed_at))]
+#[tactic(auto, unfolding(machine_change_defs::specs::Lines::low_lines), using(bench_io::proofs::Writes::written_after, bench_io::proofs::Writes::missed_at))]
 fn put_low<O: Sink>(bytes: &[u8], out: &mut O) -> Result<(), Failed>
     requires { length bytes.now ≡ 8192 }
     ensures { Written result (O.state out.old) (O.state out.new) (spec.low_lines bytes.now) }
@@ -32,7 +32,7 @@ fn put_low<O: Sink>(bytes: &[u8], out: &mut O) -> Result<(), Failed>
 }
 
 /// Writes the high expansion memory.
-#[tactic(auto, unfolding(machine_change_defs::specs::Lines::high_lines), using(bench_io::proofs::Writes::written_behind, bench_io::proofs::Writes::missed_at))]
+#[tactic(auto, unfolding(machine_change_defs::specs::Lines::high_lines), using(bench_io::proofs::Writes::written_after, bench_io::proofs::Writes::missed_at))]
 fn put_high<O: Sink>(bytes: &[u8], out: &mut O) -> Result<(), Failed>
     requires { length bytes.now ≡ 24576 }
     ensures { Written result (O.state out.old) (O.state out.new) (spec.high_lines bytes.now) }

@@ -3,7 +3,7 @@
 ghost use Rattle.std.specs.Prelude.{◌≡◌, ◌≤◌, ◌+◌, ◌-◌, ◌++◌, [], length, replicate};
 ghost use Rattle.arrayvec.specs.ArrayVec.{array_vec_len};
 ghost use Rattle.console_defs.specs.Memory.{word_read};
-ghost use Rattle.report_defs.specs.Trace.{number_text};
+ghost use Rattle.source_defs.specs.Digits.{right_in};
 ghost use Rattle.machine_change_defs.specs.Lines as spec;
 
 use asm_forms::print_instr;
@@ -57,10 +57,10 @@ fn append_instruction(line: &mut Line, machine: &Machine)
 }
 
 /// Appends a number to an empty line, right in six places.
-#[tactic(auto, using(std::proofs::Common::append_assoc), unfolding(report_defs::specs::Trace::number_text))]
+#[tactic(auto, using(std::proofs::Common::append_assoc), unfolding(source_defs::specs::Digits::right_in))]
 fn append_number(line: &mut Line, number: u32)
     requires { line.old.items ≡ [] }
-    ensures bytes { line.new.items ≡ number_text number }
+    ensures bytes { line.new.items ≡ right_in 6 number }
     ensures len { array_vec_len line.new ≤ 46 }
 {
     let mut buffer = Buffer::new();

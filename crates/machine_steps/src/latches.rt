@@ -31,7 +31,7 @@ fn append_new_word(line: &mut Line, name: &[u8], old: u16, new: u16)
     requires name { length name.now ≡ 2 }
     requires room { array_vec_len line.old + 8 ≤ 192 }
     ensures bytes { line.new.items ≡ line.old.items
-        ++ spec.latch_text name.now word_digits (changes.new_number old new) }
+        ++ spec.latch_text name.now word_digits (changes.number_if_changed old new) }
     ensures len { array_vec_len line.new ≤ array_vec_len line.old + 8 }
 {
     if old != new {
@@ -46,7 +46,7 @@ fn append_new_byte(line: &mut Line, name: &[u8], old: u8, new: u8)
     requires name { length name.now ≡ 2 }
     requires room { array_vec_len line.old + 8 ≤ 192 }
     ensures bytes { line.new.items ≡ line.old.items
-        ++ spec.latch_text name.now byte_digits (changes.new_number old new) }
+        ++ spec.latch_text name.now byte_digits (changes.number_if_changed old new) }
     ensures len { array_vec_len line.new ≤ array_vec_len line.old + 8 }
 {
     if old != new {
@@ -60,7 +60,7 @@ fn append_new_byte(line: &mut Line, name: &[u8], old: u8, new: u8)
 fn append_new_held(line: &mut Line, old: Option<u8>, new: Option<u8>)
     requires room { array_vec_len line.old + 8 ≤ 192 }
     ensures bytes { line.new.items ≡ line.old.items
-        ++ spec.latch_text (codes "VH") spec.held_text (changes.new_held old new) }
+        ++ spec.latch_text (codes "VH") spec.held_text (changes.held_if_changed old new) }
     ensures len { array_vec_len line.new ≤ array_vec_len line.old + 8 }
 {
     match (old, new) {
@@ -87,7 +87,7 @@ fn append_held(line: &mut Line, byte: u8)
 fn append_new_mark(line: &mut Line, old: bool, new: bool)
     requires room { array_vec_len line.old + 8 ≤ 192 }
     ensures bytes { line.new.items ≡ line.old.items
-        ++ spec.latch_text (codes "GH") spec.mark_text (changes.new_mark old new) }
+        ++ spec.latch_text (codes "GH") spec.mark_text (changes.mark_if_changed old new) }
     ensures len { array_vec_len line.new ≤ array_vec_len line.old + 8 }
 {
     match (old, new) {

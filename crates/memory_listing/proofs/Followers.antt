@@ -61,7 +61,7 @@ pub ended : (belonging : ℕ) → rows_by belonging [] ≡ []
 ended zero = refl
 ended (suc belonging) = refl
 
--- the row that begins at a word, and the rows behind it
+-- the row that begins at a word, and the rows after it
 pub row_at : (belonging i end more : ℕ) (pair : ℕ × ℕ) (words : List (ℕ × ℕ)) → belonging ≤ 0 → slice_get words i ≡ Some pair → end - i ≡ more + 1
     → more ≡ following 7 (pair.0 + 2) (drop (i + 1) words)
     → rows_by belonging (drop i words) ≡ words_line (take (end - i) (drop i words)) ∷ rows_by more (drop (i + 1) words)

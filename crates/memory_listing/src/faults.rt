@@ -4,7 +4,7 @@ ghost use Rattle.std.specs.Prelude.{◌≡◌, ◌≤◌, ◌<◌, ◌+◌, ◌+
 ghost use Rattle.arrayvec.specs.ArrayVec.{array_vec_len};
 ghost use Rattle.source_defs.specs.Digits.{hex_word};
 ghost use Rattle.report_defs.specs.ObjectFaults as spec;
-ghost use Rattle.memory_listing.specs.Told.{IsTold, link_told};
+ghost use Rattle.memory_listing.specs.FaultLines.{IsFaultLine, line_of_link_error};
 
 use asm_text::word_digits;
 use link_loader::LinkError;
@@ -66,7 +66,7 @@ fn text_of(bytes: &[u8]) -> Line
 /// # Errors
 /// `AllocError` comes where the modules are not linked because memory ran out, which has no line.
 pub fn link_line(error: &LinkError) -> Result<Line, AllocError>
-    ensures { IsTold result (link_told error.now) }
+    ensures { IsFaultLine result (line_of_link_error error.now) }
 {
     Ok(match error {
         LinkError::DuplicateDef(name) => name_line(b"duplicate def ", name.as_bytes()),

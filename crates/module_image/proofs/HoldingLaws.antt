@@ -1,4 +1,4 @@
--- What a table holds behind one line more.
+-- What a table holds after one line more.
 use Rattle.std.proofs.Common.{◌≡◌, ℕ, zero, suc, ◌+◌, ◌-◌, ◌*◌, ◌<◌, ◌≤◌, ◌≢◌, Bool, true, false, ◌&&◌, ◌||◌, List, [], ◌∷◌, Some, None, length, refl, sym, ap}
 use Rattle.std.proofs.Common.{◌∙◌, arith}
 use Rattle.std.specs.Prelude.{Option, is_some, nat_le, nat_lt, nat_eq, if◌then◌else◌, slice_get, slice_set}
@@ -13,7 +13,7 @@ use Rattle.asm_defs.specs.declared.location.Part.{Part}
 use Rattle.asm_defs.specs.declared.location.Part.TheVariants as part
 use Rattle.asm_defs.specs.declared.location.Location.{Location}
 use Rattle.asm_defs.specs.SecondChecks.{Outcome, Nothing, Words, Bytes, Entry}
-use Rattle.asm_defs.specs.Memory.{AssembledLine, same_part, covers, is_placed, has_word, words_in, any_from, part_words, bytes_in, behind_word}
+use Rattle.asm_defs.specs.Memory.{AssembledLine, same_part, covers, is_placed, has_word, words_in, any_from, part_words, bytes_in, after_word}
 use Rattle.asm_defs.proofs.PlacedWords.{word_contents}
 use Rattle.asm_defs.specs.Memory.{spot_by, contents_by, contents, content_at, references_of, is_placed_in}
 use Rattle.module_image.specs.Tables.{cell, put_from, is_taken, is_taken_word, words_taken}
@@ -23,7 +23,7 @@ use Rattle.module_image.proofs.TableLaws.{count_same}
 words_length : (part : Part) (references : List Reference) (at : ℕ) (words : List Value) → length (word_contents part references at words) ≡ 2 * length words
 words_length part references at [] = refl
 words_length part references at (word ∷ words) =
-    omega (arith, words_length part (behind_word references (spot_by part at) word) (at + 2) words)
+    omega (arith, words_length part (after_word references (spot_by part at) word) (at + 2) words)
 
 pub contents_length : (at : Location) (references : List Reference) (outcome : Outcome) → length (contents_by at references outcome) ≡ bytes_in outcome
 contents_length at references Nothing = refl
@@ -51,7 +51,7 @@ others from count p false ne e = grind (arith, nat_tests)
 pub chosen : {A : Type 0} (d b : Bool) (this that : A) → d ≡ b → (if d then this else that) ≡ (if b then this else that)
 chosen d b this that e = ap (λ c. if c then this else that) e
 
--- what stands at a place behind a first byte and others
+-- what stands at a place after a first byte and others
 put_step : (cells after : List (Option Content)) (from p : ℕ) (content : Content) (put : List Content) (found : Option Content)
     → found ≡ (if is_among (from + 1) (length put) p then slice_get put (p - (from + 1)) else cell after p)
     → (p ≡ from → cell after p ≡ Some content) → (p ≢ from → cell after p ≡ cell cells p)
@@ -70,7 +70,7 @@ put_step cells after from p content put found ih same other false false e f =
     let ne : p ≢ from = λ at. let here : nat_eq p from ≡ true = grind (arith, nat_tests, at) in cc (here, e) in
     rw (others from (length put) p false ne f) ((rw f at ih) ∙ other ne)
 
--- what stands at a place behind some bytes
+-- what stands at a place after some bytes
 pub put_cell : (cells : List (Option Content)) (from : ℕ) (put : List Content) (p : ℕ) → from + length put ≤ length cells
     → cell (put_from cells from put) p ≡ (if is_among from (length put) p then slice_get put (p - from) else cell cells p)
 put_cell cells from [] p le = sym (chosen (is_among from 0 p) false None (cell cells p) (empty from p))
@@ -159,7 +159,7 @@ pub part_placed : (a b : Part) → same_part a b ≡ true → is_placed_in a ≡
 part_placed part.Dummy b e = cc e
 part_placed _ b e = refl
 
--- bytes that are laid behind lines
+-- bytes that are laid after lines
 module _ (references : List Reference) (earlier : List AssembledLine) (line : AssembledLine) (at : Location) (given : List Content) (is_at : line.at ≡ at) (is_given : is_placed_in at.part ≡ true → given ≡ contents references earlier line) (within : at.number + length given ≤ 65536) where
   size_is : is_placed_in at.part ≡ true → length given ≡ bytes_in line.outcome
   size_is placed = ap length (is_given placed) ∙ contents_length line.at (references_of references earlier) line.outcome

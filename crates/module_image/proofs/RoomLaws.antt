@@ -42,8 +42,8 @@ words_counted references lines image is =
     )
 
 module _ (references : List Reference) (earlier : List AssembledLine) (line : AssembledLine) (at : Location) (given : List Content) (old : Image) (is : IsImage references earlier old) (is_at : line.at ≡ at) (is_given : is_placed_in at.part ≡ true → given ≡ contents references earlier line) (within : at.number + length given ≤ 65536) where
-  pub image_behind : (new : Image) → IsLaid at given old new → IsImage references (line ∷ earlier) new
-  image_behind new laid = record {
+  pub image_after : (new : Image) → IsLaid at given old new → IsImage references (line ∷ earlier) new
+  image_after new laid = record {
     relocatable = part_holds references earlier line at given is_at is_given within part.Relocatable (same_part at.part part.Relocatable)
         old.relocatable.cells.items new.relocatable.cells.items refl old.relocatable.size is.relocatable laid.relocatable;
     absolute = part_holds references earlier line at given is_at is_given within part.Absolute (same_part at.part part.Absolute)

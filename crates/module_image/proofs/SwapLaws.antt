@@ -18,14 +18,14 @@ use Rattle.asm_defs.specs.declared.location.Part.TheVariants as part
 use Rattle.asm_defs.specs.declared.location.Location.{Location}
 use Rattle.asm_defs.specs.SecondChecks.{Outcome, Words, Entry}
 use Rattle.asm_defs.specs.Memory.{AssembledLine, same_part, covers, is_placed, has_word, words_in, word_count, overlaps, any_from, part_words, bytes_in}
-use Rattle.asm_defs.specs.Memory.{spot_by, word_of, behind_word, contents_by, contents, content_at, references_of, behind_by}
+use Rattle.asm_defs.specs.Memory.{spot_by, word_of, after_word, contents_by, contents, content_at, references_of, after_by}
 use Rattle.asm_defs.specs.Memory.{is_placed_in}
-use Rattle.asm_defs.proofs.PlacedWords.{word_contents, behind_words}
+use Rattle.asm_defs.proofs.PlacedWords.{word_contents, after_words}
 use Rattle.asm_defs.specs.Modules.{with_room, entry_by}
 use Rattle.asm_defs.specs.Growing.{is_own, stands}
 use Rattle.module_image.specs.Tables.{cell, put_from}
 use Rattle.module_image.specs.Images.{IsImage, IsLaid}
-use Rattle.module_image.specs.Standing.{StandsBehind, AllStand, FillsPlace, SamePlaces}
+use Rattle.module_image.specs.Standing.{StandsAfter, AllStand, FillsPlace, SamePlaces}
 use Rattle.module_image.specs.declared.image.Image.{Image}
 use Rattle.module_image.proofs.TableLaws.{count_same}
 use Rattle.module_image.proofs.HoldingLaws.{chosen, any_same, are_same, part_same, part_placed, put_cell, is_among, contents_length}
@@ -35,7 +35,7 @@ own_word : (first second : List Reference) (value : Value) → is_own value ≡ 
 own_word first second (External name) own = cc own
 own_word first second _ own = refl
 
-own_use : (references : List Reference) (at : Spot) (value : Value) → is_own value ≡ true → behind_word references at value ≡ references
+own_use : (references : List Reference) (at : Spot) (value : Value) → is_own value ≡ true → after_word references at value ≡ references
 own_use references at (External name) own = cc own
 own_use references at _ own = refl
 
@@ -48,7 +48,7 @@ own_words part first second at (word ∷ words) own =
     (rw (own_use second (spot_by part at) word each.0, own_words part first second (at + 2) words each.1) refl)
 
 own_uses : (part : Part) (references : List Reference) (at : ℕ) (words : List Value) → list_all is_own words ≡ true
-    → behind_words part references at words ≡ references
+    → after_words part references at words ≡ references
 own_uses part references at [] own = refl
 own_uses part references at (word ∷ words) own =
     let each = and_parts (is_own word) (list_all is_own words) own in
@@ -63,9 +63,9 @@ either_same : (b : Bool) (first second : List Reference) → first ≡ second �
 either_same true first second same = same
 either_same false first second same = refl
 
-pub uses_none : (at : Location) (references : List Reference) (outcome : Outcome) → stands outcome ≡ true → behind_by at references outcome ≡ references
+pub uses_none : (at : Location) (references : List Reference) (outcome : Outcome) → stands outcome ≡ true → after_by at references outcome ≡ references
 uses_none at references (Words words) own =
-    either_same (is_placed_in at.part) (behind_words at.part references at.number words) references (own_uses at.part references at.number words own)
+    either_same (is_placed_in at.part) (after_words at.part references at.number words) references (own_uses at.part references at.number words own)
 uses_none at references _ own = refl
 
 pub enters_none : (entry : Option Spot) (outcome : Outcome) → stands outcome ≡ true → entry_by entry outcome ≡ entry
@@ -73,8 +73,8 @@ enters_none entry (Entry found) own = cc own
 enters_none entry _ own = refl
 
 module _ (first second : List AssembledLine) (same : SamePlaces first second) where
-  pub same_behind : (line : AssembledLine) → SamePlaces (line ∷ first) (line ∷ second)
-  same_behind line part p = ap (λ b. covers line part p || b) (same part p)
+  pub same_after : (line : AssembledLine) → SamePlaces (line ∷ first) (line ∷ second)
+  same_after line part p = ap (λ b. covers line part p || b) (same part p)
 
   word_same : (part : Part) (w : ℕ) → has_word first part w ≡ has_word second part w
   word_same part w = rw (same part (2 * w), same part (2 * w + 1)) refl
@@ -90,7 +90,7 @@ room_of count overlap line = if nat_lt 32768 count then Err Overflow else if ove
 
 pub room_same : (first second : List AssembledLine) → SamePlaces first second → (line : AssembledLine) → with_room first line ≡ with_room second line
 room_same first second same line =
-    ap (λ count. room_of count (overlaps first line) line) (count_is (line ∷ first) (line ∷ second) (same_behind first second same line))
+    ap (λ count. room_of count (overlaps first line) line) (count_is (line ∷ first) (line ∷ second) (same_after first second same line))
     ∙ ap (λ b. room_of (word_count (line ∷ second)) b line)
     (any_same (is_placed first line.at.part) (is_placed second line.at.part) line.at.number (bytes_in line.outcome) (λ p. same line.at.part p))
 
@@ -98,7 +98,7 @@ pub stand_same : (first second lines : List AssembledLine) → SamePlaces first 
 stand_same first second [] same all = tt
 stand_same first second (line ∷ lines) same all = (
   record { room = sym (room_same first second same line) ∙ all.0.room; stands = all.0.stands },
-  stand_same (line ∷ first) (line ∷ second) lines (same_behind first second same line) all.1,
+  stand_same (line ∷ first) (line ∷ second) lines (same_after first second same line) all.1,
 )
 
 -- a line that has room overlaps no other
@@ -140,9 +140,9 @@ module _ (references : List Reference) (done : List AssembledLine) (held line : 
       ∙ (sym (chosen (covers held part p) false (slice_get (contents references done held) (p - held.at.number)) (content_at references done part p) (covers_same part p ∙ e))
       ∙ sym (chosen (covers line part p) false (slice_get (contents references done line) (p - line.at.number)) (content_at references (held ∷ done) part p) e))
 
-  module _ (old new : List AssembledLine) (swapped : IsSwapped old new) (has : Has old) (found : AssembledLine) (behind_it : StandsBehind old found) where
+  module _ (old new : List AssembledLine) (swapped : IsSwapped old new) (has : Has old) (found : AssembledLine) (after_it : StandsAfter old found) where
     free : overlaps old found ≡ false
-    free = room_apart (nat_lt 32768 (word_count (found ∷ old))) (overlaps old found) found behind_it.room
+    free = room_apart (nat_lt 32768 (word_count (found ∷ old))) (overlaps old found) found after_it.room
 
     apart_by : (part : Part) (p : ℕ) (b : Bool) → covers line part p ≡ b → covers found part p ≡ true → covers line part p ≡ false
     apart_by part p false e there = e
@@ -164,7 +164,7 @@ module _ (references : List Reference) (done : List AssembledLine) (held line : 
     next_by part p true e =
         chosen _ true _ _ e
         ∙ (ap (λ (contents : List Content). slice_get contents (p - found.at.number))
-        (stands_alone found.at (references_of references new) (references_of references old) found.outcome behind_it.stands)
+        (stands_alone found.at (references_of references new) (references_of references old) found.outcome after_it.stands)
         ∙ (sym (chosen (covers found part p) true (slice_get (contents references old found) (p - found.at.number)) (content_at references old part p) e)
         ∙ sym (chosen (covers line part p) false (slice_get (contents references done line) (p - line.at.number)) (content_at references (found ∷ old) part p)
         (apart_by part p (covers line part p) refl e))))
@@ -219,7 +219,7 @@ module _ (references : List Reference) (done : List AssembledLine) (held line : 
 
 pub onto_same : (first second lines : List AssembledLine) → SamePlaces first second → SamePlaces (onto first lines) (onto second lines)
 onto_same first second [] same = same
-onto_same first second (line ∷ lines) same = onto_same (line ∷ first) (line ∷ second) lines (same_behind first second same line)
+onto_same first second (line ∷ lines) same = onto_same (line ∷ first) (line ∷ second) lines (same_after first second same line)
 
 -- whether a line has room where a place was held for it
 filled_by : (full overlap : Bool) (held line : AssembledLine)

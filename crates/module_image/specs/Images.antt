@@ -41,7 +41,7 @@ abbrev pub any_laid : Image → Location → ℕ → Bool
 any_laid image at count = any_in at.part image at.number count
 
 -- a line was placed after others, and whether it has room
-pub record IsPlacedBehind {A : Type 0} (references : List Reference) (earlier : List AssembledLine)
+pub record IsPlacedAfter {A : Type 0} (references : List Reference) (earlier : List AssembledLine)
     (line : AssembledLine)
     (result : Result A AsmCause) (new : Image) : Type 0 where
   pub room : map_ok (λ _. line) result ≡ with_room earlier line
@@ -53,4 +53,4 @@ abbrev pub Places : {A : Type 0} → List Reference → List AssembledLine → A
 Places references earlier line at given result old new =
     IsImage references earlier old → line.at ≡ at
     → (IsTrue (is_placed_in at.part) → given ≡ contents references earlier line)
-    → IsPlacedBehind references earlier line result new
+    → IsPlacedAfter references earlier line result new

@@ -6,14 +6,14 @@ use Rattle.asm_defs.specs.Modules.{with_room}
 use Rattle.asm_defs.specs.Growing.{stands}
 
 -- a line has room after others, and stands as it is
-pub record StandsBehind (earlier : List AssembledLine) (line : AssembledLine) : Type 0 where
+pub record StandsAfter (earlier : List AssembledLine) (line : AssembledLine) : Type 0 where
   pub room : with_room earlier line ≡ Ok line
   pub stands : IsTrue (stands line.outcome)
 
 -- and so does each of some lines in their order
 abbrev pub AllStand : List AssembledLine → List AssembledLine → Type 0
 AllStand earlier [] = ⊤
-AllStand earlier (line ∷ lines) = StandsBehind earlier line × AllStand (line ∷ earlier) lines
+AllStand earlier (line ∷ lines) = StandsAfter earlier line × AllStand (line ∷ earlier) lines
 
 -- a line has as many bytes, at the same place, as another
 pub record FillsPlace (held line : AssembledLine) : Type 0 where

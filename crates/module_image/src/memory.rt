@@ -69,14 +69,14 @@ impl Table {
         requires { place < 65536 }
         ensures { self.new.cells.items ≡ slice_set self.old.cells.items place (Some content) }
     {
-        let words = self.words_behind(place, content);
+        let words = self.words_after(place, content);
         self.cells[place] = Some(content);
         self.words = words;
     }
 
     /// How many words have a byte once one more is put.
     #[tactic(auto, using(crate::proofs::TableLaws::words_more, crate::proofs::TableLaws::words_same, crate::proofs::TableLaws::words_most))]
-    fn words_behind(&self, place: usize, content: Content) -> u32
+    fn words_after(&self, place: usize, content: Content) -> u32
         requires { place < 65536 }
         ensures { result ≡ words_taken (slice_set self.now.cells.items place (Some content)) }
     {

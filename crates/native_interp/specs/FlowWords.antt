@@ -202,8 +202,8 @@ fetch_keep =
 -- >277A: FETCHB, the address after the byte
 --     FETCHB MOV R6,R9
 --            BL @SEEK
-abbrev pub fetch_behind : List ℕ
-fetch_behind =
+abbrev pub fetch_after : List ℕ
+fetch_after =
     0xC246 ∷ 0x06A0 ∷ 0x22B8 ∷ []
 
 -- >2780: FETCHS, that address is stacked

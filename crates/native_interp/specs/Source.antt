@@ -111,21 +111,21 @@ ends_operand [] = true
 ends_operand (byte ∷ rest) = nat_eq byte 0x2C
 
 abbrev pub is_mode_sign : ℕ → ℕ → List ℕ → Bool
-is_mode_sign before byte behind =
-    (nat_eq byte 0x2A && (nat_eq before 0x20 || nat_eq before 0x2C)) || (nat_eq byte 0x2B && ends_operand behind)
+is_mode_sign before byte after =
+    (nat_eq byte 0x2A && (nat_eq before 0x20 || nat_eq before 0x2C)) || (nat_eq byte 0x2B && ends_operand after)
 
 -- how many operators stand after a byte
-abbrev pub operators_behind : ℕ → List ℕ → ℕ
-operators_behind before [] = 0
-operators_behind before (byte ∷ rest) =
+abbrev pub operators_after : ℕ → List ℕ → ℕ
+operators_after before [] = 0
+operators_after before (byte ∷ rest) =
     if is_operator byte && not (is_mode_sign before byte rest)
-    then 1 + operators_behind byte rest
-    else operators_behind byte rest
+    then 1 + operators_after byte rest
+    else operators_after byte rest
 
 abbrev pub statement_is_in_form : List ℕ → Bool
 statement_is_in_form line =
     stands_in_columns line && has_capitals line && not (list_any (has_operation line) left_out) &&
-    names_a_number line && has_three_words line && nat_le (operators_behind 0x20 line) 1
+    names_a_number line && has_three_words line && nat_le (operators_after 0x20 line) 1
 
 pub record LinesAreInForm : Type 0 where
   pub short : IsTrue (list_all is_short_text lines)

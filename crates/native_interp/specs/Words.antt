@@ -190,7 +190,7 @@ flow_parts =
     (FULL, flow.stack_full) ∷ (GOCALL, flow.call) ∷ (CALLN, flow.call_next) ∷ (CALLS, flow.call_store) ∷
     (GORTN, flow.rtn) ∷ (FETCHV, flow.fetch_row) ∷ (FETCHN, flow.fetch_next) ∷ (FETCHP, flow.fetch_pointer) ∷
     (FETCHA, flow.fetch_address) ∷ (FETCHR, flow.fetch_read) ∷ (FETCHK, flow.fetch_keep) ∷
-    (FETCHB, flow.fetch_behind) ∷ (FETCHS, flow.fetch_stack) ∷ (FETCHD, flow.fetch_store) ∷ (GORAND, flow.rand) ∷
+    (FETCHB, flow.fetch_after) ∷ (FETCHS, flow.fetch_stack) ∷ (FETCHD, flow.fetch_store) ∷ (GORAND, flow.rand) ∷
     (RANDL, flow.rand_limit) ∷ []
 
 -- MOVE, ALL and BACK

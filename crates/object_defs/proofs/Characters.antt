@@ -17,11 +17,11 @@ use Rattle.object_defs.specs.Tags.{tag_character, kind_of}
 use Rattle.object_defs.specs.Writing.{group, word_text, address_text, definition_text, reference_text, entry_text, header_text, Placed, item_text, summed}
 use Rattle.object_defs.proofs.Conjunctions.{and_left, and_right}
 
-pub behind_each_other : (a b : List ℕ) → all_name_characters a ≡ true → all_name_characters b ≡ true → all_name_characters (a ++ b) ≡ true
-behind_each_other [] b p q = q
-behind_each_other (c ∷ a) b p q =
+pub after_each_other : (a b : List ℕ) → all_name_characters a ≡ true → all_name_characters b ≡ true → all_name_characters (a ++ b) ≡ true
+after_each_other [] b p q = q
+after_each_other (c ∷ a) b p q =
     let here : is_name_character c ≡ true = and_left (is_name_character c) (all_name_characters a) p in
-    rw (here, behind_each_other a b (and_right (is_name_character c) (all_name_characters a) p) q) refl
+    rw (here, after_each_other a b (and_right (is_name_character c) (all_name_characters a) p) q) refl
 
 digit_prints : (v : ℕ) → v < 16 → is_name_character (hexadecimal_digit v) ≡ true
 digit_prints v lt = grind (arith, nat_tests)
@@ -52,7 +52,7 @@ blanks_print zero = refl
 blanks_print (suc k) = blanks_print k
 
 pub padded_prints : (width : ℕ) (bytes : List ℕ) → all_name_characters bytes ≡ true → all_name_characters (padded width bytes) ≡ true
-padded_prints width bytes h = behind_each_other bytes (replicate (width - length bytes) 0x20) h (blanks_print (width - length bytes))
+padded_prints width bytes h = after_each_other bytes (replicate (width - length bytes) 0x20) h (blanks_print (width - length bytes))
 
 printed_is : (c : ℕ) → is_printed c ≡ true → is_name_character c ≡ true
 printed_is c h = grind (arith, nat_tests)
@@ -83,7 +83,7 @@ entry_prints (Absolute n) = group_prints (tags.Entry (kind_of (Absolute n))) n r
 entry_prints (Relocatable n) = group_prints (tags.Entry (kind_of (Relocatable n))) n refl
 
 named_prints : (tag : Tag) (n : ℕ) (name : List ℕ) → TagPrints tag → all_name_characters name ≡ true → all_name_characters (group tag n ++ name) ≡ true
-named_prints tag n name is h = behind_each_other (group tag n) name (group_prints tag n is) h
+named_prints tag n name is h = after_each_other (group tag n) name (group_prints tag n is) h
 
 kept_prints : (name : List ℕ) → is_kept_name name ≡ true → all_name_characters (padded 6 name) ≡ true
 kept_prints name h = padded_prints 6 name (printed_prints name (and_right (nat_lt 0 (length name) && nat_le (length name) 6) (all_printed name) h))
@@ -107,17 +107,17 @@ header_prints size name h =
     named_prints tags.Header size (padded 8 name) refl (padded_prints 8 name (and_right (length name == 8) (all_name_characters name) h))
 
 pub piece_prints : (next : Option Spot) (piece : Piece) → all_name_characters (item_text next (Placed piece)) ≡ true
-piece_prints None piece = behind_each_other (address_text piece.at) (word_text piece.word) (address_prints piece.at) (word_prints piece.word)
+piece_prints None piece = after_each_other (address_text piece.at) (word_text piece.word) (address_prints piece.at) (word_prints piece.word)
 piece_prints (Some s) piece = by (same_spot s piece.at)
   where
     by : (b : Bool) → all_name_characters (cond b (word_text piece.word) (address_text piece.at ++ word_text piece.word)) ≡ true
     by true = word_prints piece.word
-    by false = behind_each_other (address_text piece.at) (word_text piece.word) (address_prints piece.at) (word_prints piece.word)
+    by false = after_each_other (address_text piece.at) (word_text piece.word) (address_prints piece.at) (word_prints piece.word)
 
 pub summed_prints : (text : List ℕ) → all_name_characters text ≡ true → all_name_characters (summed text) ≡ true
 summed_prints text h =
-    behind_each_other text (group tags.Sum (checksum (text ++ 0x37 ∷ [])) ++ 0x46 ∷ []) h
-    (behind_each_other (group tags.Sum (checksum (text ++ 0x37 ∷ []))) (0x46 ∷ []) (word_digits_print (checksum (text ++ 0x37 ∷ []))) refl)
+    after_each_other text (group tags.Sum (checksum (text ++ 0x37 ∷ [])) ++ 0x46 ∷ []) h
+    (after_each_other (group tags.Sum (checksum (text ++ 0x37 ∷ []))) (0x46 ∷ []) (word_digits_print (checksum (text ++ 0x37 ∷ []))) refl)
 
 pub name_padded : (name : List ℕ) → is_module_name name ≡ true → padded 8 name ≡ name
 name_padded name h =

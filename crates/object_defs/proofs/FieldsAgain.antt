@@ -47,7 +47,7 @@ unfolding trim_trailing_blanks
 no_blanks zero = refl
 no_blanks (suc k) = rw (blanks k) refl
 
--- a name without the blanks that were put behind it
+-- a name without the blanks that were put after it
 name_again : (name : List ℕ) (k : ℕ) → all_printed name ≡ true → trim_trailing_blanks (name ++ replicate k 0x20) ≡ name
 unfolding trim_trailing_blanks
 name_again [] k h = no_blanks k
@@ -58,24 +58,24 @@ pub kept_length : (name : List ℕ) → is_kept_name name ≡ true → length (p
 kept_length name h =
     let front : (nat_lt 0 (length name) && nat_le (length name) 6) ≡ true = and_left _ (all_printed name) h in
     let short : length name ≤ 6 = let le : nat_le (length name) 6 ≡ true = and_right (nat_lt 0 (length name)) _ front in grind (arith, nat_tests) in
-    let behind_name = length-replicate {A = ℕ} (6 - length name) 0x20 in
+    let after_name = length-replicate {A = ℕ} (6 - length name) 0x20 in
     length-append name (replicate {A = ℕ} (6 - length name) 0x20) ∙ omega arith
 
 pub symbol_again : (tag n : ℕ) (name rest : List ℕ) → is_kept_name name ≡ true → symbol_at Plain tag (word_digits n ++ (padded 6 name ++ rest)) ≡ Ok name
 unfolding symbol_at
 symbol_again tag n name rest h =
     let printed : all_printed name ≡ true = and_right (nat_lt 0 (length name) && nat_le (length name) 6) (all_printed name) h in
-    let behind : drop 4 (word_digits n ++ (padded 6 name ++ rest)) ≡ padded 6 name ++ rest = drop_at (word_digits n) _ 4 (digits_length n) in
+    let after : drop 4 (word_digits n ++ (padded 6 name ++ rest)) ≡ padded 6 name ++ rest = drop_at (word_digits n) _ 4 (digits_length n) in
     let size = kept_length name h in
     let field : take 6 (padded 6 name ++ rest) ≡ padded 6 name = take_at (padded 6 name) rest 6 size in
     let kept : trim_trailing_blanks (padded 6 name) ≡ name = name_again name (6 - length name) printed in
-    rw (behind, field, size, kept, h) refl
+    rw (after, field, size, kept, h) refl
 
 pub module_name_again : (tag n : ℕ) (name rest : List ℕ) → is_module_name name ≡ true → module_name_at Plain tag (word_digits n ++ (name ++ rest)) ≡ Ok name
 unfolding module_name_at
 module_name_again tag n name rest h =
     let characters : all_name_characters name ≡ true = and_right (length name == 8) (all_name_characters name) h in
     let size : length name ≡ 8 = let eight : (length name == 8) ≡ true = and_left (length name == 8) (all_name_characters name) h in grind (arith, nat_tests) in
-    let behind : drop 4 (word_digits n ++ (name ++ rest)) ≡ name ++ rest = drop_at (word_digits n) _ 4 (digits_length n) in
+    let after : drop 4 (word_digits n ++ (name ++ rest)) ≡ name ++ rest = drop_at (word_digits n) _ 4 (digits_length n) in
     let field : take 8 (name ++ rest) ≡ name = take_at name rest 8 size in
-    rw (behind, field, characters, size) refl
+    rw (after, field, characters, size) refl

@@ -21,21 +21,21 @@ no_return c h = grind (arith, nat_tests)
 some_left : (front rest : List ℕ) (c : ℕ) → length front < length (front ++ c ∷ rest)
 some_left front rest c = omega (arith, length-append front (c ∷ rest))
 
--- the line feed behind characters of which none is one
-feed_behind : (body front rest : List ℕ) → all_name_characters body ≡ true → feed_place (front ++ (body ++ 10 ∷ rest)) (length front) ≡ length front + length body
-feed_behind [] front rest h =
+-- the line feed after characters of which none is one
+feed_after : (body front rest : List ℕ) → all_name_characters body ≡ true → feed_place (front ++ (body ++ 10 ∷ rest)) (length front) ≡ length front + length body
+feed_after [] front rest h =
     let text = front ++ 10 ∷ rest in
     let here : get_or text (length front) 0 ≡ 10 = get_or_at front 10 rest 0 (length front) refl in
     let step = least_place_step (λ k. is_line_feed (get_or text k 0)) text (length front) (some_left front rest 10) in
     step ∙ (rw here (omega arith))
-feed_behind (c ∷ body) front rest h =
+feed_after (c ∷ body) front rest h =
     let text = front ++ (c ∷ (body ++ 10 ∷ rest)) in
     let here : get_or text (length front) 0 ≡ c = get_or_at front c (body ++ 10 ∷ rest) 0 (length front) refl in
     let step = least_place_step (λ k. is_line_feed (get_or text k 0)) text (length front) (some_left front (body ++ 10 ∷ rest) c) in
     let other : is_line_feed c ≡ false = no_feed c (and_left (is_name_character c) (all_name_characters body) h) in
     let same : (front ++ c ∷ []) ++ (body ++ 10 ∷ rest) ≡ text = append_assoc front (c ∷ []) (body ++ 10 ∷ rest) in
     let size : length (front ++ c ∷ []) ≡ length front + 1 = length-append front (c ∷ []) in
-    let next = feed_behind body (front ++ c ∷ []) rest (and_right (is_name_character c) (all_name_characters body) h) in
+    let next = feed_after body (front ++ c ∷ []) rest (and_right (is_name_character c) (all_name_characters body) h) in
     let there : feed_place text (length front + 1) ≡ length front + 1 + length body = subst (λ (t : List ℕ). feed_place t (length front + 1) ≡ length front + 1 + length body) same (subst (λ (n : ℕ). feed_place ((front ++ c ∷ []) ++ (body ++ 10 ∷ rest)) n ≡ n + length body) size next) in
     step ∙ (rw (here, other) (there ∙ omega arith))
 
@@ -63,16 +63,16 @@ first_line front body rest last number h =
     let line : List ℕ = body ++ last ∷ [] in
     let text : List ℕ = front ++ (line ++ 10 ∷ rest) in
     let at = length front in
-    let feed : feed_place text at ≡ at + length line = feed_behind line front rest h in
+    let feed : feed_place text at ≡ at + length line = feed_after line front rest h in
     let size : length text ≡ at + (length line + (1 + length rest)) = length-append front (line ++ 10 ∷ rest) ∙ ap (λ (n : ℕ). at + n) (length-append line (10 ∷ rest) ∙ omega arith) in
     let some : 1 ≤ length line = omega (arith, length-append body (last ∷ [])) in
     let inside : nat_lt (at + length line) (length text) ≡ true = grind (arith, nat_tests) in
     let long : nat_lt at (at + length line) ≡ true = grind (arith, nat_tests) in
     let no_cr : is_carriage_return (get_or text (at + length line - 1) 0) ≡ false = last_is body front rest last h in
     let step = lines_from_step text number at (omega arith) in
-    let behind : at + length line + 1 ≡ length (front ++ (line ++ 10 ∷ [])) = omega (arith, length-append front (line ++ 10 ∷ []), length-append line (10 ∷ [])) in
+    let after : at + length line + 1 ≡ length (front ++ (line ++ 10 ∷ [])) = omega (arith, length-append front (line ++ 10 ∷ []), length-append line (10 ∷ [])) in
     let cut : part text (record { start = at; end = at + length line }) ≡ line = cut_line front line (10 ∷ rest) in
-    ap (map (numbered_line text)) step ∙ rw (feed, inside, long, no_cr, cut, behind) refl
+    ap (map (numbered_line text)) step ∙ rw (feed, inside, long, no_cr, cut, after) refl
   where
     cut_line : (a b c : List ℕ) → slice_range (a ++ (b ++ c)) (length a) (length a + length b) ≡ b
     cut_line a b c =

@@ -39,7 +39,7 @@ line_ok number (Err cause) value e = absurd cc
 some_module : (modules : List Module) (m : Module) → length (modules ++ m ∷ []) ≡ length modules + 1
 some_module modules m = length-append modules (m ∷ [])
 
--- behind the groups of an open module
+-- after the groups of an open module
 grows : (modules : List Module) (first : Group) (before : List Group) (group : Group) → length modules + 1 ≤ 64 → count_of (added (record { modules = modules; current = first ∷ before }) group) ≤ 64
 unfolding open_count
 grows modules first before EndOfModule le = let more = some_module modules (module_of (first ∷ before)) in omega (arith, more, le)

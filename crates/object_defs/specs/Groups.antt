@@ -73,28 +73,28 @@ compared computed number = if number == computed then Ok Sum else Err (Checksum 
 
 -- the group that a tag begins, by what stands after it, where its line has a checksum through the tag
 abbrev pub group_of : TextForm → ℕ → ℕ → Tag → List ℕ → Result Group TagCause
-group_of form computed character tags.Header behind = do
-  size ← number_at form behind
-  name ← module_name_at form character behind
+group_of form computed character tags.Header after = do
+  size ← number_at form after
+  name ← module_name_at form character after
   Ok (Header size name)
-group_of form computed character (tags.Entry kind) behind =
-    number_at form behind >>= λ number. Ok (Entry (spot kind number))
-group_of form computed character (tags.Reference kind) behind = do
-  number ← number_at form behind
-  name ← symbol_at form character behind
+group_of form computed character (tags.Entry kind) after =
+    number_at form after >>= λ number. Ok (Entry (spot kind number))
+group_of form computed character (tags.Reference kind) after = do
+  number ← number_at form after
+  name ← symbol_at form character after
   Ok (Referred (record { name = name; last = spot kind number }))
-group_of form computed character (tags.Definition kind) behind = do
-  number ← number_at form behind
-  name ← symbol_at form character behind
+group_of form computed character (tags.Definition kind) after = do
+  number ← number_at form after
+  name ← symbol_at form character after
   Ok (Defined (record { name = name; value = spot kind number }))
-group_of form computed character tags.Sum behind = number_at form behind >>= λ number. compared computed number
-group_of form computed character tags.IgnoredSum behind = number_at form behind >>= λ number. Ok IgnoredSum
-group_of form computed character (tags.Address kind) behind =
-    number_at form behind >>= λ number. Ok (Address (spot kind number))
-group_of form computed character (tags.Word kind) behind =
-    number_at form behind >>= λ number. Ok (Word (spot kind number))
-group_of form computed character tags.EndOfLine behind = Ok EndOfLine
-group_of form computed character tags.EndOfModule behind = Ok EndOfModule
+group_of form computed character tags.Sum after = number_at form after >>= λ number. compared computed number
+group_of form computed character tags.IgnoredSum after = number_at form after >>= λ number. Ok IgnoredSum
+group_of form computed character (tags.Address kind) after =
+    number_at form after >>= λ number. Ok (Address (spot kind number))
+group_of form computed character (tags.Word kind) after =
+    number_at form after >>= λ number. Ok (Word (spot kind number))
+group_of form computed character tags.EndOfLine after = Ok EndOfLine
+group_of form computed character tags.EndOfModule after = Ok EndOfModule
 
 -- the group, or why there is none
 abbrev pub found_as : ℕ → Tag → Result Group TagCause → FoundGroup
@@ -103,15 +103,15 @@ found_as character tag (Err cause) = Broken character (Some tag) cause
 
 -- what stands in the place of a group, by its tag
 unfoldable pub found_with : TextForm → ℕ → ℕ → Option Tag → List ℕ → FoundGroup
-found_with form computed character None behind = Broken character None (BadTag character)
-found_with form computed character (Some tag) behind =
-    found_as character tag (group_of form computed character tag behind)
+found_with form computed character None after = Broken character None (BadTag character)
+found_with form computed character (Some tag) after =
+    found_as character tag (group_of form computed character tag after)
 
 -- What stands in the place of a group. The checksum is that of the line's characters from the first through the group's
 -- tag.
 abbrev pub found_at : TextForm → List ℕ → ℕ → List ℕ → FoundGroup
-found_at form before character behind =
-    found_with form (checksum (before ++ character ∷ [])) character (tag_at form (length before) character) behind
+found_at form before character after =
+    found_with form (checksum (before ++ character ∷ [])) character (tag_at form (length before) character) after
 
 -- how many characters a group has after its tag
 abbrev pub group_size : TextForm → Group → ℕ

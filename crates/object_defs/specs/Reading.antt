@@ -79,13 +79,13 @@ words_since (_ ∷ before) = words_since before
 
 -- The place of a word: the last address group before it in its module, or relocatable 0, plus twice the number of
 -- words between.
-abbrev pub place_behind : List Group → Spot
-place_behind before = moved (last_address before) (2 * words_since before)
+abbrev pub place_after : List Group → Spot
+place_after before = moved (last_address before) (2 * words_since before)
 
 -- the words at their places, in order
 abbrev pub pieces_of : List Group → List Piece
 pieces_of [] = []
-pieces_of (Word word ∷ before) = pieces_of before ++ record { at = place_behind before; word = word } ∷ []
+pieces_of (Word word ∷ before) = pieces_of before ++ record { at = place_after before; word = word } ∷ []
 pieces_of (_ ∷ before) = pieces_of before
 
 -- the names that the module defines, and those that it needs, in order
@@ -136,23 +136,23 @@ stands_first ended character (Some tags.Header) = if nat_le most_modules ended t
 stands_first ended character _ = Err (BadTag character)
 
 -- after the groups of its module: neither a second header nor a second entry
-abbrev pub stands_behind : Module → ℕ → Option Tag → Result Tag TagCause
-stands_behind m character None = Err (BadTag character)
-stands_behind m character (Some tags.Header) = Err (BadTag character)
-stands_behind m character (Some (tags.Entry kind)) =
+abbrev pub stands_after : Module → ℕ → Option Tag → Result Tag TagCause
+stands_after m character None = Err (BadTag character)
+stands_after m character (Some tags.Header) = Err (BadTag character)
+stands_after m character (Some (tags.Entry kind)) =
     if is_some m.entry then Err (BadTag character) else Ok (tags.Entry kind)
-stands_behind m character (Some (tags.Reference kind)) =
+stands_after m character (Some (tags.Reference kind)) =
     if nat_le most_names (length m.refs) then Err TooMany else Ok (tags.Reference kind)
-stands_behind m character (Some (tags.Definition kind)) =
+stands_after m character (Some (tags.Definition kind)) =
     if nat_le most_names (length m.defs) then Err TooMany else Ok (tags.Definition kind)
-stands_behind m character (Some (tags.Word kind)) =
+stands_after m character (Some (tags.Word kind)) =
     if nat_le most_words (length m.pieces) then Err TooMany else Ok (tags.Word kind)
-stands_behind m character (Some tag) = Ok tag
+stands_after m character (Some tag) = Ok tag
 
 -- no groups: no module is open
 abbrev pub stands : ℕ → List Group → ℕ → Option Tag → Result Tag TagCause
 stands ended [] character tag = stands_first ended character tag
-stands ended (group ∷ before) character tag = stands_behind (module_of (group ∷ before)) character tag
+stands ended (group ∷ before) character tag = stands_after (module_of (group ∷ before)) character tag
 
 -- The groups of a text, one after the other.
 

@@ -65,8 +65,8 @@ abbrev pub is_next : Option Spot → Spot → List ℕ → List ℕ → List ℕ
 is_next None at there elsewhere = elsewhere
 is_next (Some next) at there elsewhere = if same_spot next at then there else elsewhere
 
--- Profile: a word has an address group before it where its place is not the one after the word before it on the same
--- line.
+-- The text of a group, or of a word with its place; `next` is the place after the word before it on the same line.
+-- Profile: a word has an address group before it if its place is not that one.
 abbrev pub item_text : Option Spot → Item → List ℕ
 item_text next (Group text) = text
 item_text next (Placed piece) =

@@ -19,7 +19,7 @@ use Rattle.object_defs.specs.Writing.{word_text, address_text, definition_text, 
 use Rattle.object_defs.specs.Laws.{FitsSpot, FitsPiece, FitsDefinition, FitsReference}
 use Rattle.object_defs.proofs.FieldsAgain.{number_again, symbol_again, digits_length, kept_length}
 
--- what the rest of a line leads to, behind the characters before it
+-- what the rest of a line leads to, after the characters before it
 abbrev pub leads : Kept → List ℕ → List ℕ → Result Kept TagCause
 leads kept before rest = kept_groups kept (groups_after Plain before 0 rest)
 
@@ -27,7 +27,7 @@ leads kept before rest = kept_groups kept (groups_after Plain before 0 rest)
 abbrev pub Adds : OpenModule → List ℕ → OpenModule → Type 0
 Adds m text after = (kept : Kept) (before rest : List ℕ) → leads (with_current kept m) before (text ++ rest) ≡ leads (with_current kept after) (before ++ text) rest
 
--- what a group has behind its tag is passed over
+-- what a group has after its tag is passed over
 left_over : (before : List ℕ) (k : ℕ) (xs rest : List ℕ) → length xs ≡ k → groups_after Plain before k (xs ++ rest) ≡ groups_after Plain (before ++ xs) 0 rest
 unfolding groups_after
 left_over before zero [] rest e = ap (λ (b : List ℕ). groups_after Plain b 0 rest) (sym (append-nil before))
@@ -40,9 +40,9 @@ pub group_adds : (kept after : Kept) (before : List ℕ) (character : ℕ) (fiel
     → kept_with kept (Whole character group) ≡ Ok after → leads kept before (character ∷ (fields ++ rest)) ≡ leads after (before ++ character ∷ fields) rest
 unfolding groups_after kept_groups
 group_adds kept after before character fields rest group found goes size adds =
-    let behind : groups_after Plain (before ++ character ∷ []) (group_size Plain group) (fields ++ rest) ≡ groups_after Plain (before ++ character ∷ fields) 0 rest =
+    let rest_is : groups_after Plain (before ++ character ∷ []) (group_size Plain group) (fields ++ rest) ≡ groups_after Plain (before ++ character ∷ fields) 0 rest =
     left_over (before ++ character ∷ []) (group_size Plain group) fields rest size ∙ ap (λ (b : List ℕ). groups_after Plain b 0 rest) (append_assoc before (character ∷ []) fields) in
-    rw (found, goes, adds, behind) refl
+    rw (found, goes, adds, rest_is) refl
 
 -- ---- words at their places
 
@@ -80,7 +80,7 @@ adds_both m between after a b p q kept before rest =
     ap (leads (with_current kept m) before) (append_assoc a b rest)
     ∙ (p kept before (b ++ rest) ∙ (q kept (before ++ a) rest ∙ ap (λ (xs : List ℕ). leads (with_current kept after) xs rest) (append_assoc before a b)))
 
--- a word behind its address
+-- a word after its address
 addressed_adds : (m : OpenModule) (piece : Piece) → FitsPiece piece → StandsEven piece → length m.found.pieces < 32768 → Adds m (address_text piece.at ++ word_text piece.word) (with_piece m piece)
 addressed_adds m piece fits evens few =
     adds_both m (with_load m piece.at) (with_piece m piece) (address_text piece.at) (word_text piece.word) (address_adds m piece.at fits.at evens) (word_adds (with_load m piece.at) piece.word fits.word few)

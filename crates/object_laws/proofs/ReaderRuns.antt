@@ -11,14 +11,14 @@ use Rattle.object_defs.specs.Fields.{all_blank}
 use Rattle.object_defs.specs.Groups.{Group, Header, Entry, Referred, Defined, Word, FoundGroup, Whole, Broken}
 use Rattle.object_defs.specs.Groups.{tag_of_group, groups_from}
 use Rattle.object_laws.proofs.Places.{all_places}
-use Rattle.object_defs.specs.Reading.{last_address, words_since, place_behind, module_of, stands_first, stands_behind, Found, nothing_found, added, with_group}
+use Rattle.object_defs.specs.Reading.{last_address, words_since, place_after, module_of, stands_first, stands_after, Found, nothing_found, added, with_group}
 use Rattle.object_defs.specs.Reading.{with_groups, NumberedLine, with_lines, last_number, ended, form_of, text_lines, read}
 use Rattle.object_laws.specs.Running.{OpenModule, first_of, grown, more, begun, Kept, nothing_kept, kept_with, kept_groups, kept_line, kept_lines, finished}
 
 -- ---- what is kept of some groups
 
 abbrev open_of : List Group → OpenModule
-open_of groups = record { found = module_of groups; load = place_behind groups }
+open_of groups = record { found = module_of groups; load = place_after groups }
 
 abbrev current_of : List Group → Option OpenModule
 current_of [] = None
@@ -50,11 +50,11 @@ module _ (modules : List Module) (last : ℕ) where
   abbrev kept_by : OpenModule → Kept
   kept_by m = record { modules = modules; current = Some m; last = last }
 
-  -- a group behind others, by what its tag's place is
-  behind : (r : Result Tag TagCause) (before : List Group) (group : Group) → IsGrown before group
+  -- a group after others, by what its tag's place is
+  rest_is : (r : Result Tag TagCause) (before : List Group) (group : Group) → IsGrown before group
       → ((r >>= λ tag. Ok (grown (open_of before) group)) >>= λ m. Ok (kept_by m)) ≡ kept last (r >>= λ tag. Ok (found_by (group ∷ before)))
-  behind (Ok tag) before group is = ap (λ (m : OpenModule). Ok (kept_by m)) is
-  behind (Err cause) before group is = refl
+  rest_is (Ok tag) before group is = ap (λ (m : OpenModule). Ok (kept_by m)) is
+  rest_is (Err cause) before group is = refl
 
   broken : (r : Result Tag TagCause) (cause : TagCause) (f : Group → OpenModule) (g : Group → Found)
       → ((r >>= λ tag. Err cause >>= λ group. Ok (f group)) >>= λ m. Ok (kept_by m)) ≡ kept last (r >>= λ tag. Err cause >>= λ group. Ok (g group))
@@ -75,11 +75,11 @@ module _ (modules : List Module) (last : ℕ) where
   unfolding begun more
   with_is [] (Whole character (Header size name)) = first (stands_first (length modules) character (Some (tag_of_group (Header size name)))) size name
   with_is [] (Broken character tag cause) = broken_first (stands_first (length modules) character tag) cause (first_of character) (added (found_by []))
-  with_is (last_group ∷ before) (Whole character (Entry at)) = behind (stands_behind (module_of (last_group ∷ before)) character (Some (tag_of_group (Entry at)))) (last_group ∷ before) (Entry at) refl
-  with_is (last_group ∷ before) (Whole character (Referred reference)) = behind (stands_behind (module_of (last_group ∷ before)) character (Some (tag_of_group (Referred reference)))) (last_group ∷ before) (Referred reference) refl
-  with_is (last_group ∷ before) (Whole character (Defined definition)) = behind (stands_behind (module_of (last_group ∷ before)) character (Some (tag_of_group (Defined definition)))) (last_group ∷ before) (Defined definition) refl
-  with_is (last_group ∷ before) (Whole character (Word word)) = behind (stands_behind (module_of (last_group ∷ before)) character (Some (tag_of_group (Word word)))) (last_group ∷ before) (Word word) (word_grown (last_group ∷ before) word)
-  with_is (last_group ∷ before) (Broken character tag cause) = broken (stands_behind (module_of (last_group ∷ before)) character tag) cause (grown (open_of (last_group ∷ before))) (added (found_by (last_group ∷ before)))
+  with_is (last_group ∷ before) (Whole character (Entry at)) = rest_is (stands_after (module_of (last_group ∷ before)) character (Some (tag_of_group (Entry at)))) (last_group ∷ before) (Entry at) refl
+  with_is (last_group ∷ before) (Whole character (Referred reference)) = rest_is (stands_after (module_of (last_group ∷ before)) character (Some (tag_of_group (Referred reference)))) (last_group ∷ before) (Referred reference) refl
+  with_is (last_group ∷ before) (Whole character (Defined definition)) = rest_is (stands_after (module_of (last_group ∷ before)) character (Some (tag_of_group (Defined definition)))) (last_group ∷ before) (Defined definition) refl
+  with_is (last_group ∷ before) (Whole character (Word word)) = rest_is (stands_after (module_of (last_group ∷ before)) character (Some (tag_of_group (Word word)))) (last_group ∷ before) (Word word) (word_grown (last_group ∷ before) word)
+  with_is (last_group ∷ before) (Broken character tag cause) = broken (stands_after (module_of (last_group ∷ before)) character tag) cause (grown (open_of (last_group ∷ before))) (added (found_by (last_group ∷ before)))
   with_is _ _ = refl
 
 -- ---- the groups of a line, and lines

@@ -28,7 +28,7 @@ use Rattle.object_defs.proofs.FieldsAgain.{number_again, module_name_again, digi
 use Rattle.object_laws.proofs.AddedGroups.{leads, Adds, group_adds, with_piece, piece_adds, with_def, definition_adds, with_ref, reference_adds, with_entry_at}
 use Rattle.object_laws.proofs.AddedGroups.{entry_adds}
 use Rattle.object_defs.proofs.FirstLine.{left_lines, first_line}
-use Rattle.object_defs.proofs.Characters.{behind_each_other, decimal_number_prints, padded_prints, summed_prints, piece_prints, definition_prints}
+use Rattle.object_defs.proofs.Characters.{after_each_other, decimal_number_prints, padded_prints, summed_prints, piece_prints, definition_prints}
 use Rattle.object_defs.proofs.Characters.{reference_prints, entry_prints, header_prints, name_padded, name_length}
 use Rattle.object_laws.proofs.ReaderRuns.{read_is}
 
@@ -61,7 +61,7 @@ body_prints : (number : ℕ) (text : List ℕ) → all_name_characters text ≡ 
 body_prints number text h =
     let digits : all_name_characters (first_digits number ++ last_digit number ∷ []) ≡ true = ap all_name_characters (sym (decimal_is number []) ∙ append-nil (four_digits number)) ∙ decimal_number_prints number in
     ap all_name_characters (append_assoc (padded 76 text) (first_digits number) (last_digit number ∷ []))
-    ∙ behind_each_other (padded 76 text) (first_digits number ++ last_digit number ∷ []) (padded_prints 76 text h) digits
+    ∙ after_each_other (padded 76 text) (first_digits number ++ last_digit number ∷ []) (padded_prints 76 text h) digits
 
 -- the first line of what is left of a text
 line_step : (text front t more : List ℕ) (number n : ℕ) → all_name_characters t ≡ true → text ≡ front ++ (numbered number t ++ more)
@@ -73,8 +73,8 @@ line_step text front t more number n h is =
     subst (λ (xs : List ℕ). left_lines text n (length front) ≡ record { number = n; text = body_of number t } ∷ left_lines text (n + 1) (length (front ++ xs))) (sym line)
     (subst (λ (xs : List ℕ). left_lines xs n (length front) ≡ record { number = n; text = body_of number t } ∷ left_lines xs (n + 1) (length (front ++ (body_of number t ++ 10 ∷ [])))) (sym whole) step)
 
-behind_line : (text front line more : List ℕ) → text ≡ front ++ (line ++ more) → text ≡ (front ++ line) ++ more
-behind_line text front line more is = is ∙ sym (append_assoc front line more)
+after_line : (text front line more : List ℕ) → text ≡ front ++ (line ++ more) → text ≡ (front ++ line) ++ more
+after_line text front line more is = is ∙ sym (append_assoc front line more)
 
 -- ---- the end of a line of groups
 
@@ -88,7 +88,7 @@ checksum-lt bytes = omega arith
 regroup : (a b c d e : List ℕ) → (((a ++ b) ++ c) ++ d) ++ e ≡ a ++ (b ++ (c ++ (d ++ e)))
 regroup a b c d e = simp append_assoc
 
--- what stands behind the groups of a line
+-- what stands after the groups of a line
 body_ends : (number : ℕ) (text : List ℕ) → (pad : List ℕ) × (body_of number (summed text) ≡ text ++ line_end text pad)
 body_ends number text =
     let blanks : List ℕ = replicate (76 - length (summed text)) 0x20 in
@@ -163,23 +163,23 @@ abbrev Run : OpenModule → List Item → OpenModule → Type 0
 Run m [] end = m ≡ end
 Run m (item ∷ items) end = (after : OpenModule) × Takes m item after × Run after items end
 
-goes_behind : (modules : List Module) (current : Option OpenModule) (line : Line) (m after : OpenModule) (text : List ℕ) → InLine modules current line m → Adds m text after
+goes_after : (modules : List Module) (current : Option OpenModule) (line : Line) (m after : OpenModule) (text : List ℕ) → InLine modules current line m → Adds m text after
     → (last : ℕ) (rest : List ℕ) → leads (start modules current last) [] ((line.text ++ text) ++ rest) ≡ leads (start modules (Some after) last) (line.text ++ text) rest
-goes_behind modules current line m after text in_line adds last rest =
+goes_after modules current line m after text in_line adds last rest =
     ap (leads (start modules current last) []) (append_assoc line.text text rest)
     ∙ (in_line.goes last (text ++ rest) ∙ adds (start modules (Some m) last) line.text rest)
 
 in_line_with : (modules : List Module) (current : Option OpenModule) (line : Line) (m : OpenModule) (item : Item) (after : OpenModule)
     → InLine modules current line m → Takes m item after → InLine modules current (with_item line item) after
 in_line_with modules current line m (Group text) after in_line takes = record {
-  goes = goes_behind modules current line m after text in_line takes.adds;
-  prints = behind_each_other line.text text in_line.prints takes.prints;
+  goes = goes_after modules current line m after text in_line takes.adds;
+  prints = after_each_other line.text text in_line.prints takes.prints;
   next = λ s e. takes.load ∙ in_line.next s e;
 }
 in_line_with modules current line m (Placed piece) after in_line takes = record {
-  goes = goes_behind modules current line m after (item_text line.next (Placed piece)) in_line
+  goes = goes_after modules current line m after (item_text line.next (Placed piece)) in_line
       (subst (λ (b : OpenModule). Adds m (item_text line.next (Placed piece)) b) (sym takes.is) (piece_adds line.next m piece in_line.next takes.fits takes.evens takes.few));
-  prints = behind_each_other line.text (item_text line.next (Placed piece)) in_line.prints (piece_prints line.next piece);
+  prints = after_each_other line.text (item_text line.next (Placed piece)) in_line.prints (piece_prints line.next piece);
   next = λ s e. ap (λ (b : OpenModule). b.load) takes.is ∙ some_is (moved piece.at 2) s e;
 }
   where
@@ -208,9 +208,9 @@ read_end : (kept : Kept) (line : Line) (m : OpenModule) (number n : ℕ) (front 
 read_end kept line m number n front text is in_line =
     let next = number_after number in
     let first = line_step text front (summed line.text) (last_line_text next ++ []) number n (summed_prints line.text in_line.prints) is in
-    let behind : text ≡ (front ++ line_text number line.text) ++ (last_line_text next ++ []) = behind_line text front (line_text number line.text) (last_line_text next ++ []) is in
-    let second = line_step text (front ++ line_text number line.text) (0x3A ∷ []) [] next (n + 1) refl behind in
-    let all : text ≡ (front ++ line_text number line.text) ++ last_line_text next = behind ∙ ap (λ (xs : List ℕ). (front ++ line_text number line.text) ++ xs) (append-nil (last_line_text next)) in
+    let rest_is : text ≡ (front ++ line_text number line.text) ++ (last_line_text next ++ []) = after_line text front (line_text number line.text) (last_line_text next ++ []) is in
+    let second = line_step text (front ++ line_text number line.text) (0x3A ∷ []) [] next (n + 1) refl rest_is in
+    let all : text ≡ (front ++ line_text number line.text) ++ last_line_text next = rest_is ∙ ap (λ (xs : List ℕ). (front ++ line_text number line.text) ++ xs) (append-nil (last_line_text next)) in
     let third = lines_end text (n + 1 + 1) (length ((front ++ line_text number line.text) ++ last_line_text next)) (ap length (sym all)) in
     let groups : Kept = start kept.modules (Some m) n in
     let ended : Kept = start (kept.modules ++ m.found ∷ []) None (n + 1) in
@@ -244,17 +244,17 @@ read_lines (item ∷ items) kept line m end number n front text is in_line run =
         let groups : Kept = start kept.modules (Some m) n in
         ap (kept_lines Plain kept) (line_step text front (summed line.text) rest number n (summed_prints line.text in_line.prints) e)
         ∙ (read_one kept groups _ _ (line_done kept line m n number in_line)
-        ∙ again groups (with_item empty_line item) run.0 (number_after number) (n + 1) (front ++ line_text number line.text) (behind_line text front (line_text number line.text) rest e)
+        ∙ again groups (with_item empty_line item) run.0 (number_after number) (n + 1) (front ++ line_text number line.text) (after_line text front (line_text number line.text) rest e)
         (in_line_with kept.modules (Some m) empty_line m item run.0 (new_line kept.modules m) run.1) run.2)
 
 -- ---- the items of a module
 
-abbrev load_behind : Spot → List Piece → Spot
-load_behind load [] = load
-load_behind load (piece ∷ pieces) = load_behind (moved piece.at 2) pieces
+abbrev load_after : Spot → List Piece → Spot
+load_after load [] = load
+load_after load (piece ∷ pieces) = load_after (moved piece.at 2) pieces
 
 abbrev with_pieces : OpenModule → List Piece → OpenModule
-with_pieces m pieces = record { found = record m.found { pieces = m.found.pieces ++ pieces }; load = load_behind m.load pieces }
+with_pieces m pieces = record { found = record m.found { pieces = m.found.pieces ++ pieces }; load = load_after m.load pieces }
 
 abbrev with_defs : OpenModule → List Definition → OpenModule
 with_defs m defs = record m { found = record m.found { defs = m.found.defs ++ defs } }
@@ -324,9 +324,9 @@ header_goes m is last rest =
 header_in_line : (m : Module) → IsModule m → InLine [] None (with_item empty_line (Group (header_text m.size m.name))) (header_of m)
 header_in_line m is = record { goes = header_goes m is; prints = header_prints m.size m.name is.name; next = λ s e. cc }
 
--- the items behind the header
-abbrev items_behind : Module → List Item
-items_behind m =
+-- the items after the header
+abbrev items_after : Module → List Item
+items_after m =
     map Placed m.pieces ++ (map (λ definition. Group (definition_text definition)) m.defs
     ++ (map (λ reference. Group (reference_text reference)) m.refs ++ entry_items m.entry))
 
@@ -335,23 +335,23 @@ abbrev whole_of : Module → OpenModule
 whole_of m = with_entry_of (with_refs (with_defs (with_pieces (header_of m) m.pieces) m.defs) m.refs) m.entry
 
 module _ (m : Module) (is : IsModule m) (has : HasText m) where
-  abbrev behind_pieces : OpenModule
-  behind_pieces = with_pieces (header_of m) m.pieces
+  abbrev after_pieces : OpenModule
+  after_pieces = with_pieces (header_of m) m.pieces
 
-  abbrev behind_defs : OpenModule
-  behind_defs = with_defs behind_pieces m.defs
+  abbrev after_defs : OpenModule
+  after_defs = with_defs after_pieces m.defs
 
-  abbrev behind_refs : OpenModule
-  behind_refs = with_refs behind_defs m.refs
+  abbrev after_refs : OpenModule
+  after_refs = with_refs after_defs m.refs
 
-  runs : Run (header_of m) (items_behind m) (whole_of m)
+  runs : Run (header_of m) (items_after m) (whole_of m)
   runs =
       run_pieces m.pieces _ (header_of m) (whole_of m) is.pieces has.even_places (omega (arith, has.words))
-      (run_defs m.defs _ behind_pieces (whole_of m) is.defs (omega (arith, has.defs))
-      (run_refs m.refs _ behind_defs (whole_of m) is.refs (omega (arith, has.refs))
-      (run_entry m.entry behind_refs is.entry refl)))
+      (run_defs m.defs _ after_pieces (whole_of m) is.defs (omega (arith, has.defs))
+      (run_refs m.refs _ after_defs (whole_of m) is.refs (omega (arith, has.refs))
+      (run_entry m.entry after_refs is.entry refl)))
 
-  begins : written m ≡ written_from 1 (with_item empty_line (Group (header_text m.size m.name))) (items_behind m)
+  begins : written m ≡ written_from 1 (with_item empty_line (Group (header_text m.size m.name))) (items_after m)
   unfolding lines_from
   begins =
       let fits : nat_le (0 + length (header_text m.size m.name)) 70 ≡ true = let n = header_length m is in grind (arith, nat_tests) in
@@ -359,7 +359,7 @@ module _ (m : Module) (is : IsModule m) (has : HasText m) where
 
   read_whole : kept_lines Plain nothing_kept (left_lines (written m) 1 0) ≡ Ok (m ∷ [])
   read_whole =
-      read_lines (items_behind m) nothing_kept (with_item empty_line (Group (header_text m.size m.name))) (header_of m) (whole_of m) 1 1 [] (written m) begins (header_in_line m is) runs
+      read_lines (items_after m) nothing_kept (with_item empty_line (Group (header_text m.size m.name))) (header_of m) (whole_of m) 1 1 [] (written m) begins (header_in_line m is) runs
 
 -- ---- the text is plain
 
@@ -375,7 +375,7 @@ plain_from (item ∷ items) number text next =
     by false here = refl
 
 plain_written : (m : Module) → IsModule m → HasText m → form_of (written m) ≡ Plain
-plain_written m is has = ap form_of (begins m is has) ∙ plain_from (items_behind m) 1 (word_digits m.size ++ padded 8 m.name) None
+plain_written m is has = ap form_of (begins m is has) ∙ plain_from (items_after m) 1 (word_digits m.size ++ padded 8 m.name) None
 
 -- ---- the text is no records
 

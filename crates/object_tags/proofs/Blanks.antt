@@ -9,23 +9,23 @@ and_false : (b : Bool) → (b && false) ≡ false
 and_false true = refl
 and_false false = refl
 
-blank_behind : (bytes : List ℕ) (last : ℕ) → is_blank last ≡ true → all_blank (bytes ++ last ∷ []) ≡ all_blank bytes
-blank_behind [] last h = rw h refl
-blank_behind (byte ∷ bytes) last h = ap (λ (b : Bool). is_blank byte && b) (blank_behind bytes last h)
+blank_after : (bytes : List ℕ) (last : ℕ) → is_blank last ≡ true → all_blank (bytes ++ last ∷ []) ≡ all_blank bytes
+blank_after [] last h = rw h refl
+blank_after (byte ∷ bytes) last h = ap (λ (b : Bool). is_blank byte && b) (blank_after bytes last h)
 
-other_behind : (bytes : List ℕ) (last : ℕ) → is_blank last ≡ false → all_blank (bytes ++ last ∷ []) ≡ false
-other_behind [] last h = rw h refl
-other_behind (byte ∷ bytes) last h = ap (λ (b : Bool). is_blank byte && b) (other_behind bytes last h) ∙ and_false (is_blank byte)
+other_after : (bytes : List ℕ) (last : ℕ) → is_blank last ≡ false → all_blank (bytes ++ last ∷ []) ≡ false
+other_after [] last h = rw h refl
+other_after (byte ∷ bytes) last h = ap (λ (b : Bool). is_blank byte && b) (other_after bytes last h) ∙ and_false (is_blank byte)
 
 blank_at_end : (bytes : List ℕ) (last : ℕ) → is_blank last ≡ true → trim_trailing_blanks (bytes ++ last ∷ []) ≡ trim_trailing_blanks bytes
 unfolding trim_trailing_blanks
 blank_at_end [] last h = rw h refl
-blank_at_end (byte ∷ bytes) last h = rw (blank_behind bytes last h, blank_at_end bytes last h) refl
+blank_at_end (byte ∷ bytes) last h = rw (blank_after bytes last h, blank_at_end bytes last h) refl
 
 no_blank_at_end : (bytes : List ℕ) (last : ℕ) → is_blank last ≡ false → trim_trailing_blanks (bytes ++ last ∷ []) ≡ bytes ++ last ∷ []
 unfolding trim_trailing_blanks
 no_blank_at_end [] last h = rw h refl
-no_blank_at_end (byte ∷ bytes) last h = rw (other_behind bytes last h, no_blank_at_end bytes last h) (by (is_blank byte))
+no_blank_at_end (byte ∷ bytes) last h = rw (other_after bytes last h, no_blank_at_end bytes last h) (by (is_blank byte))
   where
     by : (b : Bool) → (if b && false then [] else byte ∷ (bytes ++ last ∷ [])) ≡ byte ∷ (bytes ++ last ∷ [])
     by true = refl

@@ -16,7 +16,7 @@ use Rattle.object_tags.specs.Answers.{Fails}
 sum-append : (a b : List ℕ) → sum (a ++ b) ≡ sum a + sum b
 sum-append a b = sum_by-append (λ (x : ℕ). x) a b
 
--- a line up to a place, some characters behind it, and the rest
+-- a line up to a place, some characters after it, and the rest
 module _ (line : List ℕ) (at left : ℕ) (inside : at ≤ length line) where
   abbrev passed : List ℕ
   passed = take left (drop at line)
@@ -41,14 +41,14 @@ module _ (line : List ℕ) (at left : ℕ) (inside : at ≤ length line) where
   pub passed_within : at + length passed ≤ length line
   passed_within = omega (arith, size, ap length parts, length-append (take at line ++ passed) rest)
 
-  -- the groups behind the characters
-  pub groups_behind : (form : TextForm) → groups_after form (take (at + length passed) line) 0 (drop (at + length passed) line)
+  -- the groups after the characters
+  pub groups_further : (form : TextForm) → groups_after form (take (at + length passed) line) 0 (drop (at + length passed) line)
       ≡ groups_after form (take at line) left (drop at line)
-  groups_behind form = rw (front_is, rest_is) (sym (passed_over form (take at line) left (drop at line)))
+  groups_further form = rw (front_is, rest_is) (sym (passed_over form (take at line) left (drop at line)))
 
   -- the sum of the line through them
-  pub sum_behind : (total : ℕ) → total ≡ sum (take at line) % 65536 → (total + sum passed % 65536) % 65536 ≡ sum (take (at + length passed) line) % 65536
-  sum_behind total is = rw front_is (omega (arith, is, sum-append (take at line) passed))
+  pub sum_after : (total : ℕ) → total ≡ sum (take at line) % 65536 → (total + sum passed % 65536) % 65536 ≡ sum (take (at + length passed) line) % 65536
+  sum_after total is = rw front_is (omega (arith, is, sum-append (take at line) passed))
 
 -- the next character of a line
 module _ (line : List ℕ) (at : ℕ) (inside : at < length line) where
@@ -73,7 +73,7 @@ module _ (line : List ℕ) (at : ℕ) (inside : at < length line) where
       let added : ((total + byte) % 65536) % 65536 ≡ sum (before ++ byte ∷ []) % 65536 = omega (arith, is, sum-append before (byte ∷ [])) in
       ap (λ (n : ℕ). (65536 - n) % 65536) added
 
-  -- what stands in the place of a group, and the groups behind it
+  -- what stands in the place of a group, and the groups after it
   pub first_group : (form : TextForm) (found : FoundGroup) → found ≡ found_with form (checksum (before ++ byte ∷ [])) byte (tag_at form at byte)
       (drop (at + 1) line)
       → groups_after form before 0 (drop at line) ≡ found ∷ cond (ends_line found) []

@@ -22,7 +22,7 @@ pub(crate) fn front(bytes: &[u8], count: usize) -> &[u8]
 }
 
 /// What stands after the first `count` bytes.
-pub(crate) fn behind(bytes: &[u8], count: usize) -> &[u8]
+pub(crate) fn after(bytes: &[u8], count: usize) -> &[u8]
     ensures { result.now ≡ drop count bytes.now }
 {
     if count < bytes.len() {
@@ -112,7 +112,7 @@ fn four_digits(digits: &[u8]) -> u16
 pub(crate) fn module_name_at(form: TextForm, tag: u8, fields: &[u8]) -> Result<ModuleName, TagCause>
     ensures { result ≡ spec.module_name_at form tag fields.now }
 {
-    let name = front(behind(fields, number_size(form)), 8);
+    let name = front(after(fields, number_size(form)), 8);
     if !all_name_characters(name) {
         return Err(TagCause::BadTag(tag));
     }
@@ -127,7 +127,7 @@ pub(crate) fn module_name_at(form: TextForm, tag: u8, fields: &[u8]) -> Result<M
 pub(crate) fn symbol_at(form: TextForm, tag: u8, fields: &[u8]) -> Result<Name, TagCause>
     ensures { result ≡ spec.symbol_at form tag fields.now }
 {
-    let field = front(behind(fields, number_size(form)), 6);
+    let field = front(after(fields, number_size(form)), 6);
     let name = trim_trailing_blanks(field);
     if field.len() < 6 && all_printed(name) {
         return Err(TagCause::ShortField);

@@ -6,7 +6,7 @@ ghost use Rattle.object_laws.specs.Running.{groups_after};
 ghost use Rattle.object_tags.specs.SeenGroups.{model_of_found, model_of_whole};
 
 use crate::checksum::{complement, sum_of};
-use crate::fields::{behind, front, module_name_at, number_at, symbol_at};
+use crate::fields::{after, front, module_name_at, number_at, symbol_at};
 use crate::group::{FoundGroup, Group};
 use crate::parts::{Def, Ref};
 use crate::spots::spot;
@@ -53,13 +53,13 @@ impl<'a> Groups<'a> {
     }
 
     /// The groups of a line from a place on, after the characters that are left there of the group before them.
-    fn behind(form: TextForm, line: &'a [u8], at: usize, total: u16, left: usize) -> Groups<'a>
+    fn after(form: TextForm, line: &'a [u8], at: usize, total: u16, left: usize) -> Groups<'a>
         requires line { length line.now < 2 ^ 32 }
         requires at { at ≤ length line.now }
         requires total { total ≡ sum (take at line.now) % 65536 }
         ensures { result ≡ groups_after form (take at line.now) left (drop at line.now) }
     {
-        let passed = front(behind(line, at), left);
+        let passed = front(after(line, at), left);
         Groups {
             form,
             line,
@@ -88,12 +88,12 @@ impl<'a> Iterator for Groups<'a> {
         let total = self.total.wrapping_add(u16::from(character));
         let form = self.form;
         let tag = tag_at(form, self.at, character);
-        let fields = behind(self.line, next);
+        let fields = after(self.line, next);
         let found = found_with(form, complement(total), character, tag, fields);
         *self = if found.ends_line() {
             Groups::new(form, &[])
         } else {
-            Groups::behind(form, self.line, next, total, found.size(form))
+            Groups::after(form, self.line, next, total, found.size(form))
         };
         Some(found)
     }

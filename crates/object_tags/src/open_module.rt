@@ -74,14 +74,14 @@ impl OpenModule {
         ensures { Leaves result (model_of_open self.new)
             (running.more (model_of_open self.old) (model_of_found found)) }
     {
-        self.stands_behind(found.character(), found.tag())?;
+        self.stands_after(found.character(), found.tag())?;
         self.grow(found.group()?)?;
         Ok(())
     }
 
     /// The tag, where it may stand after the groups of the module.
-    fn stands_behind(&self, character: u8, tag: Option<Tag>) -> Result<Tag, TagCause>
-        ensures { result ≡ reading.stands_behind (model_of_module self.now.found) character tag }
+    fn stands_after(&self, character: u8, tag: Option<Tag>) -> Result<Tag, TagCause>
+        ensures { result ≡ reading.stands_after (model_of_module self.now.found) character tag }
     {
         match tag {
             None | Some(Tag::Header) => Err(TagCause::BadTag(character)),

@@ -1,4 +1,4 @@
--- What dis writes of an input, with an entry behind END, is assembled and linked to its words.
+-- What dis writes of an input, with an entry after END, is assembled and linked to its words.
 use Rattle.std.proofs.Common.{◌≡◌, ℕ, ◌≤◌, false, List, [], ◌∷◌, length, refl, ap, sym, arith}
 use Rattle.std.proofs.Common.{Result, Ok, Err, ◌∙◌}
 use Rattle.std.specs.Prelude.{nat_lt}

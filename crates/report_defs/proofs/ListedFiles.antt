@@ -15,7 +15,7 @@ use Rattle.asm_defs.specs.declared.causes.AsmCause.{AsmCause}
 use Rattle.asm_defs.specs.Statements.{statement_in}
 use Rattle.asm_defs.specs.Locations.{Line}
 use Rattle.asm_defs.specs.FirstChecks.{check}
-use Rattle.asm_defs.specs.Modules.{module_behind}
+use Rattle.asm_defs.specs.Modules.{module_after}
 use Rattle.shelf_defs.specs.Files.{Files, of_files}
 use Rattle.shelf_defs.specs.CopyLines.{Itself, asked, ends_source}
 use Rattle.shelf_defs.specs.Copied.{Place, PlacedLine, Ended, Copied, lines_in, copy_line, deepest, copied}
@@ -24,8 +24,8 @@ use Rattle.listed_lines.proofs.LineTexts.{lines_joined, clean_lines, text_of}
 use Rattle.word_listings.specs.Listing.{memory_listing}
 use Rattle.word_listings.specs.Modules.{wraps, wrapping_from, first_wrapping, unless_far}
 use Rattle.word_listings.specs.Law.{StandEven, listed_module}
-use Rattle.word_listings.proofs.ListingLaw.{AllBytes, aorg_text, are_words, words_fit, listing_texts, listing_ends, clean_all, listing_is, behind_laid, odd_texts}
-use Rattle.word_listings.proofs.Behind.{texts_from}
+use Rattle.word_listings.proofs.ListingLaw.{AllBytes, aorg_text, are_words, words_fit, listing_texts, listing_ends, clean_all, listing_is, after_laid, odd_texts}
+use Rattle.word_listings.proofs.After.{texts_from}
 use Rattle.word_listings.proofs.ListingLaw.{OwnLine, AreOwn, own_end, own_front, front_texts}
 use Rattle.report_defs.specs.Report.{asm_report}
 use Rattle.report_defs.proofs.ListedWords.{listed as written_listing, stand_even, not_large}
@@ -85,9 +85,9 @@ copied_is copy (text ∷ front) end number copies are own =
     rw (asks_itself false text are.0, ends_as false text are.0, copied_is copy front end (number + 1) copies are.1 own) refl
 
 -- the module of such lines
-behind_copied : (lines : List (List ℕ)) (all : List Line) (answer : Result Module (Refusal AsmCause)) → laid check (numbered 1 lines) ≡ Ok all → module_behind all ≡ answer
+after_copied : (lines : List (List ℕ)) (all : List Line) (answer : Result Module (Refusal AsmCause)) → laid check (numbered 1 lines) ≡ Ok all → module_after all ≡ answer
     → module_of_copied (whole 1 0 lines) ≡ in_place (placed 1 lines) answer
-behind_copied lines all answer a b = rw (texts_placed 1 lines, a, b) refl
+after_copied lines all answer a b = rw (texts_placed 1 lines, a, b) refl
 
 -- ---- the report
 
@@ -138,7 +138,7 @@ module _ (half : ℕ) (bytes : List ℕ) (files : Files) (stands : StandEven (2 
   module_is =
       let ends = listing_ends half bytes None all stands.below stands.within tt in
       ap module_of_copied copied_all
-      ∙ behind_copied (map listed found_texts) ends.all _ ends.laid_is (behind_laid ends.all _ ends.names_are ends.module_is)
+      ∙ after_copied (map listed found_texts) ends.all _ ends.laid_is (after_laid ends.all _ ends.names_are ends.module_is)
 
   report_is : asm_report (listed_module (2 * half) bytes None) ≡ copy_report (module_of_files files (concat (memory_listing (2 * half) bytes)))
   report_is =

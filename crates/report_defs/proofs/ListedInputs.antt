@@ -19,7 +19,7 @@ use Rattle.report_defs.specs.GromListing.{grom_bytes}
 use Rattle.report_defs.specs.Laws.{ListedInputsComeBack, listed_text}
 use Rattle.report_defs.proofs.GromBytes.{bytes_of_image}
 
--- The ends of bytes that are placed one behind the other.
+-- The ends of bytes that are placed one after the other.
 
 high_placed : (bytes : List ℕ) (image : Image) (at byte : ℕ) → high_of (placed (insert image at byte) (at + 1) bytes) ≡ max (high_of image) (at + 1 + length bytes)
 high_placed [] image at byte = high_of-insert image at byte ∙ ap (max (high_of image)) (omega arith)

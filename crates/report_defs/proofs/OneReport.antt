@@ -17,7 +17,7 @@ use Rattle.report_defs.specs.declared.command.Command.TheVariants.{Exec, Interp,
 use Rattle.report_defs.specs.Exec.{IsStart, Executes, exec_lines, end_status}
 use Rattle.report_defs.specs.declared.fault.Fault.TheVariants.{TooLarge}
 use Rattle.report_defs.specs.declared.status.Status.TheVariants.{Done}
-use Rattle.report_defs.specs.Report.{Report, Whole, Faulty, ReportsExecution, ExecReport, AcceptedReport, largest_input}
+use Rattle.report_defs.specs.Report.{Report, Whole, Faulty, ReportsExecution, ExecReport, AcceptedReport, ReportOn, largest_input}
 use Rattle.report_defs.specs.Report.{ReportsInterpreter, ProgramRun, ReportsProgram, EnteredReport, ProgramReport, run_lines, trace_lines, demo_lines}
 use Rattle.report_defs.specs.MemoryListing.{linked_lines}
 use Rattle.report_defs.specs.Program.{program_status}
@@ -38,9 +38,9 @@ use Rattle.watch_defs.specs.declared.item.Item.{Item}
 use Rattle.watch_defs.specs.declared.found.Found.{Found}
 use Rattle.watch_defs.specs.Hits as hits
 use Rattle.report_defs.specs.Watching.{ReportsWatch, steps_to, watch_report}
-use Rattle.report_defs.specs.ProgramCommands.{AsmFiles, LinkFiles, Watch, OverFiles, Plain}
-use Rattle.report_defs.specs.FileReports.{AsmReport}
-use Rattle.report_defs.specs.Laws.{OneReport, OneReportWith}
+use Rattle.shelf_defs.specs.Files.{Files}
+use Rattle.report_defs.specs.ProgramCommands.{ProgramCommand, AsmFiles, LinkFiles, Watch, OverFiles, Plain}
+use Rattle.report_defs.specs.FileReports.{AsmReport, ReportWith}
 
 -- one memory is a new one
 one_new : (a b : Memory) (vdp_a vdp_b : VdpState) (grom_a grom_b : GromState) → vdp_a ≡ vdp_b → grom_a ≡ grom_b → IsNewMemory a vdp_a grom_a → IsNewMemory b vdp_b grom_b → a ≡ b
@@ -147,7 +147,8 @@ one_accepted (Demo number) input first second p q =
     (program_of_source (demo_text number)) first second p q
 one_accepted _ input first second p q = p ∙ sym q
 
-pub one_report : OneReport
+pub one_report : (command : Command) (input : List ℕ) (first second : Report)
+    → ReportOn command input first → ReportOn command input second → first ≡ second
 one_report command input first second p q =
     one_by (nat_lt largest_input (length input)) (Faulty TooLarge) first second (AcceptedReport command input) (one_accepted command input) p q
 
@@ -169,7 +170,8 @@ one_watched limit items image entry first second p q =
     ∙ ap (λ (x : MachineState). watch_report q.found limit (start q.bytes entry) x) left
     ∙ sym q.is
 
-pub one_report_with : OneReportWith
+pub one_report_with : (command : ProgramCommand) (input : List ℕ) (files : Files) (first second : Report)
+    → ReportWith command input files first → ReportWith command input files second → first ≡ second
 one_report_with (OverFiles AsmFiles) input files first second p q =
     one_by (nat_lt largest_input (length input)) (Faulty TooLarge) first second (AsmReport files input)
     (λ a b e f. e ∙ sym f) p q

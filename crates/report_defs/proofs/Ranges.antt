@@ -12,7 +12,7 @@ range_split from (suc n) m =
     rw (e, f) (ap (λ ks. from ∷ ks) (range_split (from + 1) n m))
 
 module _ {A : Type 0} (f : ℕ → List A) where
-  -- those of some numbers, and then those of the numbers behind them
+  -- those of some numbers, and then those of the numbers after them
   pub split_from : (from n m : ℕ) → flat_map f (range_with_len from (n + m)) ≡ flat_map f (range_with_len from n) ++ flat_map f (range_with_len (from + n) m)
   split_from from n m =
       ap (flat_map f) (range_split from n m) ∙ flat_map-append f (range_with_len from n) (range_with_len (from + n) m)
@@ -32,7 +32,7 @@ module _ {A : Type 0} (f : ℕ → List A) where
       ∙ (split_from 0 n (all - n) ∙ ap (λ k. flat_map f (range_with_len 0 n) ++ flat_map f (range_with_len k (all - n))) (zero-add n))
 
 module _ {B : Type 0} (f : ℕ → B) where
-  -- the images of some numbers, and then those of the numbers behind them
+  -- the images of some numbers, and then those of the numbers after them
   pub mapped_split : (n m : ℕ) → map f (range_with_len 0 (n + m)) ≡ map f (range_with_len 0 n) ++ map f (range_with_len n m)
   mapped_split n m =
       ap (map f) (range_split 0 n m) ∙ map-append f (range_with_len 0 n) (range_with_len (0 + n) m)

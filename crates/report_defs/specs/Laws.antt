@@ -19,23 +19,11 @@ use Rattle.report_defs.specs.declared.status.Status.{Status}
 use Rattle.report_defs.specs.declared.status.Status.TheVariants.{Done}
 use Rattle.report_defs.specs.GromListing.{image_listing}
 use Rattle.report_defs.specs.ObjectFaults.{link_line}
-use Rattle.report_defs.specs.ObjectInput.{told}
+use Rattle.report_defs.specs.ObjectInput.{with_line}
 use Rattle.report_defs.specs.Report.{Report, Whole, Faulty, Rejected, RejectedAfter, asm_report, link_report, one_piece}
 use Rattle.report_defs.specs.Report.{largest_input, ReportOn, PrefixOn}
-use Rattle.report_defs.specs.ProgramCommands.{AsmFiles, ProgramCommand, OverFiles, Plain}
+use Rattle.report_defs.specs.ProgramCommands.{AsmFiles, OverFiles, Plain}
 use Rattle.report_defs.specs.FileReports.{ReportWith}
-
--- the law, which is proved: there is at most one report on each command and input
-abbrev pub OneReport : Type 0
-OneReport =
-    (command : Command) (input : List ℕ) (first second : Report)
-    → ReportOn command input first → ReportOn command input second → first ≡ second
-
--- the law, which is proved: there is at most one report on each command, input and files
-abbrev pub OneReportWith : Type 0
-OneReportWith =
-    (command : ProgramCommand) (input : List ℕ) (files : Files) (first second : Report)
-    → ReportWith command input files first → ReportWith command input files second → first ≡ second
 
 -- One report begins another: its pieces are the first of the other's. The report of an input that is refused begins
 -- itself alone.
@@ -112,4 +100,4 @@ EnteredWordsLink =
     → length (concat pieces) ≤ largest_input
     → (answer : Result LinkedMemory LinkCause)
     × GivesWords at (padded_words input) entry (first_outside at (padded_words input)) answer
-    × ReportOn Link (concat pieces) (link_report (told link_line answer))
+    × ReportOn Link (concat pieces) (link_report (with_line link_line answer))

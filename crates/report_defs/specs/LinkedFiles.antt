@@ -26,7 +26,8 @@ abbrev pub taken_file : List ℕ → Option (List ℕ) → Result (List ℕ × L
 taken_file name None = Err (Missing name)
 taken_file name (Some bytes) = if nat_lt largest_input (length bytes) then Err TooLarge else Ok (name, bytes)
 
--- the files of some names, by the number of files that were asked for before
+-- The files of some names, each with its name, or the first that is refused; by the number of files that were asked for
+-- before.
 abbrev pub read_by : Contents → ℕ → List (List ℕ) → Result (List (List ℕ × List ℕ)) FilesRefusal
 read_by contents number [] = Ok []
 read_by contents number (name ∷ names) = do

@@ -1,10 +1,10 @@
 -- The line of a step: its number, the state before it with the instruction there, and what it changed. `trace` shows of
 -- what changed how many bytes they are, and the first.
-use Rattle.std.specs.Prelude.{ℕ, ◌+◌, ◌-◌, List, [], ◌∷◌, ◌++◌, codes, length, map, replicate, slice_index}
+use Rattle.std.specs.Prelude.{ℕ, ◌+◌, List, [], ◌∷◌, ◌++◌, codes, map, slice_index}
 use Rattle.std.specs.Prelude.{Option, Some, None}
 use Rattle.std.specs.List.{range_with_len}
 use Rattle.std.specs.Fmt.{decimal}
-use Rattle.source_defs.specs.Digits.{hex_word, byte_digits}
+use Rattle.source_defs.specs.Digits.{hex_word, byte_digits, right_in}
 use Rattle.gpl_defs.specs.Reading.{reading}
 use Rattle.gpl_listing_defs.specs.Texts.{read_text}
 use Rattle.gpl_step_defs.specs.State.{GplState}
@@ -12,14 +12,11 @@ use Rattle.gpl_step_defs.specs.Run.{run}
 use Rattle.list_defs.specs.Lists.{first_difference, count_differences}
 use Rattle.report_defs.specs.Program.{state_text}
 
--- Profile: the number of a step stands right in six places.
-unfoldable pub number_text : ℕ → List ℕ
-number_text number = replicate (6 - length (decimal number)) 0x20 ++ decimal number
-
--- Profile: the line of a step begins with its number, the state before it, and the instruction there.
+-- Profile: the line of a step begins with its number right in six columns, the state before it, and the instruction
+-- there.
 unfoldable pub step_front : ℕ → GplState → List ℕ
 step_front number s =
-    number_text number ++ (codes " " ++ (state_text s ++ (codes " " ++ read_text (reading s.image s.pc) s.pc)))
+    right_in 6 number ++ (codes " " ++ (state_text s ++ (codes " " ++ read_text (reading s.image s.pc) s.pc)))
 
 -- Profile: of bytes that changed the line shows how many they are, the place of the first, and the new byte there.
 abbrev pub changed_from : List ℕ → (ℕ → List ℕ) → ℕ → List ℕ → Option ℕ → List ℕ

@@ -19,15 +19,15 @@ drop_none zero = refl
 drop_none (suc n) = refl
 
 -- two bytes fewer are one word less
-pub words_behind : (n : ℕ) (bytes : List ℕ) → words_of_bytes (drop (2 * n) bytes) ≡ drop n (words_of_bytes bytes)
-words_behind zero bytes = refl
-words_behind (suc n) [] = ap words_of_bytes (drop_none (2 * suc n)) ∙ sym (drop_none (suc n))
-words_behind (suc n) (a ∷ []) =
+pub words_after : (n : ℕ) (bytes : List ℕ) → words_of_bytes (drop (2 * n) bytes) ≡ drop n (words_of_bytes bytes)
+words_after zero bytes = refl
+words_after (suc n) [] = ap words_of_bytes (drop_none (2 * suc n)) ∙ sym (drop_none (suc n))
+words_after (suc n) (a ∷ []) =
     let e : 2 * suc n ≡ suc (suc (2 * n)) = omega arith in
     rw e (ap words_of_bytes (drop_none (suc (2 * n))) ∙ sym (drop_none (suc n)))
-words_behind (suc n) (a ∷ b ∷ rest) =
+words_after (suc n) (a ∷ b ∷ rest) =
     let e : 2 * suc n ≡ suc (suc (2 * n)) = omega arith in
-    rw e (words_behind n rest)
+    rw e (words_after n rest)
 
 pub words_length : (bytes : List ℕ) → length (words_of_bytes bytes) ≡ length bytes / 2
 words_length [] = refl
@@ -44,7 +44,7 @@ word_of (suc n) (a ∷ b ∷ rest) lt =
     let f : 2 * suc n + 1 ≡ suc (suc (2 * n + 1)) = omega arith in
     rw (f, e) (word_of n rest (omega arith))
 
--- there is no word behind them
+-- there is no word after them
 pub no_word : (number : ℕ) (bytes : List ℕ) → length bytes ≤ 2 * number + 1 → get_or (words_of_bytes bytes) number 0 ≡ 0
 no_word number [] le = refl
 no_word number (a ∷ []) le = refl
@@ -92,7 +92,7 @@ front_bytes at (a ∷ []) some = absurd (omega arith)
 front_bytes at (a ∷ b ∷ rest) some =
     let front = printed (words_of_bytes (a ∷ b ∷ rest)) at in
     front_words at (join a b) (words_of_bytes rest)
-    ∙ ap (λ words. listing_line front.text ∷ word_lines (at + 2 * front.count) words) (sym (words_behind front.count (a ∷ b ∷ rest)))
+    ∙ ap (λ words. listing_line front.text ∷ word_lines (at + 2 * front.count) words) (sym (words_after front.count (a ∷ b ∷ rest)))
 
 -- an instruction has one word at least, and no byte that is not there
 pub front_count : (at : ℕ) (bytes : List ℕ) → 1 < length bytes → let front = printed (words_of_bytes bytes) at in 1 ≤ front.count × 2 * front.count ≤ length bytes
@@ -168,5 +168,5 @@ place_count at place number bytes some is =
     (omega (arith, is, count.0), omega (arith, is, count.1, length-drop place bytes))
 
 -- the bytes from a place to the end
-pub behind : (place : ℕ) (bytes : List ℕ) → take (length bytes - place) (drop place bytes) ≡ drop place bytes
-behind place bytes = take_all (length bytes - place) (drop place bytes) (omega (arith, length-drop place bytes))
+pub rest_taken : (place : ℕ) (bytes : List ℕ) → take (length bytes - place) (drop place bytes) ≡ drop place bytes
+rest_taken place bytes = take_all (length bytes - place) (drop place bytes) (omega (arith, length-drop place bytes))

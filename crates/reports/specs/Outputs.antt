@@ -3,8 +3,8 @@ use Rattle.std.specs.Prelude.{◌≡◌, ◌⊎◌, [], ◌∷◌}
 use Rattle.bench_io.specs.Stream.{SinkState}
 use Rattle.bench_io.specs.Written.{Wrote, Missed}
 use Rattle.report_defs.specs.declared.status.Status.{Status}
-use Rattle.report_defs.specs.declared.status.Status.TheVariants.{Done, Refused, Usage, ReadFault, WriteFault}
-use Rattle.report_defs.specs.declared.status.Status.TheVariants.{Memory, Stopped}
+use Rattle.report_defs.specs.declared.status.Status.TheVariants.{ReadFault, WriteFault}
+use Rattle.report_defs.specs.declared.status.Status.TheVariants.{Memory}
 use Rattle.report_defs.specs.FaultLine.{fault_line}
 use Rattle.report_defs.specs.Report.{Report, Whole, Faulty, Rejected, RejectedAfter, status_of}
 
@@ -32,12 +32,10 @@ MissedReport o (Rejected line) = Missed o.err o.err' (line ∷ []) × (o.out' �
 MissedReport o (RejectedAfter pieces line) =
     (Missed o.out o.out' pieces × (o.err' ≡ o.err)) ⊎ (Wrote o.out o.out' pieces × Missed o.err o.err' (line ∷ []))
 
--- how the writing of a report ends: by its own status where it was written, else by a write fault
+-- How the writing of a report ends: by its own status if it was written, else by a write fault. No report has the
+-- status of a failed read or of a lack of memory.
 abbrev pub EndsWith : Outputs → Report → Status → Type 0
-EndsWith o report Done = (status_of report ≡ Done) × WroteReport o report
-EndsWith o report Refused = (status_of report ≡ Refused) × WroteReport o report
-EndsWith o report Usage = (status_of report ≡ Usage) × WroteReport o report
 EndsWith o report ReadFault = ⊥
-EndsWith o report WriteFault = MissedReport o report
 EndsWith o report Memory = ⊥
-EndsWith o report Stopped = (status_of report ≡ Stopped) × WroteReport o report
+EndsWith o report WriteFault = MissedReport o report
+EndsWith o report end = (status_of report ≡ end) × WroteReport o report

@@ -1,8 +1,8 @@
 -- One run of a program: how it may end, and what it reads and the two outputs are then.
 use Rattle.std.specs.Prelude.{◌≡◌, ◌⊎◌, ℕ, List, Option, Some, None}
 use Rattle.report_defs.specs.declared.status.Status.{Status}
-use Rattle.report_defs.specs.declared.status.Status.TheVariants.{Done, Refused, Usage, ReadFault, WriteFault}
-use Rattle.report_defs.specs.declared.status.Status.TheVariants.{Memory, Stopped}
+use Rattle.report_defs.specs.declared.status.Status.TheVariants.{Usage, ReadFault, WriteFault}
+use Rattle.report_defs.specs.declared.status.Status.TheVariants.{Memory}
 use Rattle.report_defs.specs.Report.{Report}
 use Rattle.reports.specs.Outputs.{Outputs, EndsWith, MissedReport}
 use Rattle.reports.specs.Answers.{EndsByLine}
@@ -61,13 +61,11 @@ pub record EndsByUsage {C W X : Type 0} (p : Program C W X) (run : Run C W) (end
 -- is never reported after something was written.
 abbrev pub EndsSaid : {C W X : Type 0} → Program C W X → Option C → Run C W → Status → Type 0
 EndsSaid p None run end = EndsByUsage p run end
-EndsSaid p (Some command) run Done = EndsByReport p command run Done
-EndsSaid p (Some command) run Refused = EndsByReport p command run Refused
 EndsSaid p (Some command) run Usage = ⊥
 EndsSaid p (Some command) run ReadFault = WroteNothing p command run × p.ReadFails command run.before run.after
 EndsSaid p (Some command) run WriteFault = EndsByFault p command run
 EndsSaid p (Some command) run Memory = WroteNothing p command run
-EndsSaid p (Some command) run Stopped = EndsByReport p command run Stopped
+EndsSaid p (Some command) run end = EndsByReport p command run end
 
 -- how a run ends
 abbrev pub EndsBy : {C W X : Type 0} → Program C W X → Run C W → Status → Type 0

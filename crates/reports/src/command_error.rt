@@ -1,7 +1,7 @@
 //! Why nothing is reported, and how the errors of libraries are reported.
 
 ghost use Rattle.std.specs.Prelude.{◌≡◌};
-ghost use Rattle.memory_listing.specs.Told.{link_told};
+ghost use Rattle.memory_listing.specs.FaultLines.{line_of_link_error};
 ghost use Rattle.bench_io.specs.Stream.{SinkState};
 ghost use Rattle.reports.specs.Answers.{Ends, EndsByLine, error_answer};
 ghost use Rattle.reports.specs.Answers.{asm_answer, gpl_answer, line_answer, read_answer, tag_answer};
@@ -138,7 +138,7 @@ impl From<TagError> for CommandError {
 }
 
 impl From<LinkError> for CommandError {
-    ghost from_gives = { λ error result. error_answer result ≡ line_answer (link_told error) };
+    ghost from_gives = { λ error result. error_answer result ≡ line_answer (line_of_link_error error) };
 
     fn from(error: LinkError) -> Self {
         match link_line(&error) {

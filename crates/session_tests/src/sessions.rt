@@ -60,7 +60,7 @@ fn step<L: Ledger>(session: &mut Session, steps: &mut Steps<L>) -> Option<Turn> 
 fn runs_so<L: Ledger>(
     blank: Blank,
     machine: Machine,
-    behind: &[u16],
+    after: &[u16],
     reason: Reason,
     end: u16,
 ) -> bool
@@ -74,7 +74,7 @@ fn runs_so<L: Ledger>(
     if !session.is_running() || session.pc() != 0x6000 {
         return false;
     }
-    for &address in behind {
+    for &address in after {
         if step(&mut session, &mut steps) != Some(Turn::Stepped) || session.pc() != address {
             return false;
         }
@@ -90,7 +90,7 @@ fn runs_so<L: Ledger>(
 fn is_run(
     alloc: Global,
     bytes: &[u8],
-    behind: &[u16],
+    after: &[u16],
     reason: Reason,
     end: u16,
 ) -> Result<bool, BuildError> {
@@ -98,14 +98,14 @@ fn is_run(
     let mut image = GromImage::new(alloc)?;
     put_all(&mut image, bytes);
     let machine = load_interpreter(alloc, &interpreter, image.bytes(), 0x6000)?;
-    Ok(runs_so::<Brand>(Blank::new(1), machine, behind, reason, end))
+    Ok(runs_so::<Brand>(Blank::new(1), machine, after, reason, end))
 }
 
 #[test]
 fn sessions_run_step_by_step(rt: HostRuntime) -> Result<(), Fail> {
-    for &(name, bytes, behind, reason, end) in PROGRAMS {
+    for &(name, bytes, after, reason, end) in PROGRAMS {
         assert!(rt;
-            is_run(rt.alloc(), bytes, behind, reason, end) == Ok(true),
+            is_run(rt.alloc(), bytes, after, reason, end) == Ok(true),
             "{name}"
         );
     }

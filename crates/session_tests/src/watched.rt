@@ -61,7 +61,7 @@ fn finds<L: Ledger>(
     items: &Vec<Item>,
     limit: u32,
     found: &[Found],
-    behind: u16,
+    after: u16,
 ) -> Result<bool, AllocError>
     requires name { blank.name ≡ L.name }
     requires parts { blank.parts ≡ L.parts }
@@ -77,7 +77,7 @@ fn finds<L: Ledger>(
             return Ok(false);
         }
     }
-    Ok(session.pc() == behind)
+    Ok(session.pc() == after)
 }
 
 /// Whether a program that is watched so gives this.
@@ -87,21 +87,21 @@ fn is_watched(
     items: &[Item],
     limit: u32,
     found: &[Found],
-    behind: u16,
+    after: u16,
 ) -> Option<bool> {
     let items = Vec::from_slice(alloc, items).ok()?;
     if !are_items(&items) {
         return None;
     }
     let machine = machine_of(alloc, program)?;
-    finds::<Brand>(Blank::new(1), alloc, machine, &items, limit, found, behind).ok()
+    finds::<Brand>(Blank::new(1), alloc, machine, &items, limit, found, after).ok()
 }
 
 #[test]
 fn the_first_step_that_changes_a_watched_place_is_found(rt: HostRuntime) -> Result<(), Fail> {
-    for &(name, program, items, limit, found, behind) in ROWS {
+    for &(name, program, items, limit, found, after) in ROWS {
         assert!(rt;
-            is_watched(rt.alloc(), program, items, limit, found, behind) == Some(true),
+            is_watched(rt.alloc(), program, items, limit, found, after) == Some(true),
             "{name}"
         );
     }

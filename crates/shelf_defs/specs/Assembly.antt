@@ -11,7 +11,7 @@ use Rattle.object_defs.specs.Modules.{Module}
 use Rattle.asm_defs.specs.declared.causes.AsmCause.{AsmCause}
 use Rattle.asm_defs.specs.Locations.{Line}
 use Rattle.asm_defs.specs.FirstChecks.{check}
-use Rattle.asm_defs.specs.Modules.{module_behind}
+use Rattle.asm_defs.specs.Modules.{module_after}
 use Rattle.shelf_defs.specs.Files.{Files, Contents, of_files}
 use Rattle.shelf_defs.specs.Copied.{Place, PlacedLine, Asm, CopyRefusal, At, Ending, Open, Ended, Refused}
 use Rattle.shelf_defs.specs.Copied.{Copied, copied_by}
@@ -46,7 +46,7 @@ laid_copied found = do
 abbrev pub module_of_copied : Copied → Result Module CopyRefusal
 module_of_copied found = do
   lines ← laid_copied found
-  in_place found.lines (module_behind lines)
+  in_place found.lines (module_after lines)
 
 -- the module of a source with the files that it copies, or why there is none
 abbrev pub module_by : Contents → List ℕ → Result Module CopyRefusal

@@ -39,7 +39,7 @@ fn named_as(bytes: &[u8], named: bool) -> bool {
 }
 
 #[test]
-fn names_of_files_are_told_from_other_bytes(rt: HostRuntime) {
+fn names_of_files_are_those_of_the_rule(rt: HostRuntime) {
     for &(bytes, named) in NAMES {
         assert!(rt; named_as(bytes, named), "{bytes:?}");
     }

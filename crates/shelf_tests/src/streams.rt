@@ -189,7 +189,7 @@ fn passes_a_pipe(rt: &HostRuntime) -> io::Result<bool> {
 
 /// Whether a reader that fails once after its first bytes gives these and fails at the next call alone, and whether
 /// such a failure is the fault of a whole reading.
-fn fails_behind_its_front(alloc: Global) -> bool {
+fn fails_after_its_front(alloc: Global) -> bool {
     let mut source = StdSource::new(b"front".as_slice().chain(Broken { has_failed: false }));
     let mut buffer = [0; 8];
     let read = read_all(
@@ -221,7 +221,7 @@ fn sinks_and_real_streams_fail_where_they_must(rt: HostRuntime) -> Result<(), Fa
     for &(piece, taken, held) in PIECES {
         assert!(rt; puts_as(&mut sink, piece, taken, held), "{piece:?}");
     }
-    assert!(rt; passes_a_pipe(&rt)? && fails_behind_its_front(rt.alloc()));
+    assert!(rt; passes_a_pipe(&rt)? && fails_after_its_front(rt.alloc()));
     assert!(rt;
         fails_when_full(true) && fails_when_full(false) && SteadySink::new().put(b"gone").is_ok()
     );

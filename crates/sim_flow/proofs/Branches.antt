@@ -17,7 +17,7 @@ next_after s = next_in_grom (after_code s)
 abbrev target : GplState → ℕ
 target s = in_grom_of s.pc (join (code_byte s % 32) (slice_index s.image (after_code s)))
 
--- Behind the target.
+-- After the target.
 record Targeted (s : GplState) (w : View) : Type 0 where
   sees : ShowsState s (next_after s) w
   to : w.r.r6 ≡ target s

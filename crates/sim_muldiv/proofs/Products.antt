@@ -1,6 +1,6 @@
 -- MUL means the product: on views alone.
 use Rattle.std.proofs.Common.{ℕ, ◌*◌, ◌/◌, ◌∙◌, ◌≡◌, ap, arith, Ok, refl, Some, subst, sym}
-use Rattle.sim_rows.proofs.Common.{AtRow, behind, Byte, byte_at, Changes, gone_on, GplState, GSTEP, IsView}
+use Rattle.sim_rows.proofs.Common.{AtRow, further, Byte, byte_at, Changes, gone_on, GplState, GSTEP, IsView}
 use Rattle.sim_rows.proofs.Common.{most_of_product_row, MUL, operands_of, operation_in, Place, reads_destination}
 use Rattle.sim_rows.proofs.Common.{row_width}
 use Rattle.sim_rows.proofs.Common.{SeesFinished, Source, Two, unchanged, value_at, View, Width, with_double, with_value}
@@ -30,8 +30,8 @@ module _ (s : GplState) (place : Place) (source : ℕ) (u : View) where
   unfolding product byte_product word_product
   multiplies_by Byte i visible =
       let value = byte_product_is (value_at s Word place) source (i.r 9) ∙ ap (λ (n : ℕ). n * source)
-      (high_of (byte_at s place) (byte_at s (behind 1 place))
-      (byte_fits_at (at Byte) i s refl refl (behind 1 place))) in
+      (high_of (byte_at s place) (byte_at s (further 1 place))
+      (byte_fits_at (at Byte) i s refl refl (further 1 place))) in
       let stores = asks c Word place (pieces.multiply_bytes (at Byte)).left value in
       ends_in (byte_product (at Byte))
       (first (pieces.multiply_bytes (at Byte)) finish_row
@@ -44,7 +44,7 @@ module _ (s : GplState) (place : Place) (source : ℕ) (u : View) where
       ask_store_first (pieces.multiply_words (at Word)) pieces.low_product finish_row (asks c Word place left refl)
       (i.r 7) (first_visible (at Word) visible)
       (λ r4 address byte. let low_word = pieces.low_product (seen_with half left r4 address byte) in
-      first low_word finish_row (row_finishes (asks half Word (behind 2 place) low_word.left refl) (omega arith)
+      first low_word finish_row (row_finishes (asks half Word (further 2 place) low_word.left refl) (omega arith)
       (second_visible (at Word) refl visible)))
 
 pub multiplies : (s : GplState) (place : Place) (source : Source) (v : View) → IsView v →

@@ -1,7 +1,7 @@
 -- DIV means the quotient and the remainder: on views alone.
 use Rattle.std.proofs.Common.{ℕ, ◌%◌, ◌/◌, ◌<◌, ◌==◌, ◌∙◌, ◌≡◌, ap, arith, Bool, false, if◌then◌else◌, nat_lt, Ok, refl}
 use Rattle.std.proofs.Common.{Some, subst, sym, true}
-use Rattle.sim_rows.proofs.Common.{AtRow, behind, Byte, Changes, DIV, DIVBY, divided, DIVW, double_at, double_word}
+use Rattle.sim_rows.proofs.Common.{AtRow, further, Byte, Changes, DIV, DIVBY, divided, DIVW, double_at, double_word}
 use Rattle.sim_rows.proofs.Common.{exit}
 use Rattle.sim_rows.proofs.Common.{goes_in, gone_on, GplState, GSTEP, has_quotient, high, in_register, IsView, join}
 use Rattle.sim_rows.proofs.Common.{most_of_quotient_row, number_of_space, operands_of, operation_in, pick, Place}
@@ -49,23 +49,23 @@ quotient_ends c place {quotient = quotient} u value fits visible =
     (store_first (λ w. pieces.take_remainder w >> end_division) (asks c Word place u value) fits
     (first_visible v visible)
     (λ r4 address byte. let rest = pieces.take_remainder (seen_with half v r4 address byte) in
-    first rest end_division (division_ends (asks half Word (behind 2 place) rest.left refl) (omega arith)
+    first rest end_division (division_ends (asks half Word (further 2 place) rest.left refl) (omega arith)
     (second_visible v refl visible))))
 
 -- the quotient and the remainder of bytes as one word
 one_word : (place : Place) (quotient remainder : ℕ) (c : Changes) → remainder < 256 →
     with_value Word place (join quotient remainder) c ≡ with_quotient Byte place quotient remainder c
 one_word place quotient remainder c h =
-    ap (λ (n : ℕ). with_byte (behind 1 place) n (with_byte place (high (join quotient remainder)) c))
+    ap (λ (n : ℕ). with_byte (further 1 place) n (with_byte place (high (join quotient remainder)) c))
     (low_of quotient remainder h)
-    ∙ ap (λ (n : ℕ). with_byte (behind 1 place) remainder (with_byte place n c)) (high_of quotient remainder h)
+    ∙ ap (λ (n : ℕ). with_byte (further 1 place) remainder (with_byte place n c)) (high_of quotient remainder h)
 
 double_same : (s g : GplState) (width : Width) (place : Place) → s.cells ≡ g.cells → s.vdp ≡ g.vdp →
     double_at s width place ≡ double_at g width place
 double_same s g Byte place e f = value_same s g Word place e f
 double_same s g Word place e f =
-    ap (λ (k : ℕ). double_word k (value_at s Word (behind 2 place))) (value_same s g Word place e f)
-    ∙ ap (λ (k : ℕ). double_word (value_at g Word place) k) (value_same s g Word (behind 2 place) e f)
+    ap (λ (k : ℕ). double_word k (value_at s Word (further 2 place))) (value_same s g Word place e f)
+    ∙ ap (λ (k : ℕ). double_word (value_at g Word place) k) (value_same s g Word (further 2 place) e f)
 
 module _ (s : GplState) (place : Place) (divisor : ℕ) (u : View) where
   abbrev at : Width → View
@@ -108,8 +108,8 @@ module _ (s : GplState) (place : Place) (divisor : ℕ) (u : View) where
       let ask = pieces.load_low_word v in
       let dividend = double_at s Word place in
       let loads : double_word (value_at s Word place) (loaded ask.left 0 0 0).r.r6 ≡ dividend =
-      ap (λ (k : Place). double_word (value_at s Word place) (value_at (state_of v) Word k)) (place_is (behind 2 place))
-      ∙ ap (double_word (value_at s Word place)) (value_same (state_of v) s Word (behind 2 place) refl refl) in
+      ap (λ (k : Place). double_word (value_at s Word place) (value_at (state_of v) Word k)) (place_is (further 2 place))
+      ∙ ap (double_word (value_at s Word place)) (value_same (state_of v) s Word (further 2 place) refl refl) in
       let onward : (r4 address byte : ℕ) →
       Ends (pieces.divide_words (loaded ask.left r4 address byte) >> store_quotient) 67 GSTEP
       (SeesFinished (with_overflow false (with_quotient Word place (dividend / divisor) (dividend % divisor) c))) =
@@ -132,9 +132,9 @@ module _ (s : GplState) (place : Place) (divisor : ℕ) (u : View) where
       nat_lt (value_at s Word place) (in_register width divisor) ≡ has_quotient width (double_at s width place) divisor
   fits_is Byte i = byte_divides (value_at s Word place) divisor
   fits_is Word i =
-      let a = byte_fits_at (at Word) i s refl refl (behind 2 place) in
-      let b = byte_fits_at (at Word) i s refl refl (behind 1 (behind 2 place)) in
-      word_divides (value_at s Word place) (value_at s Word (behind 2 place)) divisor (omega arith)
+      let a = byte_fits_at (at Word) i s refl refl (further 2 place) in
+      let b = byte_fits_at (at Word) i s refl refl (further 1 (further 2 place)) in
+      word_divides (value_at s Word place) (value_at s Word (further 2 place)) divisor (omega arith)
 
   made : Width → Bool → Changes
   made width has =

@@ -3,10 +3,11 @@ use Rattle.std.proofs.Common.{ℕ, ⊎_elim, ◌%◌, ◌*◌, ◌+◌, ◌/◌,
 use Rattle.std.proofs.Common.{nat_lt, not, Ok, refl, Result, slice_index, subst, sym, true}
 use Rattle.std.proofs.lemmas.Nat.{and_mask}
 use Rattle.std.proofs.lemmas.Bool.{cases_eq, eq-eqb, eqb-true, le-leb, le-ltb, lt-leb, ltb-false, ltb-true, ne_eqb}
+use Rattle.sim_view.specs.Prelude.{is_set, space_of}
 use Rattle.sim_view.specs.Prelude.{conjunction_of}
 use Rattle.sim_view.proofs.Common.{APTR, ASPACE, Exit, Goes, goes_in, GSTOP, high, HoldsBytes, INDEX, index_at}
 use Rattle.sim_view.proofs.Common.{indexed, is_visible, join, last_out, next_in_grom, operand_at, pick, pointed, ranged}
-use Rattle.sim_view.proofs.Common.{Reason, shifted, SLA, space_at, SRL, sum_of, View, with_index, Word, word_in}
+use Rattle.sim_view.proofs.Common.{Reason, shifted, SLA, SRL, sum_of, View, with_index, Word, word_in}
 use Rattle.sim_view.specs.gpl_step_defs.declared.reason.Reason.TheVariants.{Cell}
 use Rattle.sim_operands.proofs.Facts.{not_both}
 use Rattle.sim_operands.specs.Subroutines.{Addressed, OperandStop, grom_at, Placed, state_of}
@@ -202,7 +203,7 @@ no_range bytes offset c = let l : 0xC2 < offset = ltb-true 0xC2 offset c in lt-l
 -- The range's piece gives the place, or stops.
 abbrev pub RangeRead : View → View → ℕ → ℕ → ℕ → Exit → Type 0
 RangeRead v w address form next e =
-    Answers (ranged v.r.r3 (space_at form) address)
+    Answers (ranged v.r.r3 (space_of (is_set form 0x20)) address)
     (λ place. Goes e 9 (pieces.return_of v) (Placed v next place))
     (Goes e 9 GSTOP (OperandStop v Cell))
 

@@ -1,8 +1,9 @@
 -- ADDR as a routine: the place of the operand that follows, or a stop; on views, and on the machine.
 use Rattle.std.proofs.Common.{ℕ, ◌%◌, ◌/◌, ◌==◌, ◌≡◌, ◌≤◌, arith, eqb, Err, false, nat_lt, Ok, refl, Result, subst, sym, true}
+use Rattle.sim_view.specs.Prelude.{is_set, space_of}
 use Rattle.sim_view.proofs.Common.{◌>>=◌, ADDR, ASPACE, comes, Exit, Exits, GplOperand, HoldsBytes, INDEX, index_at, indexed}
 use Rattle.sim_view.proofs.Common.{is_view, IsFetched, MachineState, operand_at, pick, Place, place_of, pointed, PortsAreIdle, ranged}
-use Rattle.sim_view.proofs.Common.{Reason, shifted, SLA, space_at, SRL, Stands, View, view}
+use Rattle.sim_view.proofs.Common.{Reason, shifted, SLA, SRL, Stands, View, view}
 use Rattle.sim_view.specs.native_interp.declared.addresses.TheConstants.{ASHORT}
 use Rattle.sim_view.specs.Prelude.{is_turn_end}
 use Rattle.sim_view.specs.Routines.{◌>>◌}
@@ -33,7 +34,7 @@ module _ (v : View) (at : ℕ) (ready : v.grom ≡ grom_at v.grom.image at) (byt
   short is =
       let a = short_read v at ready bytes is in
       let e = pieces.address v in
-      let q = ranged v.r.r3 (space_at 0) a.address in
+      let q = ranged v.r.r3 (space_of (is_set 0 0x20)) a.address in
       subst (Found (find_operand v) 38) (sym a.means)
       (subst (λ (d : Exit). EndsBy d 38 (return_of v) (Placed v a.next) (OperandStop v) q)
       (sym (went ASHORT e pieces.short_range (e >> follow_pointer) is))
@@ -47,7 +48,7 @@ module _ (v : View) (at : ℕ) (ready : v.grom ≡ grom_at v.grom.image at) (byt
       let a = address_read v at ready bytes is in
       let e = pieces.address v in
       let index = index_at a.form v.grom.image a.next in
-      let ranges : ℕ → Result Place Reason = λ address. ranged v.r.r3 (space_at a.form) address in
+      let ranges : ℕ → Result Place Reason = λ address. ranged v.r.r3 (space_of (is_set a.form 0x20)) address in
       let adds : ℕ → Result Place Reason = λ base. (indexed (state_of v) index.0 base >>= ranges) in
       let q = pointed (state_of v) (a.form / 16 % 2 == 1) a.address in
       subst (Found (find_operand v) 38) (sym a.means)

@@ -24,7 +24,7 @@ pub use Rattle.sim_rows.proofs.Steps.{bound_made, bound_stop, place_same, step_b
 pub use Rattle.sim_rows.proofs.StoredResults.{changed_again, ChangedFrom, store_then, stored_idle, storing_again, value_keeps, width_again}
 pub use Rattle.sim_rows.proofs.RowStart.{stands_at}
 pub use Rattle.sim_rows.specs.Prelude.{◌>>=◌, absolute_flags, absolute_of, ABSV, ADDR, Addressed, ADDV, ALL, ANDV, Answer, Asking, ASPACE, AtDispatch}
-pub use Rattle.sim_rows.specs.Prelude.{AtRow, B, BACK, OperandStop, behind, after_code, after_first, bit_of, bound, bound_at, bound_by, BRANCH, Branch, branched}
+pub use Rattle.sim_rows.specs.Prelude.{AtRow, B, BACK, OperandStop, further, after_code, after_first, bit_of, bound, bound_at, bound_by, BRANCH, Branch, branched}
 pub use Rattle.sim_rows.specs.Prelude.{BTARG, Byte, byte_at, byte_from, byte_in, bytes_by, bytes_or_none, CALL, CALLN, CALLS, CARRY, CASE, CASEN, CASET, CASEV}
 pub use Rattle.sim_rows.specs.Prelude.{Cell, cells_at, CEQ, CEQV, CFALSE, CGE, CGEV, CGT, CGTV, CH, ShowsChanges, Changes, CHARACTER, CHE, CHEV, CHV, CLOG, CLOGV}
 pub use Rattle.sim_rows.specs.Prelude.{CLRV, code_byte, ReachesWithin, complement_of, condition, conjunction_of, copied, COPY, COPYN, COPYS, COUNT, count_in, count_of}
@@ -54,6 +54,6 @@ pub use Rattle.sim_rows.specs.Prelude.{Storing, STREAM, streamed, STV, SUBV, sum
 pub use Rattle.sim_rows.specs.Prelude.{from_dispatch, Turned, TurnedBy, Two, two, TwoName, unchanged, unit, UNKN, value_at, Vdp, vdp_address_written}
 pub use Rattle.sim_rows.specs.Prelude.{vdp_data_written, VdpState, View, view, WHERE, Width, width_in, with_byte, with_byte_from, with_byte_in, with_byte_to}
 pub use Rattle.sim_rows.specs.Prelude.{with_cell, with_condition, with_double, with_immediate, with_overflow, with_pc, with_quotient, with_register}
-pub use Rattle.sim_rows.specs.Prelude.{with_status, with_stop, with_tested, with_value, with_word, with_word_in, within_limit, Word, word_at, word_in, word_of}
+pub use Rattle.sim_rows.specs.Prelude.{with_status, turns_made, with_tested, with_value, with_word, with_word_in, within_limit, Word, word_at, word_in, word_of}
 pub use Rattle.sim_rows.specs.Prelude.{whole_turn, word_or_byte, WORKSPACE, WriteSetup, XORV}
 unfoldable pub use Rattle.sim_rows.specs.Prelude.{after, operand_at, view_of, zeros}

@@ -1,7 +1,7 @@
 -- The names that the clauses and definitions of a family cite, passed on from one place. Declares nothing.
 pub use Rattle.sim_view.specs.Prelude.{◌>>=◌, ABS, absolute_flags, absolute_of, ABSV, ADD, ADDR, address_at}
 pub use Rattle.sim_view.specs.Prelude.{address_register, ADDV, ALL, AND, ANDV, Answer, APTR, ASPACE, B}
-pub use Rattle.sim_view.specs.Prelude.{BACK, behind, bit_of, Boots, bound, bound_at, bound_by, Branch, BRANCH}
+pub use Rattle.sim_view.specs.Prelude.{BACK, further, bit_of, Boots, bound, bound_at, bound_by, Branch, BRANCH}
 pub use Rattle.sim_view.specs.Prelude.{branched, BTARG, Byte, byte_at, byte_from, byte_in, ByteOp, bytes_or_none}
 pub use Rattle.sim_view.specs.Prelude.{CALL, CALLN, CALLS, CARRY, CARRY_BIT, CASE, CASEN, CASET, CASEV, Cell}
 pub use Rattle.sim_view.specs.Prelude.{cells_at, CEQ, CEQV, CFALSE, CGE, CGEV, CGT, CGTV, CH, Changes, CHARACTER, CHE}
@@ -39,7 +39,7 @@ pub use Rattle.sim_view.specs.Prelude.{Reaches, read_by, ReadSetup, Reason, Regi
 pub use Rattle.sim_view.specs.Prelude.{repeated_sign, RESUME, RETURN_STACK, ROW, row_entry, RTN, RTNC, run}
 pub use Rattle.sim_view.specs.Prelude.{Runs, RunsSteps, SDATA, SEED, SEEK, shifted, shifted_left, shifted_right}
 pub use Rattle.sim_view.specs.Prelude.{ShiftOp, SHOW, shown, shown_by, signed, size_of, SLA, SLL, SLLB, SLLV, Source}
-pub use Rattle.sim_view.specs.Prelude.{source_at, source_of, Space, space_at, space_of, SRA, SRAB, SRAV, SRC, SRCB}
+pub use Rattle.sim_view.specs.Prelude.{source_at, source_of, Space, space_of, SRA, SRAB, SRAV, SRC, SRCB}
 pub use Rattle.sim_view.specs.Prelude.{SRCV, SREG, SRL, SRLB, SRLV, ST, Stack, Stands, StandsBy, start, STATB, STATUS}
 pub use Rattle.sim_view.specs.Prelude.{Status, status_byte, status_of, status_word, step, Stepped, steps, STO}
 pub use Rattle.sim_view.specs.Prelude.{Stopped, STORE, STREAM, STV, SUB, SUBV, sum_flags, sum_of, swapped, TABLE}
@@ -50,7 +50,7 @@ pub use Rattle.sim_view.specs.Prelude.{vdp_address_written, vdp_data_read, vdp_d
 pub use Rattle.sim_view.specs.Prelude.{VISIBLE_CELLS, WHERE, WIDE, Width, with_byte, with_byte_from, with_byte_in}
 pub use Rattle.sim_view.specs.Prelude.{with_byte_to, with_cell, with_condition, with_double, with_immediate}
 pub use Rattle.sim_view.specs.Prelude.{with_overflow, with_pc, with_quotient, with_register, with_status}
-pub use Rattle.sim_view.specs.Prelude.{with_stop, with_tested, with_value, with_word, with_word_in, within_limit}
+pub use Rattle.sim_view.specs.Prelude.{turns_made, with_tested, with_value, with_word, with_word_in, within_limit}
 pub use Rattle.sim_view.specs.Prelude.{Word, word_at, word_in, word_or_byte, WORKSPACE, WriteSetup, XOR, XORV}
 unfoldable pub use Rattle.sim_view.specs.Prelude.{after, operand_at, reading, view_of, zeros}
 pub use Rattle.sim_operands.specs.Pieces.{exit, past, return_of, with_grom_address, with_video_address}

@@ -1,7 +1,7 @@
 -- Runs of turns.
 use Rattle.std.proofs.Common.{ℕ, ◌+◌, ◌<◌, ◌∙◌, ◌≡◌, ◌≤◌, ap, arith, Err, None, Ok, Option, refl, Result, Some, subst, suc, sym, zero}
 use Rattle.sim_rows.proofs.Common.{◌>>=◌, bound, Cell, EndsAs, GplRun, GplState, IsMatching, IsTurn, MachineState, Matches, no_turns, one_more, one_more_turn, Reason, run, runs_steps}
-use Rattle.sim_rows.proofs.Common.{shown_by, step, Stepped, Stopped, Turn, Turned, TurnedBy, TurnsMade, whole_turn, with_stop}
+use Rattle.sim_rows.proofs.Common.{shown_by, step, Stepped, Stopped, Turn, Turned, TurnedBy, TurnsMade, whole_turn, turns_made}
 use Rattle.sim_rows.specs.gpl_step_defs.Run.{steps}
 use Rattle.sim_steps.specs.Running.{RunsTurns}
 
@@ -141,7 +141,7 @@ module _ (made : ℕ) {s : GplState} {x z : MachineState} {t u : ℕ} (h : Stepp
         count = h.count + r.1.count;
         counted = omega arith;
         runs = runs_steps s limit (h.count + r.1.count) x w
-            (subst (λ (q : GplRun). TurnsMade s (with_stop q.stop q.done) (h.count + r.1.count) x w) (sym is)
+            (subst (λ (q : GplRun). TurnsMade s (turns_made q.stop q.done) (h.count + r.1.count) x w) (sym is)
             (subst (λ (d : ℕ). TurnsMade s d (h.count + r.1.count) x w) (sym (next_is made))
             (turned_once r.1.count r.1.turn (let le = r.1.within in omega arith))))
             (subst (λ (q : GplRun). EndsAs q.stop q.last w) (sym is) r.2);
@@ -160,6 +160,6 @@ whole limit {s = s} {x = x} {z = z} h =
       count = h.count;
       counted = h.counted;
       runs = runs_steps s limit h.count x z
-          (subst (λ (q : GplRun). TurnsMade s (with_stop q.stop q.done) h.count x z) (sym is) h.turns_are)
+          (subst (λ (q : GplRun). TurnsMade s (turns_made q.stop q.done) h.count x z) (sym is) h.turns_are)
           (subst (λ (q : GplRun). EndsAs q.stop q.last z) (sym is) h.matches);
     }

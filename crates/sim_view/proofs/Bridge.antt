@@ -6,7 +6,7 @@ use Rattle.std.proofs.lemmas.Bool.{cases_lt}
 use Rattle.std.proofs.Math.ListN.{take-append-drop}
 use Rattle.std.specs.Prelude.{slice_index}
 use Rattle.sim_view.specs.Prelude.{even, Exit, Exits, IsMachine, IsStatus, join, MachineState, Runs, Status, word_in, WORKSPACE}
-use Rattle.console_defs.proofs.MemoryLaws.{region_scratchpad}
+use Rattle.console_defs.proofs.MemoryLaws.{region_scratchpad, read_is_by_region}
 use Rattle.console_defs.specs.Vdp.{VdpState, IsVdp}
 use Rattle.console_defs.specs.Grom.{GromState, IsGrom}
 use Rattle.tms_defs.specs.Accesses.{Answer, Gives, ◌>>=◌}
@@ -191,7 +191,8 @@ holds_register m k h b =
     let a : even (register_in WORKSPACE k) ≡ WORKSPACE + 2 * k = omega arith in
     let g : region (WORKSPACE + 2 * k) ≡ Scratchpad (224 + 2 * k) = region_scratchpad (WORKSPACE + 2 * k) (omega arith) (omega arith)
     ∙ ap Scratchpad (omega arith) in
-    let f : word_read m (register_in WORKSPACE k) ≡ Gives (word_in m.scratchpad (224 + 2 * k)) = rw (a, g) refl in
+    let f : word_read m (register_in WORKSPACE k) ≡ Gives (word_in m.scratchpad (224 + 2 * k)) =
+    read_is_by_region m (register_in WORKSPACE k) ∙ rw (a, g) refl in
     f ∙ ap Gives (sym (reg_word m k h b))
 
 pub register_is : (m : Memory) (wp k w : ℕ) → IsMemory m → wp ≡ WORKSPACE → k < 16 → Gives w ≡ word_read m (register_in wp k) →

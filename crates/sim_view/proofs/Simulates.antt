@@ -28,11 +28,12 @@ use Rattle.tms_defs.specs.Operand.{Cpu, Mode, Register, Indirect, Symbolic, Incr
 use Rattle.tms_defs.specs.Jumps.{jump_target, condition}
 use Rattle.tms_defs.specs.Shifts.{count_in}
 use Rattle.tms_defs.specs.Step.{with_word, with_words, next_word, index_of, operand, value_at, with_value, with_flags}
-use Rattle.tms_defs.specs.Step.{stored, kept_in, vector_at, kept_of, two, in_row, values_at, with_division, reg}
+use Rattle.tms_defs.specs.Step.{stored, kept_in, vector_at, kept_of, two, two_words_from, values_at, with_division, reg}
 use Rattle.tms_defs.specs.Step.{count_of, shift, one, jump_where, immediate, imm, bare, executed, executed_where}
 use Rattle.tms_defs.specs.Step.{execution, is_unsupported}
 use Rattle.console_defs.specs.Memory.{Memory, console, Port, VdpDataRead, VdpStatusRead, VdpDataWrite, VdpAddressWrite, GromDataRead, GromAddressRead}
-use Rattle.console_defs.specs.Memory.{GromDataWrite, GromAddressWrite, Region, region, word_read_in, word_read, word_written_in, byte_read_in}
+use Rattle.console_defs.proofs.MemoryLaws.{word_read_in, word_written_in, read_is_by_region, write_is_by_region}
+use Rattle.console_defs.specs.Memory.{GromDataWrite, GromAddressWrite, Region, region, word_read, byte_read_in}
 use Rattle.console_defs.specs.Memory.{byte_written_in, port_read, port_written}
 use Rattle.sim_view.specs.View.{View, Registers, listed, relisted}
 use Rattle.interp_defs.specs.Interpreter.{HoldsInterpreter}
@@ -292,11 +293,15 @@ SimTriple ox oy = Sim carry_triple (λ (p : ℕ × ℕ × Cpu View). p.2.memory)
 
 module _ (y : Cpu View) (m : Memory) (h : Shows m y.memory) where
   at_word : (a : ℕ) → SimNum (word_read m a) (word_on (spot (even a)) y.memory)
-  at_word a = word_on_sim m y.memory h (spot (even a)) (region (even a)) (even a) (agrees (even a))
+  at_word a =
+      subst (λ found. SimNum found (word_on (spot (even a)) y.memory)) (sym (read_is_by_region m a))
+      (word_on_sim m y.memory h (spot (even a)) (region (even a)) (even a) (agrees (even a)))
 
   to_word : (a w : ℕ) → SimCpu (with_word Memory console (carry m y) a w) (with_word View shown y a w)
   to_word a w =
-      sim_then _ _ _ _ (with_word_sim m y.memory h (spot (even a)) (region (even a)) (even a) w (agrees (even a)))
+      sim_then _ _ _ _
+      (subst (λ left. Sim (λ m v. m) (λ (v : View). v) left (with_word_on (spot (even a)) y.memory w)) (sym (write_is_by_region m a w))
+      (with_word_sim m y.memory h (spot (even a)) (region (even a)) (even a) w (agrees (even a))))
       (λ v n k. sim_gives n (record y { memory = v }) k)
 
   at_pc : SimPair (next_word Memory console (carry m y)) (next_word View shown y)
@@ -358,7 +363,7 @@ module _ (y : Cpu View) (m : Memory) (h : Shows m y.memory) where
   do_values a b = num_then _ _ _ _ (at_word y m h a) (λ w. num_then _ _ _ _ (at_word y m h b) (λ p. num_gives (w, p)))
 
   do_division : (o : Option (ℕ × ℕ)) (a : ℕ) → SimCpu (with_division Memory console o a (carry m y)) (with_division View shown o a y)
-  do_division (Some q) a = to_words y m h (in_row a q)
+  do_division (Some q) a = to_words y m h (two_words_from a q)
   do_division None a = sim_gives m y h
 
   do_one : (o : OneOp) (a : ℕ) → SimCpu (one Memory console o a (carry m y)) (one View shown o a y)
@@ -386,7 +391,7 @@ module _ (y : Cpu View) (m : Memory) (h : Shows m y.memory) where
       sim_num _ _ _ _ (do_vector (0x0040 + 4 * n)) (λ v. sim_then _ _ _ _ (to_words y m h (kept_in v.0 y ++ ((register_in v.0 11, s) ∷ [])))
       (λ z n1 k. sim_gives n1 (record z { wp = v.0; pc = v.1; status = with_extension z.status }) k))
   do_reg MPY n s =
-      sim_num _ _ _ _ (do_values s (register n y)) (λ v. to_words y m h (in_row (register n y) (product_of v.1 v.0)))
+      sim_num _ _ _ _ (do_values s (register n y)) (λ v. to_words y m h (two_words_from (register n y) (product_of v.1 v.0)))
   do_reg DIV n s =
       sim_num _ _ _ _ (do_values s (register n y)) (λ v. sim_num _ _ _ _ (at_word y m h (plus (register n y) 2))
       (λ l. sim_then _ _ _ _ (do_division (division_of v.1 l v.0) (register n y))

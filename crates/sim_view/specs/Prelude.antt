@@ -24,7 +24,7 @@ pub use Rattle.tms_defs.specs.declared.status.Status.{Status}
 pub use Rattle.source_defs.specs.Refusals.{◌>>=◌}
 pub use Rattle.gpl_defs.specs.Codes.{operation_at}
 pub use Rattle.gpl_defs.specs.Reading.{address_at, from_at, index_by, length_at, read_by}
-pub use Rattle.gpl_defs.specs.Reading.{source_at, space_at, space_of, target_at, word_at}
+pub use Rattle.gpl_defs.specs.Reading.{source_at, space_of, target_at, word_at}
 unfoldable pub use Rattle.gpl_defs.specs.Reading.{operand_at, reading}
 pub use Rattle.gpl_defs.specs.declared.instruction.ByteOp.{ByteOp}
 pub use Rattle.gpl_defs.specs.declared.instruction.ByteOp.TheVariants.{ALL, BACK, RAND}
@@ -62,10 +62,10 @@ pub use Rattle.gpl_step_defs.specs.Copy.{Moving, next_from, next_to, origin_of, 
 pub use Rattle.gpl_step_defs.specs.Copy.{with_byte_to, within_limit}
 pub use Rattle.gpl_step_defs.specs.Flow.{branched, cells_at, drawn, grown_by, is_taken, next_seed, on_stack}
 pub use Rattle.gpl_step_defs.specs.Flow.{with_byte_from, with_word}
-pub use Rattle.gpl_step_defs.specs.Place.{behind, byte_at, byte_in, double_at, indexed, is_visible, Place, place_of}
+pub use Rattle.gpl_step_defs.specs.Place.{further, byte_at, byte_in, double_at, indexed, is_visible, Place, place_of}
 pub use Rattle.gpl_step_defs.specs.Place.{pointed, ranged, value_at}
 pub use Rattle.gpl_step_defs.specs.Reasons.{number_of}
-pub use Rattle.gpl_step_defs.specs.Run.{bound, bound_at, bound_by, bytes_or_none, GplRun, one_more, run, with_stop}
+pub use Rattle.gpl_step_defs.specs.Run.{bound, bound_at, bound_by, bytes_or_none, GplRun, one_more, run, turns_made}
 pub use Rattle.gpl_step_defs.specs.State.{GplState, start}
 unfoldable pub use Rattle.gpl_step_defs.specs.State.{zeros}
 pub use Rattle.gpl_step_defs.specs.Step.{destination_size, executed, jump, one, plain, source_of, step, with_immediate}

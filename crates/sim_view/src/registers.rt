@@ -7,7 +7,6 @@ ghost use Rattle.sim_view.specs.View.{view, listed};
 use tms_step::Machine;
 
 /// The register with a number below 16, where the workspace is the interpreter's.
-#[tactic(auto, using(crate::proofs::Bridge::register_is))]
 pub fn register(machine: &Machine, number: u8) -> u16
     requires number { number < 16 }
     requires workspace { machine.now.cpu.wp ≡ WORKSPACE }

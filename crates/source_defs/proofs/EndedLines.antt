@@ -15,15 +15,15 @@ both_of false b h = (refl, h)
 both_of true b h = cc h
 
 -- the first line feed is the one that ends the line
-feeds_behind : (text rest : List ℕ) (at : ℕ) → IsOneLine text
+feeds_after : (text rest : List ℕ) (at : ℕ) → IsOneLine text
     → line_feeds_from at (text ++ 13 ∷ 10 ∷ rest) ≡ (at + length text + 1) ∷ line_feeds_from (at + length text + 2) rest
-feeds_behind [] rest at one =
+feeds_after [] rest at one =
     let here : at + 0 + 1 ≡ at + 1 = omega arith in
     let next : at + 0 + 2 ≡ at + 1 + 1 = omega arith in
     rw (here, next) refl
-feeds_behind (byte ∷ bytes) rest at one =
+feeds_after (byte ∷ bytes) rest at one =
     let found = both_of (is_line_feed byte) _ one in
-    let ih = feeds_behind bytes rest (at + 1) found.1 in
+    let ih = feeds_after bytes rest (at + 1) found.1 in
     let here : at + length (byte ∷ bytes) + 1 ≡ at + 1 + length bytes + 1 = omega arith in
     let next : at + length (byte ∷ bytes) + 2 ≡ at + 1 + length bytes + 2 = omega arith in
     rw (found.0, ih, here, next) refl
@@ -44,9 +44,9 @@ lines_step text rest whole number at one lt =
     subst (λ k. lines_from whole number at (text ++ 13 ∷ 10 ∷ rest)
     ≡ record { number = number; span = without_return whole (at, at + length text + 1) } ∷ lines_from whole (number + 1) k rest) next
     (step_to text rest whole number at (at + length text + 1) inside
-    (feeds_behind text rest at one ∙ ap (λ k. (at + length text + 1) ∷ line_feeds_from k rest) (sym next)))
+    (feeds_after text rest at one ∙ ap (λ k. (at + length text + 1) ∷ line_feeds_from k rest) (sym next)))
 
--- the text behind a front, and its first line
+-- the text after a front, and its first line
 module _ (front text rest : List ℕ) where
   abbrev whole : List ℕ
   whole = front ++ (text ++ 13 ∷ 10 ∷ rest)
@@ -88,16 +88,16 @@ none_left front number =
     let no : nat_lt (length front) (length (front ++ [])) ≡ false = grind (arith, nat_tests) in
     rw no refl
 
-lines_behind : (texts : List (List ℕ)) (front : List ℕ) (number : ℕ) → AllByRecursion IsOneLine texts
+lines_after : (texts : List (List ℕ)) (front : List ℕ) (number : ℕ) → AllByRecursion IsOneLine texts
     → lines_at (front ++ text_of texts) number (length front) (text_of texts) ≡ numbered number texts
-lines_behind [] front number all = none_left front number
-lines_behind (text ∷ texts) front number all =
+lines_after [] front number all = none_left front number
+lines_after (text ∷ texts) front number all =
     let rest : List ℕ = text_of texts in
     let ended : List ℕ = text ++ 13 ∷ 10 ∷ [] in
     let body : text_of (text ∷ texts) ≡ text ++ 13 ∷ 10 ∷ rest = append_assoc text (13 ∷ 10 ∷ []) rest in
     let same : (front ++ ended) ++ rest ≡ whole front text rest = append_assoc front ended rest ∙ ap (λ xs. front ++ xs) body in
     let size : length (front ++ ended) ≡ length front + length text + 2 = omega (arith, length-append front ended, length-append text (13 ∷ 10 ∷ [])) in
-    let ih = lines_behind texts (front ++ ended) (number + 1) all.1 in
+    let ih = lines_after texts (front ++ ended) (number + 1) all.1 in
     let others : lines_at (whole front text rest) (number + 1) (length front + length text + 2) rest ≡ numbered (number + 1) texts =
     subst (λ at. lines_at (whole front text rest) (number + 1) at rest ≡ numbered (number + 1) texts) size
     (subst (λ xs. lines_at xs (number + 1) (length (front ++ ended)) rest ≡ numbered (number + 1) texts) same ih) in
@@ -105,4 +105,4 @@ lines_behind (text ∷ texts) front number all =
     (one_more front text rest number all.0 ∙ ap (λ found. (number, text) ∷ found) others)
 
 pub texts_have_their_lines : TextsHaveTheirLines
-texts_have_their_lines texts all = lines_behind texts [] 1 all
+texts_have_their_lines texts all = lines_after texts [] 1 all

@@ -11,7 +11,7 @@ use Rattle.source_defs.specs.declared.text.Span.{Span}
 use Rattle.source_defs.specs.declared.text.Line.{Line}
 use Rattle.source_defs.specs.Characters.{is_line_feed, is_carriage_return}
 use Rattle.source_defs.specs.Least.{IsLeastPlace}
-use Rattle.source_defs.specs.Lines.{LinesLieInside, part, lines_from, lines, feed_place, behind_feed, without_return}
+use Rattle.source_defs.specs.Lines.{LinesLieInside, part, lines_from, lines, feed_place, after_feed, without_return}
 use Rattle.source_defs.specs.LineLaw.{ending, IsLine, LinesAreLines}
 use Rattle.source_defs.proofs.LeastLaws.{least_places_are_least}
 use Rattle.source_defs.proofs.LineSteps.{lines_from_step, lines_from_end}
@@ -112,7 +112,7 @@ line_gives false c d text number at feed e f g least lt =
     let past : length text ≤ feed = grind (arith, nat_tests) in line_at_end text number at feed least lt past
 
 first_gives : (text : List ℕ) (number at : ℕ) → at < length text
-    → LineGives text at (record { number = number; span = without_return text (at, feed_place text at) }) (behind_feed text (feed_place text at))
+    → LineGives text at (record { number = number; span = without_return text (at, feed_place text at) }) (after_feed text (feed_place text at))
 first_gives text number at lt =
     line_gives _ _ _ text number at (feed_place text at) refl refl refl (least_places_are_least _ text at (omega arith)) lt
 
@@ -128,7 +128,7 @@ found_none text number at e =
     rw (lines_from_end text number at e) (record { joined = sym none; each = tt; numbered = refl })
 
 found_more : (text : List ℕ) (number at : ℕ) → at < length text
-    → Found text (number + 1) (behind_feed text (feed_place text at)) (lines_from text (number + 1) (behind_feed text (feed_place text at)) (drop (behind_feed text (feed_place text at)) text))
+    → Found text (number + 1) (after_feed text (feed_place text at)) (lines_from text (number + 1) (after_feed text (feed_place text at)) (drop (after_feed text (feed_place text at)) text))
     → Found text number at (lines_from text number at (drop at text))
 found_more text number at lt rest =
     let first = first_gives text number at lt in
@@ -152,7 +152,7 @@ found_by_test : (b : Bool) (text : List ℕ) (number at : ℕ) → nat_lt at (le
 found_by_test true text number at e le rest =
     let lt : at < length text = ltb-true _ _ e in
     let bounds = after_bounds _ text at (feed_place text at) refl (least_places_are_least _ text at le) lt in
-    found_more text number at lt (rest (number + 1) (behind_feed text (feed_place text at)) bounds.0 bounds.1)
+    found_more text number at lt (rest (number + 1) (after_feed text (feed_place text at)) bounds.0 bounds.1)
 found_by_test false text number at e le rest =
     let past : length text ≤ at = grind (arith, nat_tests) in found_none text number at (omega arith)
 

@@ -7,7 +7,7 @@ use Rattle.std.proofs.lemmas.Grind.{common_steps}
 use Rattle.source_defs.specs.Least.{least_place}
 use Rattle.source_defs.proofs.LeastLaws.{least_place_step, least_place_end, least_place-le}
 use Rattle.source_defs.specs.Characters.{is_line_feed}
-use Rattle.source_defs.specs.Lines.{line_feeds_from, without_return, lines_from, feed_place, behind_feed}
+use Rattle.source_defs.specs.Lines.{line_feeds_from, without_return, lines_from, feed_place, after_feed}
 
 past : (text : List ℕ) (at : ℕ) → length text ≤ at → drop at text ≡ []
 past text at h = grind (arith, common_steps)
@@ -54,7 +54,7 @@ step_by false text number at end test lt le feeds =
     let rest = lines_from_end text (number + 1) end e in
     rw (feeds, inside, rest, e) refl
 
-pub lines_from_step : (text : List ℕ) (number at : ℕ) → at < length text → lines_from text number at (drop at text) ≡ record { number = number; span = without_return text (at, feed_place text at) } ∷ lines_from text (number + 1) (behind_feed text (feed_place text at)) (drop (behind_feed text (feed_place text at)) text)
+pub lines_from_step : (text : List ℕ) (number at : ℕ) → at < length text → lines_from text number at (drop at text) ≡ record { number = number; span = without_return text (at, feed_place text at) } ∷ lines_from text (number + 1) (after_feed text (feed_place text at)) (drop (after_feed text (feed_place text at)) text)
 lines_from_step text number at lt =
     step_by _ text number at (feed_place text at) refl lt (least_place-le _ text at (omega arith)) (feeds_at (length text - at) text at (omega arith))
 

@@ -43,7 +43,7 @@ unfolding operands_from
 step_by true field at comma e = rw e refl
 step_by false field at comma e = rw e refl
 
--- the operand at a place goes up to the next comma or the field's end, and others follow behind a comma alone
+-- the operand at a place goes up to the next comma or the field's end, and others follow after a comma alone
 pub operands_from_step : (field : List ℕ) (at : ℕ) → at ≤ length field
     → operands_from field at
     ≡ record { start = at; end = cond (nat_lt (comma_place field at) (length field)) (comma_place field at) (length field) } ∷ cond (nat_lt (comma_place field at) (length field)) (operands_from field (comma_place field at + 1)) []

@@ -1,5 +1,6 @@
--- Bytes and words as hexadecimal digits, in upper case.
-use Rattle.std.specs.Prelude.{ℕ, ◌/◌, ◌%◌, List, [], ◌∷◌}
+-- Bytes and words as hexadecimal digits, in upper case, and numbers as decimal ones.
+use Rattle.std.specs.Prelude.{ℕ, ◌-◌, ◌/◌, ◌%◌, List, [], ◌∷◌, ◌++◌, length, replicate}
+use Rattle.std.specs.Fmt.{decimal}
 use Rattle.source_defs.specs.Numbers.{hexadecimal_digit}
 
 -- a byte by two digits
@@ -18,3 +19,7 @@ hex_word word = 0x3E ∷ word_digits word
 
 abbrev pub hex_byte : ℕ → List ℕ
 hex_byte byte = 0x3E ∷ byte_digits byte
+
+-- a number right in so many columns; one with more digits has as many columns as digits
+unfoldable pub right_in : ℕ → ℕ → List ℕ
+right_in columns number = replicate (columns - length (decimal number)) 0x20 ++ decimal number

@@ -28,8 +28,8 @@ abbrev pub feed_place : List ℕ → ℕ → ℕ
 feed_place text from = least_place (λ k. is_line_feed (slice_index text k)) text from
 
 -- the place where the next line begins, after a line that goes up to a line feed or the text's end
-abbrev pub behind_feed : List ℕ → ℕ → ℕ
-behind_feed text feed = if nat_lt feed (length text) then feed + 1 else feed
+abbrev pub after_feed : List ℕ → ℕ → ℕ
+after_feed text feed = if nat_lt feed (length text) then feed + 1 else feed
 
 -- the places of the line feeds among bytes of which the first stands at a place
 abbrev pub line_feeds_from : ℕ → List ℕ → List ℕ
@@ -60,7 +60,7 @@ lines_from text number at bytes =
     let bounds = bounds_between at (line_feeds_from at bytes) (length text) in
     numbered_from number (map (without_return text) (filter (λ bounds. nat_lt bounds.0 (length text)) bounds))
 
--- the lines of a text
+-- the lines of a text, from its first byte on; the first has the number 1
 abbrev pub lines : List ℕ → List Line
 lines text = lines_from text 1 0 text
 

@@ -13,7 +13,7 @@ use report_lines::{Line, append, append_count, append_word};
 pub(crate) fn change_text(part: Part, end: usize, at: usize, byte: u8, count: usize) -> Line
     requires at { at < spec.size_of part }
     requires count { count ≤ 16384 }
-    ensures text { result.items ≡ spec.change_text part end (record { at = at; byte = byte; count = count }) }
+    ensures text { result.items ≡ spec.change_text (spec.place_text part) end (record { at = at; byte = byte; count = count }) }
     ensures size { array_vec_len result ≤ 16 }
 {
     let mut line = Line::new();

@@ -24,7 +24,7 @@ fn refuses_a_line(alloc: Global) -> bool {
     if builder.line(b" DATA Q").is_err() || builder.is_ended() || builder.taken() != 1 {
         return false;
     }
-    if builder.line(b" FOO") != Err(UNKNOWN_OPERATION) || builder.taken() != 1 {
+    if builder.line(b" FOO").err() != Some(UNKNOWN_OPERATION) || builder.taken() != 1 {
         return false;
     }
     match builder.finish() {

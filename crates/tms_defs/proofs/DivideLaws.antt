@@ -1,5 +1,5 @@
 -- There is a quotient exactly where the divisor is above the high word.
-use Rattle.std.proofs.Common.{◌≡◌, ℕ, ◌/◌, ◌<◌, ◌≤◌, Bool, true, false, refl, sym, ap, arith, ◌∙◌, Option, Some, None}
+use Rattle.std.proofs.Common.{◌≡◌, ℕ, ◌/◌, ◌<◌, ◌≤◌, Bool, true, false, refl, sym, ap, arith, ◌∙◌, Some, None}
 use Rattle.std.specs.Prelude.{nat_lt, is_some, ◌&&◌, if◌then◌else◌}
 use Rattle.std.proofs.Math.Nat.{div-lt_iff_lt-mul}
 use Rattle.std.proofs.lemmas.Nat.{le-div}

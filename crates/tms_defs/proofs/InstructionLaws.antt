@@ -25,7 +25,7 @@ use Rattle.tms_defs.specs.declared.instruction.Operation.{Operation}
 use Rattle.tms_defs.specs.declared.instruction.Operation.TheVariants.{Two, Reg, Shift, One, Jump, Imm, Bare}
 use Rattle.tms_defs.specs.declared.instruction.Instr.{Instr}
 use Rattle.tms_defs.specs.declared.instruction.Instr.TheVariants as instr
-use Rattle.tms_defs.specs.Instructions.{imm_code, bare_code}
+use Rattle.tms_defs.specs.Instructions.{imm_row, bare_row}
 use Rattle.tms_defs.specs.Instructions.{code_of, mask_of, operations, first_row, operation_at, operands_at}
 use Rattle.tms_defs.specs.Instructions.{instr_at, operation_of, operands_word, word_of, HasRoom, HasSignedByte}
 
@@ -239,8 +239,8 @@ operation_at-between word lt after_ones after_shifts = operation_at-none word (o
     none operation code = let place = has_code-place operation word code in omega arith
 
 -- a word of the two small forms' places that has no code of theirs belongs to no row
-pub operation_at-control : (word : ℕ) → 0x0200 ≤ word → word < 0x0400 → ((op : ImmOp) → imm_code op ≢ word / 16 * 16) →
-    ((op : BareOp) → bare_code op ≢ word) → operation_at word ≡ None
+pub operation_at-control : (word : ℕ) → 0x0200 ≤ word → word < 0x0400 → ((op : ImmOp) → (imm_row op).code ≢ word / 16 * 16) →
+    ((op : BareOp) → (bare_row op).code ≢ word) → operation_at word ≡ None
 operation_at-control word from below no_imm no_bare = operation_at-none word (omega arith) none
   where
     none : (operation : Operation) → HasCode operation word → ⊥

@@ -1,7 +1,6 @@
 -- The instruction table.
 use Rattle.std.specs.Prelude.{ℕ, ◌+◌, ◌*◌, ◌/◌, ◌%◌, ◌<◌, ◌==◌, if◌then◌else◌, Bool, true, false}
-use Rattle.std.specs.Prelude.{bit_and, List, [], ◌∷◌, Option, Some}
-use Rattle.std.specs.Prelude.{None, FitsSigned}
+use Rattle.std.specs.Prelude.{bit_and, codes, List, [], ◌∷◌, ◌++◌, map, Option, Some, None, FitsSigned}
 use Rattle.std.specs.Option.{option_map}
 use Rattle.std.specs.Int.{w8, cast_signed, cast_unsigned}
 use Rattle.tms_defs.specs.declared.instruction.TwoOp.{TwoOp}
@@ -26,107 +25,122 @@ use Rattle.tms_defs.specs.declared.instruction.Place.{Place}
 use Rattle.tms_defs.specs.declared.instruction.Instr.{Instr}
 use Rattle.tms_defs.specs.declared.instruction.Instr.TheVariants as instr
 
--- The code of each operation: its word with 0 in every place of an operand.
+-- A row of the table: the code of an operation, which is its word with 0 in every place of an operand, and its name.
+-- The codes are those of the TMS9900 data manual, in the sections that each family names, and the names those of the
+-- Editor/Assembler manual, "Assembly Language Instructions".
+pub record Row : Type 0 where
+  pub code : ℕ
+  pub name : List ℕ
+
+abbrev pub row : ℕ → List ℕ → Row
+row code name = record { code = code; name = name }
+
 -- TMS9900 data manual, "Dual operand instructions with multiple addressing modes for source and destination operand".
-abbrev pub two_code : TwoOp → Bool → ℕ
-two_code SZC false = 0x4000
-two_code SZC true = 0x5000
-two_code S false = 0x6000
-two_code S true = 0x7000
-two_code C false = 0x8000
-two_code C true = 0x9000
-two_code A false = 0xA000
-two_code A true = 0xB000
-two_code MOV false = 0xC000
-two_code MOV true = 0xD000
-two_code SOC false = 0xE000
-two_code SOC true = 0xF000
+abbrev pub two_row : TwoOp → Bool → Row
+two_row SZC false = row 0x4000 (codes "SZC")
+two_row SZC true = row 0x5000 (codes "SZCB")
+two_row S false = row 0x6000 (codes "S")
+two_row S true = row 0x7000 (codes "SB")
+two_row C false = row 0x8000 (codes "C")
+two_row C true = row 0x9000 (codes "CB")
+two_row A false = row 0xA000 (codes "A")
+two_row A true = row 0xB000 (codes "AB")
+two_row MOV false = row 0xC000 (codes "MOV")
+two_row MOV true = row 0xD000 (codes "MOVB")
+two_row SOC false = row 0xE000 (codes "SOC")
+two_row SOC true = row 0xF000 (codes "SOCB")
 
 -- TMS9900 data manual, "Dual operand instructions with multiple addressing modes for the source operand and workspace
 -- register addressing for the destination", "Extended operation (XOP) instruction", "CRU multiple-bit instructions".
-abbrev pub reg_code : RegOp → ℕ
-reg_code COC = 0x2000
-reg_code CZC = 0x2400
-reg_code XOR = 0x2800
-reg_code XOP = 0x2C00
-reg_code LDCR = 0x3000
-reg_code STCR = 0x3400
-reg_code MPY = 0x3800
-reg_code DIV = 0x3C00
+abbrev pub reg_row : RegOp → Row
+reg_row COC = row 0x2000 (codes "COC")
+reg_row CZC = row 0x2400 (codes "CZC")
+reg_row XOR = row 0x2800 (codes "XOR")
+reg_row XOP = row 0x2C00 (codes "XOP")
+reg_row LDCR = row 0x3000 (codes "LDCR")
+reg_row STCR = row 0x3400 (codes "STCR")
+reg_row MPY = row 0x3800 (codes "MPY")
+reg_row DIV = row 0x3C00 (codes "DIV")
 
 -- TMS9900 data manual, "Shift instructions".
-abbrev pub shift_code : ShiftOp → ℕ
-shift_code SRA = 0x0800
-shift_code SRL = 0x0900
-shift_code SLA = 0x0A00
-shift_code SRC = 0x0B00
+abbrev pub shift_row : ShiftOp → Row
+shift_row SRA = row 0x0800 (codes "SRA")
+shift_row SRL = row 0x0900 (codes "SRL")
+shift_row SLA = row 0x0A00 (codes "SLA")
+shift_row SRC = row 0x0B00 (codes "SRC")
 
 -- TMS9900 data manual, "Single operand instructions".
-abbrev pub one_code : OneOp → ℕ
-one_code BLWP = 0x0400
-one_code B = 0x0440
-one_code X = 0x0480
-one_code CLR = 0x04C0
-one_code NEG = 0x0500
-one_code INV = 0x0540
-one_code INC = 0x0580
-one_code INCT = 0x05C0
-one_code DEC = 0x0600
-one_code DECT = 0x0640
-one_code BL = 0x0680
-one_code SWPB = 0x06C0
-one_code SETO = 0x0700
-one_code ABS = 0x0740
+abbrev pub one_row : OneOp → Row
+one_row BLWP = row 0x0400 (codes "BLWP")
+one_row B = row 0x0440 (codes "B")
+one_row X = row 0x0480 (codes "X")
+one_row CLR = row 0x04C0 (codes "CLR")
+one_row NEG = row 0x0500 (codes "NEG")
+one_row INV = row 0x0540 (codes "INV")
+one_row INC = row 0x0580 (codes "INC")
+one_row INCT = row 0x05C0 (codes "INCT")
+one_row DEC = row 0x0600 (codes "DEC")
+one_row DECT = row 0x0640 (codes "DECT")
+one_row BL = row 0x0680 (codes "BL")
+one_row SWPB = row 0x06C0 (codes "SWPB")
+one_row SETO = row 0x0700 (codes "SETO")
+one_row ABS = row 0x0740 (codes "ABS")
 
 -- TMS9900 data manual, "Jump instructions", "CRU single-bit instructions".
-abbrev pub jump_code : JumpOp → ℕ
-jump_code JMP = 0x1000
-jump_code JLT = 0x1100
-jump_code JLE = 0x1200
-jump_code JEQ = 0x1300
-jump_code JHE = 0x1400
-jump_code JGT = 0x1500
-jump_code JNE = 0x1600
-jump_code JNC = 0x1700
-jump_code JOC = 0x1800
-jump_code JNO = 0x1900
-jump_code JL = 0x1A00
-jump_code JH = 0x1B00
-jump_code JOP = 0x1C00
-jump_code SBO = 0x1D00
-jump_code SBZ = 0x1E00
-jump_code TB = 0x1F00
+abbrev pub jump_row : JumpOp → Row
+jump_row JMP = row 0x1000 (codes "JMP")
+jump_row JLT = row 0x1100 (codes "JLT")
+jump_row JLE = row 0x1200 (codes "JLE")
+jump_row JEQ = row 0x1300 (codes "JEQ")
+jump_row JHE = row 0x1400 (codes "JHE")
+jump_row JGT = row 0x1500 (codes "JGT")
+jump_row JNE = row 0x1600 (codes "JNE")
+jump_row JNC = row 0x1700 (codes "JNC")
+jump_row JOC = row 0x1800 (codes "JOC")
+jump_row JNO = row 0x1900 (codes "JNO")
+jump_row JL = row 0x1A00 (codes "JL")
+jump_row JH = row 0x1B00 (codes "JH")
+jump_row JOP = row 0x1C00 (codes "JOP")
+jump_row SBO = row 0x1D00 (codes "SBO")
+jump_row SBZ = row 0x1E00 (codes "SBZ")
+jump_row TB = row 0x1F00 (codes "TB")
 
 -- TMS9900 data manual, "Immediate register instructions", "Internal register store instructions".
-abbrev pub imm_code : ImmOp → ℕ
-imm_code LI = 0x0200
-imm_code AI = 0x0220
-imm_code ANDI = 0x0240
-imm_code ORI = 0x0260
-imm_code CI = 0x0280
-imm_code STWP = 0x02A0
-imm_code STST = 0x02C0
+abbrev pub imm_row : ImmOp → Row
+imm_row LI = row 0x0200 (codes "LI")
+imm_row AI = row 0x0220 (codes "AI")
+imm_row ANDI = row 0x0240 (codes "ANDI")
+imm_row ORI = row 0x0260 (codes "ORI")
+imm_row CI = row 0x0280 (codes "CI")
+imm_row STWP = row 0x02A0 (codes "STWP")
+imm_row STST = row 0x02C0 (codes "STST")
 
 -- TMS9900 data manual, "Internal register load immediate instructions", "Return workspace pointer (RTWP)
 -- instruction", "External instructions".
-abbrev pub bare_code : BareOp → ℕ
-bare_code LWPI = 0x02E0
-bare_code LIMI = 0x0300
-bare_code IDLE = 0x0340
-bare_code RSET = 0x0360
-bare_code RTWP = 0x0380
-bare_code CKON = 0x03A0
-bare_code CKOF = 0x03C0
-bare_code LREX = 0x03E0
+abbrev pub bare_row : BareOp → Row
+bare_row LWPI = row 0x02E0 (codes "LWPI")
+bare_row LIMI = row 0x0300 (codes "LIMI")
+bare_row IDLE = row 0x0340 (codes "IDLE")
+bare_row RSET = row 0x0360 (codes "RSET")
+bare_row RTWP = row 0x0380 (codes "RTWP")
+bare_row CKON = row 0x03A0 (codes "CKON")
+bare_row CKOF = row 0x03C0 (codes "CKOF")
+bare_row LREX = row 0x03E0 (codes "LREX")
+
+abbrev pub row_of : Operation → Row
+row_of (Two op byte) = two_row op byte
+row_of (Reg op) = reg_row op
+row_of (Shift op) = shift_row op
+row_of (One op) = one_row op
+row_of (Jump op) = jump_row op
+row_of (Imm op) = imm_row op
+row_of (Bare op) = bare_row op
 
 abbrev pub code_of : Operation → ℕ
-code_of (Two op byte) = two_code op byte
-code_of (Reg op) = reg_code op
-code_of (Shift op) = shift_code op
-code_of (One op) = one_code op
-code_of (Jump op) = jump_code op
-code_of (Imm op) = imm_code op
-code_of (Bare op) = bare_code op
+code_of operation = (row_of operation).code
+
+abbrev pub name_of : Operation → List ℕ
+name_of operation = (row_of operation).name
 
 -- The bits that the code fixes, by form. TMS9900 data manual, "Instructions", the formats.
 -- Profile: where a form leaves places of its word unused, as below the register of LI, these are fixed too, as 0.
@@ -139,79 +153,38 @@ mask_of (Jump op) = 0xFF00
 mask_of (Imm op) = 0xFFF0
 mask_of (Bare op) = 0xFFFF
 
--- The rows of the table, by form. TMS9900 data manual, "Instructions".
+abbrev pub two_operations : List TwoOp
+two_operations = SZC ∷ S ∷ C ∷ A ∷ MOV ∷ SOC ∷ []
+
+abbrev pub reg_operations : List RegOp
+reg_operations = COC ∷ CZC ∷ XOR ∷ XOP ∷ LDCR ∷ STCR ∷ MPY ∷ DIV ∷ []
+
+abbrev pub shift_operations : List ShiftOp
+shift_operations = SRA ∷ SRL ∷ SLA ∷ SRC ∷ []
+
+abbrev pub one_operations : List OneOp
+one_operations = BLWP ∷ B ∷ X ∷ CLR ∷ NEG ∷ INV ∷ INC ∷ INCT ∷ DEC ∷ DECT ∷ BL ∷ SWPB ∷ SETO ∷ ABS ∷ []
+
+abbrev pub jump_operations : List JumpOp
+jump_operations =
+    JMP ∷ JLT ∷ JLE ∷ JEQ ∷ JHE ∷ JGT ∷ JNE ∷ JNC ∷ JOC ∷ JNO ∷ JL ∷ JH ∷ JOP ∷ SBO ∷ SBZ ∷ TB ∷ []
+
+abbrev pub imm_operations : List ImmOp
+imm_operations = LI ∷ AI ∷ ANDI ∷ ORI ∷ CI ∷ STWP ∷ STST ∷ []
+
+abbrev pub bare_operations : List BareOp
+bare_operations = LWPI ∷ LIMI ∷ IDLE ∷ RSET ∷ RTWP ∷ CKON ∷ CKOF ∷ LREX ∷ []
+
+-- The rows of the table, by form: those of two operands for words and for bytes.
+-- TMS9900 data manual, "Instructions".
 abbrev pub operations : List Operation
 operations =
-    Two SZC false
-    ∷ Two SZC true
-    ∷ Two S false
-    ∷ Two S true
-    ∷ Two C false
-    ∷ Two C true
-    ∷ Two A false
-    ∷ Two A true
-    ∷ Two MOV false
-    ∷ Two MOV true
-    ∷ Two SOC false
-    ∷ Two SOC true
-    ∷ Reg COC
-    ∷ Reg CZC
-    ∷ Reg XOR
-    ∷ Reg XOP
-    ∷ Reg LDCR
-    ∷ Reg STCR
-    ∷ Reg MPY
-    ∷ Reg DIV
-    ∷ Shift SRA
-    ∷ Shift SRL
-    ∷ Shift SLA
-    ∷ Shift SRC
-    ∷ One BLWP
-    ∷ One B
-    ∷ One X
-    ∷ One CLR
-    ∷ One NEG
-    ∷ One INV
-    ∷ One INC
-    ∷ One INCT
-    ∷ One DEC
-    ∷ One DECT
-    ∷ One BL
-    ∷ One SWPB
-    ∷ One SETO
-    ∷ One ABS
-    ∷ Jump JMP
-    ∷ Jump JLT
-    ∷ Jump JLE
-    ∷ Jump JEQ
-    ∷ Jump JHE
-    ∷ Jump JGT
-    ∷ Jump JNE
-    ∷ Jump JNC
-    ∷ Jump JOC
-    ∷ Jump JNO
-    ∷ Jump JL
-    ∷ Jump JH
-    ∷ Jump JOP
-    ∷ Jump SBO
-    ∷ Jump SBZ
-    ∷ Jump TB
-    ∷ Imm LI
-    ∷ Imm AI
-    ∷ Imm ANDI
-    ∷ Imm ORI
-    ∷ Imm CI
-    ∷ Imm STWP
-    ∷ Imm STST
-    ∷ Bare LWPI
-    ∷ Bare LIMI
-    ∷ Bare IDLE
-    ∷ Bare RSET
-    ∷ Bare RTWP
-    ∷ Bare CKON
-    ∷ Bare CKOF
-    ∷ Bare LREX
-    ∷ []
+    map (λ op. Two op false) two_operations
+    ++ (map (λ op. Two op true) two_operations
+    ++ (map Reg reg_operations
+    ++ (map Shift shift_operations
+    ++ (map One one_operations
+    ++ (map Jump jump_operations ++ (map Imm imm_operations ++ map Bare bare_operations))))))
 
 -- A word belongs to the row whose mask leaves the row's code.
 abbrev pub first_row : List Operation → ℕ → Option Operation
@@ -275,13 +248,8 @@ HasRoom (instr.Bare op) = Unit {0}
 
 -- A displacement is a signed byte, as its type says.
 abbrev pub HasSignedByte : Instr → Type 0
-HasSignedByte (instr.Two op byte dst src) = Unit {0}
-HasSignedByte (instr.Reg op d src) = Unit {0}
-HasSignedByte (instr.Shift op count w) = Unit {0}
-HasSignedByte (instr.One op at) = Unit {0}
 HasSignedByte (instr.Jump op disp) = FitsSigned w8 disp
-HasSignedByte (instr.Imm op w) = Unit {0}
-HasSignedByte (instr.Bare op) = Unit {0}
+HasSignedByte _ = Unit {0}
 
 -- The operands of an instruction in their places of its word.
 abbrev pub operands_word : Instr → ℕ

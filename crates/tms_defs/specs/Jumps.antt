@@ -5,7 +5,7 @@ use Rattle.tms_defs.specs.Words.{plus}
 use Rattle.tms_defs.specs.declared.status.Status.{Status}
 use Rattle.tms_defs.specs.declared.instruction.JumpOp.{JumpOp}
 use Rattle.tms_defs.specs.declared.instruction.JumpOp.TheVariants.{JMP, JLT, JLE, JEQ, JHE, JGT, JNE, JNC, JOC, JNO}
-use Rattle.tms_defs.specs.declared.instruction.JumpOp.TheVariants.{JL, JH, JOP, SBO, SBZ, TB}
+use Rattle.tms_defs.specs.declared.instruction.JumpOp.TheVariants.{JL, JH, JOP}
 
 -- Jumps count words from the next instruction. TMS9900 data manual, "Jump instructions".
 abbrev pub jump_target : ℕ → ℤ → ℕ
@@ -27,6 +27,4 @@ condition JNO status = Some (not status.flags.ov)
 condition JL status = Some (not status.flags.lgt && not status.flags.eq)
 condition JH status = Some (status.flags.lgt && not status.flags.eq)
 condition JOP status = Some status.op
-condition SBO status = None
-condition SBZ status = None
-condition TB status = None
+condition _ status = None

@@ -36,9 +36,9 @@ use Rattle.tms_defs.specs.declared.instruction.Instr.TheVariants.{Two, Reg, Shif
 use Rattle.tms_defs.specs.declared.step_end.StepEnd.{StepEnd}
 use Rattle.tms_defs.specs.declared.step_end.StepEnd.TheVariants.{Done, Refused, Port}
 
--- Two words, to an address and after it.
-abbrev pub in_row : ℕ → ℕ × ℕ → List (ℕ × ℕ)
-in_row address (first, second) = (address, first) ∷ (plus address 2, second) ∷ []
+-- Two words and their addresses: one at an address, and one after it.
+abbrev pub two_words_from : ℕ → ℕ × ℕ → List (ℕ × ℕ)
+two_words_from address (first, second) = (address, first) ∷ (plus address 2, second) ∷ []
 
 -- Profile: these operations are not executed: those of the communication register unit, the instructions of external
 -- devices, and the execution of a word elsewhere.
@@ -167,29 +167,28 @@ module _ (M : Type 0) (access : Accesses M) where
     status ← word_at (register 15 x) x
     Gives (wp, pc, status)
 
-  -- Two operands in any mode: an operation on a source and the destination at an address.
+  -- Two operands in any mode: an operation on a source and the destination at an address, each by the sections of the
+  -- TMS9900 data manual that have its name, for words and for bytes.
   abbrev pub two : TwoOp → Width → ℕ → ℕ → Cpu M → Answer (Cpu M)
-  -- TMS9900 data manual, "Set zeros corresponding", "Set zeros corresponding bytes".
+  -- Set zeros corresponding.
   two SZC width source address x = do
     (found, read) ← value_at width address x
     stored_by_result width address (ones_cleared width found source) read
-  -- Subtract: L>, A>, EQ, C and OV by the difference. TMS9900 data manual, "Subtract words", "Subtract bytes".
+  -- Subtract: L>, A>, EQ, C and OV by the difference.
   two S width source address x = do
     (found, read) ← value_at width address x
     stored width address (difference_of width found source) (difference_flags width found source) read
   -- Compare: the source against the destination, of which neither changes.
-  -- TMS9900 data manual, "Compare words", "Compare bytes".
   two C width source address x = do
     (found, read) ← value_at width address x
     Gives (record read { status = with_order width source found read.status })
-  -- Add: L>, A>, EQ, C and OV by the sum. TMS9900 data manual, "Add words", "Add bytes".
+  -- Add: L>, A>, EQ, C and OV by the sum.
   two A width source address x = do
     (found, read) ← value_at width address x
     stored width address (sum_of width found source) (sum_flags width found source) read
-  -- Move: L>, A> and EQ by the source. TMS9900 data manual, "Move word", "Move byte".
-  -- Profile: the destination is written without being read.
+  -- Move: L>, A> and EQ by the source. Profile: the destination is written without being read.
   two MOV width source address x = stored_by_result width address source x
-  -- TMS9900 data manual, "Set ones corresponding", "Set ones corresponding bytes".
+  -- Set ones corresponding.
   two SOC width source address x = do
     (found, read) ← value_at width address x
     stored_by_result width address (ones_set found source) read
@@ -215,24 +214,25 @@ module _ (M : Type 0) (access : Accesses M) where
   -- A quotient and a remainder, where there are any, go to an address and the word after it.
   -- Profile: in this order; where there are none, nothing is written.
   abbrev pub with_division : Option (ℕ × ℕ) → ℕ → Cpu M → Answer (Cpu M)
-  with_division (Some words) address x = with_words x (in_row address words)
+  with_division (Some words) address x = with_words x (two_words_from address words)
   with_division None address x = Gives x
 
-  -- An operation on a source at an address, and a register or the number of an extended operation.
+  -- An operation on a source at an address, and a register or the number of an extended operation, each by the section
+  -- of the TMS9900 data manual that has its name.
   abbrev pub reg : RegOp → ℕ → ℕ → Cpu M → Answer (Cpu M)
-  -- TMS9900 data manual, "Compare ones corresponding".
+  -- Compare ones corresponding.
   reg COC number source x = do
     (value, found) ← values_at source (register number x) x
     Gives (with_flags x (by_ones found value x.status.flags))
-  -- TMS9900 data manual, "Compare zeros corresponding".
+  -- Compare zeros corresponding.
   reg CZC number source x = do
     (value, found) ← values_at source (register number x) x
     Gives (with_flags x (by_zeros found value x.status.flags))
-  -- TMS9900 data manual, "Exclusive OR".
+  -- Exclusive OR.
   reg XOR number source x = do
     (value, found) ← values_at source (register number x) x
     stored_by_result Word (register number x) (exclusive_or_of found value) x
-  -- TMS9900 data manual, "Extended operation (XOP) instruction": a context switch by the vector of the number; the
+  -- Extended operation: a context switch by the vector of the number; the
   -- source's address goes to register 11 of the new workspace, and X is set.
   -- Profile: the value of the source is not read, an odd address of it is handed on as it is, register 11 is written
   -- last, and the status that is kept is the one before X was set.
@@ -240,20 +240,19 @@ module _ (M : Type 0) (access : Accesses M) where
     (wp, pc) ← vector_at (0x0040 + 4 * number) x
     left ← with_words x (kept_in wp x ++ ((register_in wp 11, source) ∷ []))
     Gives (record left { wp = wp; pc = pc; status = with_extension left.status })
-  -- TMS9900 data manual, "Multiply": the product goes to the register and the word after it; no status bit is set.
+  -- Multiply: the product goes to the register and the word after it; no status bit is set.
   -- Profile: the high word is written before the low one, and the word after register 15 is the one after the workspace.
   reg MPY number source x = do
     (value, found) ← values_at source (register number x) x
-    with_words x (in_row (register number x) (product_of found value))
-  -- TMS9900 data manual, "Divide": the number of the register and of the word after it, divided by the source.
+    with_words x (two_words_from (register number x) (product_of found value))
+  -- Divide: the number of the register and of the word after it, divided by the source.
   -- Profile: both words are read, whatever the source is; the word after register 15 is the one after the workspace.
   reg DIV number source x = do
     (divisor, high) ← values_at source (register number x) x
     low ← word_at (plus (register number x) 2) x
     left ← with_division (division_of high low divisor) (register number x) x
     Gives (with_flags left (by_division high low divisor left.status.flags))
-  reg LDCR number source x = NoInstruction
-  reg STCR number source x = NoInstruction
+  reg _ number source x = NoInstruction  -- never reached: `executed_where` refuses these first
 
   -- TMS9900 data manual, "Dual operand instructions with multiple addressing modes for the source operand and workspace
   -- register addressing for the destination", "Extended operation (XOP) instruction".
@@ -286,7 +285,6 @@ module _ (M : Type 0) (access : Accesses M) where
     Gives (record left { wp = wp; pc = pc })
   -- Branch. Profile: the address itself is taken, its lowest bit cleared, and no value is read.
   one B address x = Gives (record x { pc = even address })
-  one X address x = NoInstruction
   -- Clear: no status bit is set. Profile: the operand is written without being read.
   one CLR address x = with_word x address 0
   -- Negate: L>, A>, EQ, C and OV by its own rule.
@@ -327,6 +325,7 @@ module _ (M : Type 0) (access : Accesses M) where
   one ABS address x = do
     found ← word_at address x
     stored Word address (absolute_of Word found) (absolute_flags Word found) x
+  one _ address x = NoInstruction  -- never reached: `executed_where` refuses these first
 
   abbrev pub one_operand : OneOp → Place → Cpu M → Answer (Cpu M)
   one_operand op at x = do
@@ -387,11 +386,7 @@ module _ (M : Type 0) (access : Accesses M) where
   bare RTWP x = do
     (wp, pc, status) ← kept_of x
     Gives (record x { wp = even wp; pc = even pc; status = status_at status })
-  bare IDLE x = NoInstruction
-  bare RSET x = NoInstruction
-  bare CKON x = NoInstruction
-  bare CKOF x = NoInstruction
-  bare LREX x = NoInstruction
+  bare _ x = NoInstruction  -- never reached: `executed_where` refuses these first
 
   -- An instruction is executed; the program counter stands after its first word.
   -- TMS9900 data manual, "Instructions".

@@ -9,164 +9,108 @@ pub struct Place {
     pub reg: u8,
 }
 
-/// Two operands, each in any mode, as words or bytes.
+/// Two operands, each in any mode, as words or bytes: set zeros corresponding, subtract, compare, add, move, set ones
+/// corresponding.
 #[derive(Clone, Copy, Debug, PartialEq, Eq)]
 pub enum TwoOp {
-    /// Set zeros corresponding.
     SZC,
-    /// Subtract.
     S,
-    /// Compare.
     C,
-    /// Add.
     A,
-    /// Move.
     MOV,
-    /// Set ones corresponding.
     SOC,
 }
 
-/// A source in any mode, and a register, a number of bits or a number of an operation.
+/// A source in any mode, and a register, a number of bits or a number of an operation: compare ones corresponding,
+/// compare zeros corresponding, exclusive or, extended operation, load and store communication register, multiply, divide.
 #[derive(Clone, Copy, Debug, PartialEq, Eq)]
 pub enum RegOp {
-    /// Compare ones corresponding.
     COC,
-    /// Compare zeros corresponding.
     CZC,
-    /// Exclusive or.
     XOR,
-    /// Extended operation.
     XOP,
-    /// Load communication register.
     LDCR,
-    /// Store communication register.
     STCR,
-    /// Multiply.
     MPY,
-    /// Divide.
     DIV,
 }
 
-/// A register that is shifted.
+/// A register that is shifted: right arithmetic, right logical, left arithmetic, right circular.
 #[derive(Clone, Copy, Debug, PartialEq, Eq)]
 pub enum ShiftOp {
-    /// Shift right arithmetic.
     SRA,
-    /// Shift right logical.
     SRL,
-    /// Shift left arithmetic.
     SLA,
-    /// Shift right circular.
     SRC,
 }
 
-/// One operand in any mode.
+/// One operand in any mode: branch and load workspace pointer, branch, execute, clear, negate, invert, increment,
+/// increment by two, decrement, decrement by two, branch and link, swap bytes, set to ones, absolute value.
 #[derive(Clone, Copy, Debug, PartialEq, Eq)]
 pub enum OneOp {
-    /// Branch and load workspace pointer.
     BLWP,
-    /// Branch.
     B,
-    /// Execute.
     X,
-    /// Clear.
     CLR,
-    /// Negate.
     NEG,
-    /// Invert.
     INV,
-    /// Increment.
     INC,
-    /// Increment by two.
     INCT,
-    /// Decrement.
     DEC,
-    /// Decrement by two.
     DECT,
-    /// Branch and link.
     BL,
-    /// Swap bytes.
     SWPB,
-    /// Set to ones.
     SETO,
-    /// Absolute value.
     ABS,
 }
 
-/// A jump, or a bit of the communication register unit.
+/// A jump: always; if less than, low or equal, equal, high or equal, greater than, not equal; if no carry, on carry,
+/// if no overflow; if low, high, on odd parity. Less and greater are of signed numbers. Then the operations on a bit of
+/// the communication register unit: set to one, set to zero, test.
 #[derive(Clone, Copy, Debug, PartialEq, Eq)]
 pub enum JumpOp {
-    /// Jump.
     JMP,
-    /// Jump if less than, as signed numbers.
     JLT,
-    /// Jump if low or equal.
     JLE,
-    /// Jump if equal.
     JEQ,
-    /// Jump if high or equal.
     JHE,
-    /// Jump if greater than, as signed numbers.
     JGT,
-    /// Jump if not equal.
     JNE,
-    /// Jump if no carry.
     JNC,
-    /// Jump on carry.
     JOC,
-    /// Jump if no overflow.
     JNO,
-    /// Jump if low.
     JL,
-    /// Jump if high.
     JH,
-    /// Jump on odd parity.
     JOP,
-    /// Set bit to one.
     SBO,
-    /// Set bit to zero.
     SBZ,
-    /// Test bit.
     TB,
 }
 
-/// A register, most with a word that follows the instruction.
+/// A register, most with a word that follows the instruction: load, add, and, or, compare immediate; store workspace
+/// pointer, store status.
 #[derive(Clone, Copy, Debug, PartialEq, Eq)]
 pub enum ImmOp {
-    /// Load immediate.
     LI,
-    /// Add immediate.
     AI,
-    /// And immediate.
     ANDI,
-    /// Or immediate.
     ORI,
-    /// Compare immediate.
     CI,
-    /// Store workspace pointer.
     STWP,
-    /// Store status.
     STST,
 }
 
-/// No operand but a word that may follow the instruction.
+/// No operand but a word that may follow the instruction: load workspace pointer immediate, load interrupt mask
+/// immediate, idle, reset, return with workspace pointer, clock on, clock off, load or restart.
 #[derive(Clone, Copy, Debug, PartialEq, Eq)]
 pub enum BareOp {
-    /// Load workspace pointer immediate.
     LWPI,
-    /// Load interrupt mask immediate.
     LIMI,
-    /// Idle.
     IDLE,
-    /// Reset.
     RSET,
-    /// Return with workspace pointer.
     RTWP,
-    /// Clock on.
     CKON,
-    /// Clock off.
     CKOF,
-    /// Load or restart.
     LREX,
 }
 

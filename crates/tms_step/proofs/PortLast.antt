@@ -9,13 +9,14 @@ use Rattle.console_defs.specs.Grom.{GromState}
 use Rattle.console_defs.specs.Memory.{Memory, Port, VdpDataRead, VdpStatusRead, VdpDataWrite, VdpAddressWrite}
 use Rattle.console_defs.specs.Memory.{GromDataRead, GromAddressRead, GromDataWrite, GromAddressWrite, Region, Rom}
 use Rattle.console_defs.specs.Memory.{LowExpansion, HighExpansion, Scratchpad, PortOf, Unmapped, region, is_port_region}
-use Rattle.console_defs.specs.Memory.{is_port_address, port_read, byte_read_in, word_read, word_written_in}
+use Rattle.console_defs.specs.Memory.{is_port_address, port_read, byte_read_in, word_read}
 use Rattle.console_defs.specs.Memory.{word_written, console}
 use Rattle.tms_defs.specs.Operand.{Cpu, Mode, Register, Indirect, Symbolic, Increment, mode_of, register}
 use Rattle.tms_defs.specs.Step.{operand, index_of, with_word, two}
 use Rattle.tms_defs.specs.declared.instruction.TwoOp.{TwoOp}
 use Rattle.tms_defs.specs.declared.instruction.Place.{Place}
 use Rattle.console_defs.proofs.MemoryLaws.{with_ports, word_read_past_ports, word_written_past_ports}
+use Rattle.console_defs.proofs.MemoryLaws.{word_written_in, write_is_by_region}
 use Rattle.tms_step.specs.Parts.{from_source, from_port}
 
 -- what a read of a port leaves of the video processor and of the GROMs, and the byte that it gives; the rest of the
@@ -107,7 +108,7 @@ module _ (a : VdpState → VdpState) (b : GromState → GromState)
           before x (((written >>= λ left. Gives (with_ports left (a x.memory.vdp) (b x.memory.grom))) >>= λ memory. Gives (record (moved x) { memory = memory })) >>= λ y. Gives (address, y))
           ≡ after ((written >>= λ memory. Gives (record x { memory = memory })) >>= λ y. Gives (address, y))
       by (Gives left) e =
-          let kept = keeps_in (region (even place)) x.memory left (even place) word e in
+          let kept = keeps_in (region (even place)) x.memory left (even place) word (sym (write_is_by_region x.memory place word) ∙ e) in
           ap (λ (ports : VdpState × GromState). k (address, record x { memory = with_ports left (a ports.0) (b ports.1) }) ports.0 ports.1)
           (λ i. (sym kept.0 i, sym kept.1 i))
       by (AtPort port) e = refl

@@ -10,7 +10,8 @@ use Rattle.tms_defs.specs.Step.{with_word}
 use Rattle.tms_defs.specs.declared.instruction.Place.{Place}
 use Rattle.tms_defs.specs.declared.port_stop.PortStop.{PortStop}
 use Rattle.console_defs.specs.Memory.{Memory, Region, Rom, LowExpansion, HighExpansion, Scratchpad, PortOf, Unmapped}
-use Rattle.console_defs.specs.Memory.{IsMemory, region, word_read_in, word_written_in, word_read, word_written, console}
+use Rattle.console_defs.proofs.MemoryLaws.{word_read_in, word_written_in, read_is_by_region, write_is_by_region}
+use Rattle.console_defs.specs.Memory.{IsMemory, region, word_read, word_written, console}
 use Rattle.tms_step.specs.declared.cpu.Kept.{Kept}
 use Rattle.tms_step.specs.Undo.{taken, put_back, auto_incremented_by, SameButPc}
 
@@ -51,7 +52,9 @@ back_in Unmapped m written address word old is read wrote = ap Gives (sym (given
 pub written_back : (m written : Memory) (address word old : ℕ) → IsMemory m → word_read m address ≡ Gives old →
     word_written m address word ≡ Gives written → word_written written address old ≡ Gives m
 written_back m written address word old is read wrote =
-    back_in (region (even address)) m written (even address) word old is read wrote
+    write_is_by_region written address old
+    ∙ back_in (region (even address)) m written (even address) word old is (sym (read_is_by_region m address) ∙ read)
+    (sym (write_is_by_region m address word) ∙ wrote)
 
 -- What a write of a machine left is undone by the word that was there.
 pub write_over-undone : (x y : Cpu Memory) (address word old : ℕ) → IsMemory x.memory →

@@ -5,8 +5,8 @@
 //! `jump_at` and `operands_at` are inlined into each of their callers, since a call of them takes long beside the
 //! rest of a step; of the other parts the compiler decides.
 ghost use Rattle.std.specs.Prelude.{◌≡◌, ◌≢◌, ◌≤◌, ◌<◌, ◌/◌, ◌%◌, ◌*◌, ◌==◌, IfSome, IfNone};
-ghost use Rattle.tms_defs.specs.Instructions.{two_code, reg_code, shift_code, one_code, jump_code, imm_code};
-ghost use Rattle.tms_defs.specs.Instructions.{bare_code, operation_at, operands_at, source_at, destination_at};
+ghost use Rattle.tms_defs.specs.Instructions.{two_row, reg_row, shift_row, one_row, jump_row, imm_row};
+ghost use Rattle.tms_defs.specs.Instructions.{bare_row, operation_at, operands_at, source_at, destination_at};
 ghost use Rattle.tms_defs.specs.Instructions.{instr_at, word_of, HasRoom};
 
 use tms_defs::{BareOp, ImmOp, Instr, JumpOp, OneOp, Operation, Place, RegOp, ShiftOp, TwoOp};
@@ -64,7 +64,7 @@ fn control_at(word: u16) -> Option<Operation>
 #[inline(always)]
 fn two_at(word: u16) -> TwoOp
     requires { 0x4000 ≤ word }
-    ensures { two_code result (word / 4096 % 2 == 1) ≡ word / 4096 * 4096 }
+    ensures { (two_row result (word / 4096 % 2 == 1)).code ≡ word / 4096 * 4096 }
 {
     match word >> 13 {
         2 => TwoOp::SZC,
@@ -80,7 +80,7 @@ fn two_at(word: u16) -> TwoOp
 /// The operation on a source and a register or number in a word.
 fn reg_at(word: u16) -> RegOp
     requires { (0x2000 ≤ word) × (word < 0x4000) }
-    ensures { reg_code result ≡ word / 1024 * 1024 }
+    ensures { (reg_row result).code ≡ word / 1024 * 1024 }
 {
     match word >> 10 {
         0x08 => RegOp::COC,
@@ -99,7 +99,7 @@ fn reg_at(word: u16) -> RegOp
 #[inline(always)]
 fn jump_at(word: u16) -> JumpOp
     requires { (0x1000 ≤ word) × (word < 0x2000) }
-    ensures { jump_code result ≡ word / 256 * 256 }
+    ensures { (jump_row result).code ≡ word / 256 * 256 }
 {
     match word >> 8 {
         0x10 => JumpOp::JMP,
@@ -125,7 +125,7 @@ fn jump_at(word: u16) -> JumpOp
 /// The shift in a word.
 fn shift_at(word: u16) -> ShiftOp
     requires { (0x0800 ≤ word) × (word < 0x0C00) }
-    ensures { shift_code result ≡ word / 256 * 256 }
+    ensures { (shift_row result).code ≡ word / 256 * 256 }
 {
     match word >> 8 {
         0x08 => ShiftOp::SRA,
@@ -139,7 +139,7 @@ fn shift_at(word: u16) -> ShiftOp
 /// The operation on one operand in a word.
 fn one_at(word: u16) -> OneOp
     requires { (0x0400 ≤ word) × (word < 0x0780) }
-    ensures { one_code result ≡ word / 64 * 64 }
+    ensures { (one_row result).code ≡ word / 64 * 64 }
 {
     match word >> 6 {
         0x10 => OneOp::BLWP,
@@ -162,8 +162,8 @@ fn one_at(word: u16) -> OneOp
 
 /// The operation on a register and a following word in a word, if it is one.
 fn imm_at(word: u16) -> Option<ImmOp>
-    ensures found { IfSome result (λ op. imm_code op ≡ word / 16 * 16) }
-    ensures none { IfNone result ((op : ImmOp) → imm_code op ≢ word / 16 * 16) }
+    ensures found { IfSome result (λ op. (imm_row op).code ≡ word / 16 * 16) }
+    ensures none { IfNone result ((op : ImmOp) → (imm_row op).code ≢ word / 16 * 16) }
 {
     match word >> 4 {
         0x20 => Some(ImmOp::LI),
@@ -179,8 +179,8 @@ fn imm_at(word: u16) -> Option<ImmOp>
 
 /// The operation without operand in a word, if it is one.
 fn bare_at(word: u16) -> Option<BareOp>
-    ensures found { IfSome result (λ op. bare_code op ≡ word) }
-    ensures none { IfNone result ((op : BareOp) → bare_code op ≢ word) }
+    ensures found { IfSome result (λ op. (bare_row op).code ≡ word) }
+    ensures none { IfNone result ((op : BareOp) → (bare_row op).code ≢ word) }
 {
     match word {
         0x02E0 => Some(BareOp::LWPI),

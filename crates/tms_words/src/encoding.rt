@@ -1,7 +1,7 @@
 //! The word of an instruction.
 ghost use Rattle.std.specs.Prelude.{◌≡◌, ◌≤◌, ◌<◌, ◌+◌, Some};
-ghost use Rattle.tms_defs.specs.Instructions.{code_of, operation_of, operands_word, two_code, reg_code, shift_code};
-ghost use Rattle.tms_defs.specs.Instructions.{one_code, jump_code, imm_code, bare_code, instr_at, word_of};
+ghost use Rattle.tms_defs.specs.Instructions.{code_of, operation_of, operands_word, two_row, reg_row, shift_row};
+ghost use Rattle.tms_defs.specs.Instructions.{one_row, jump_row, imm_row, bare_row, instr_at, word_of};
 ghost use Rattle.tms_defs.specs.Instructions.{source_word, destination_word, IsPlace, HasRoom, HasSignedByte};
 
 use tms_defs::{BareOp, ImmOp, Instr, JumpOp, OneOp, Place, RegOp, ShiftOp, TwoOp};
@@ -71,7 +71,7 @@ fn destination_word(place: Place) -> u16
 
 /// The code of an operation on two operands.
 fn two_code(op: TwoOp, byte: bool) -> u16
-    ensures value { result ≡ two_code op byte }
+    ensures value { result ≡ (two_row op byte).code }
     ensures room { result ≤ 0xF000 }
 {
     match (op, byte) {
@@ -92,7 +92,7 @@ fn two_code(op: TwoOp, byte: bool) -> u16
 
 /// The code of an operation on a source and a register or number.
 fn reg_code(op: RegOp) -> u16
-    ensures value { result ≡ reg_code op }
+    ensures value { result ≡ (reg_row op).code }
     ensures room { result ≤ 0x3C00 }
 {
     match op {
@@ -109,7 +109,7 @@ fn reg_code(op: RegOp) -> u16
 
 /// The code of a shift.
 fn shift_code(op: ShiftOp) -> u16
-    ensures value { result ≡ shift_code op }
+    ensures value { result ≡ (shift_row op).code }
     ensures room { result ≤ 0x0B00 }
 {
     match op {
@@ -122,7 +122,7 @@ fn shift_code(op: ShiftOp) -> u16
 
 /// The code of an operation on one operand.
 fn one_code(op: OneOp) -> u16
-    ensures value { result ≡ one_code op }
+    ensures value { result ≡ (one_row op).code }
     ensures room { result ≤ 0x0740 }
 {
     match op {
@@ -145,7 +145,7 @@ fn one_code(op: OneOp) -> u16
 
 /// The code of a jump or of an operation on a bit.
 fn jump_code(op: JumpOp) -> u16
-    ensures value { result ≡ jump_code op }
+    ensures value { result ≡ (jump_row op).code }
     ensures room { result ≤ 0x1F00 }
 {
     match op {
@@ -170,7 +170,7 @@ fn jump_code(op: JumpOp) -> u16
 
 /// The code of an operation on a register and a word.
 fn imm_code(op: ImmOp) -> u16
-    ensures value { result ≡ imm_code op }
+    ensures value { result ≡ (imm_row op).code }
     ensures room { result ≤ 0x02C0 }
 {
     match op {
@@ -186,7 +186,7 @@ fn imm_code(op: ImmOp) -> u16
 
 /// The code of an operation without operand in its word.
 fn bare_code(op: BareOp) -> u16
-    ensures value { result ≡ bare_code op }
+    ensures value { result ≡ (bare_row op).code }
     ensures room { result ≤ 0x03E0 }
 {
     match op {

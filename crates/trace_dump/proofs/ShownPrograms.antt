@@ -28,7 +28,7 @@ seen_running t e = ap (λ (o : Option Reason). record (shown_by t.machine.cpu.me
 pub matches_of : (t : SessionState) → t.ended ≡ None → IsSession t.machine t.ended → IsMatching t.machine
 matches_of t e h = subst (IsSession t.machine) e h
 
--- the lines of steps, and the one behind them
+-- the lines of steps, and the one after them
 abbrev line_at : ShowsChanges → GplState → ℕ → List ℕ
 line_at shows s made = step_line shows (made + 1) (run made s).last (run (made + 1) s).last
 
@@ -37,9 +37,9 @@ unfolding step_lines
 one_more_line shows s made = mapped_split (line_at shows s) made 1
 
 -- the lines of fewer steps are a front of those of more
-pub lines_behind : (shows : ShowsChanges) (s : GplState) (made done : ℕ) → made ≤ done → (rest : List (List ℕ)) × (step_lines shows s done ≡ step_lines shows s made ++ rest)
+pub lines_after : (shows : ShowsChanges) (s : GplState) (made done : ℕ) → made ≤ done → (rest : List (List ℕ)) × (step_lines shows s done ≡ step_lines shows s made ++ rest)
 unfolding step_lines
-lines_behind shows s made done le =
+lines_after shows s made done le =
     let sum : made + (done - made) ≡ done = omega arith in
     (map (line_at shows s) (range_with_len made (done - made)), ap (λ (n : ℕ). step_lines shows s n) (sym sum) ∙ mapped_split (line_at shows s) made (done - made))
 
@@ -141,10 +141,10 @@ pub breaks_front : (shows : ShowsChanges) (limit : ℕ) (x y : SessionState) (t 
 breaks_front shows limit x y t u o o' b =
     let s = gpl_state_of x in
     let less = b.within in
-    let behind = lines_behind shows s (b.shown + 1) (run limit s).done (omega arith) in
+    let later = lines_after shows s (b.shown + 1) (run limit s).done (omega arith) in
     let here : Missed o o' (step_lines shows s (b.shown + 1)) =
     subst (Missed o o') (sym (one_more_line shows s b.shown)) (missed_more o b.between o' (step_lines shows s b.shown) (line_at shows s b.shown ∷ []) b.wrote b.missed) in
-    subst (Missed o o') (sym behind.1) (missed_early o o' (step_lines shows s (b.shown + 1)) behind.0 here)
+    subst (Missed o o') (sym later.1) (missed_early o o' (step_lines shows s (b.shown + 1)) later.0 here)
 
 pub plays_whole : (shows : ShowsChanges) (limit made : ℕ) (x y : SessionState) (t u : ℕ) (o o' : SinkState) (kept : SeenState) → made ≡ limit → Playing shows x y t u made o o' kept → PlaysWhole shows limit x y t u o o' limit
 plays_whole shows limit made x y t u o o' kept all p =

@@ -4,6 +4,7 @@ ghost use Rattle.std.specs.Prelude.{◌≡◌, ◌≤◌, ◌+◌, ◌++◌, Non
 ghost use Rattle.arrayvec.specs.ArrayString.{array_string_len};
 ghost use Rattle.gpl_run.specs.Sessions.{gpl_state_of};
 ghost use Rattle.report_defs.specs.Trace as spec;
+ghost use Rattle.source_defs.specs.Digits.{right_in};
 
 use crate::state::push_state;
 use arrayvec::ArrayString;
@@ -37,11 +38,11 @@ pub fn trace_line(session: &Session, number: u32) -> ArrayString<120>
 }
 
 /// Appends the number of a step, right in six places.
-#[tactic(auto, unfolding(report_defs::specs::Trace::number_text))]
+#[tactic(auto, unfolding(source_defs::specs::Digits::right_in))]
 fn push_number(line: &mut ArrayString<120>, number: u32)
     requires number { number ≤ 100000 }
     requires room { array_string_len line.old + 6 ≤ 120 }
-    ensures text { line.new.bytes ≡ line.old.bytes ++ spec.number_text number }
+    ensures text { line.new.bytes ≡ line.old.bytes ++ right_in 6 number }
     ensures size { array_string_len line.new ≡ array_string_len line.old + 6 }
 {
     let mut buffer = Buffer::new();

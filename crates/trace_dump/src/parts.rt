@@ -41,7 +41,7 @@ fn put_memories<O: Sink>(machine: &Machine, out: &mut O) -> Result<(), Failed>
 }
 
 /// Writes the counter of the GROMs, and what the processor counts and holds.
-#[tactic(auto, using(bench_io::proofs::Writes::written_behind, bench_io::proofs::Writes::missed_at))]
+#[tactic(auto, using(bench_io::proofs::Writes::written_after, bench_io::proofs::Writes::missed_at))]
 fn put_registers<O: Sink>(machine: &Machine, out: &mut O) -> Result<(), Failed>
     ensures { Written result (O.state out.old) (O.state out.new)
         (spec.grom_line machine.now.cpu.memory.grom ∷ spec.count_line machine.now
@@ -52,7 +52,7 @@ fn put_registers<O: Sink>(machine: &Machine, out: &mut O) -> Result<(), Failed>
 }
 
 /// Writes the count of executed instructions, the processor's own registers and the registers of its workspace.
-#[tactic(auto, using(bench_io::proofs::Writes::written_behind, bench_io::proofs::Writes::missed_at))]
+#[tactic(auto, using(bench_io::proofs::Writes::written_after, bench_io::proofs::Writes::missed_at))]
 fn put_processor<O: Sink>(machine: &Machine, out: &mut O) -> Result<(), Failed>
     ensures { Written result (O.state out.old) (O.state out.new)
         (spec.count_line machine.now ∷ spec.workspace_lines machine.now.cpu) }
@@ -62,7 +62,7 @@ fn put_processor<O: Sink>(machine: &Machine, out: &mut O) -> Result<(), Failed>
 }
 
 /// Writes the scratchpad in rows.
-#[tactic(auto, unfolding(report_defs::specs::Dump::pad_lines), using(bench_io::proofs::Writes::written_behind, bench_io::proofs::Writes::missed_at))]
+#[tactic(auto, unfolding(report_defs::specs::Dump::pad_lines), using(bench_io::proofs::Writes::written_after, bench_io::proofs::Writes::missed_at))]
 fn put_pad<O: Sink>(scratchpad: &[u8], out: &mut O) -> Result<(), Failed>
     requires { length scratchpad.now ≡ 256 }
     ensures { Written result (O.state out.old) (O.state out.new) (spec.pad_lines scratchpad.now) }
@@ -72,7 +72,7 @@ fn put_pad<O: Sink>(scratchpad: &[u8], out: &mut O) -> Result<(), Failed>
 }
 
 /// Writes the video memory in rows, and the registers of the video processor.
-#[tactic(auto, unfolding(report_defs::specs::Dump::vdp_lines), using(bench_io::proofs::Writes::written_behind, bench_io::proofs::Writes::missed_at))]
+#[tactic(auto, unfolding(report_defs::specs::Dump::vdp_lines), using(bench_io::proofs::Writes::written_after, bench_io::proofs::Writes::missed_at))]
 fn put_vdp<O: Sink>(vdp: &Vdp, out: &mut O) -> Result<(), Failed>
     ensures { Written result (O.state out.old) (O.state out.new) (spec.vdp_lines vdp.now) }
 {

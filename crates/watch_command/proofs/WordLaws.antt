@@ -14,12 +14,12 @@ abbrev by_word : List Item → Option (List Item) → Option Item → Option (Li
 by_word items others o =
     option_map (λ rest. items ++ rest) (option_and_then (λ item. option_map (λ rest. item ∷ rest) others) o)
 
-behind : (items : List Item) (item : Item) (others : Option (List Item))
+after : (items : List Item) (item : Item) (others : Option (List Item))
     → by_word items others (Some item) ≡ option_map (λ rest. (items ++ item ∷ []) ++ rest) others
-behind items item None = refl
-behind items item (Some rest) = ap Some (sym (append_assoc items (item ∷ []) rest))
+after items item None = refl
+after items item (Some rest) = ap Some (sym (append_assoc items (item ∷ []) rest))
 
 module _ (items : List Item) (word : List ℕ) (left : List (List ℕ)) (all : Option (List Item))
     (said : Said items (word ∷ left) all) where
   pub said_more : (item : Item) → Some item ≡ item_word word → Said (items ++ item ∷ []) left all
-  said_more item is = said ∙ ap (by_word items (item_words left)) (sym is) ∙ behind items item (item_words left)
+  said_more item is = said ∙ ap (by_word items (item_words left)) (sym is) ∙ after items item (item_words left)

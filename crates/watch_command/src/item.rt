@@ -42,7 +42,7 @@ fn range_word(space: Space, text: &[u8]) -> Option<Item>
     ensures is_item { IfSome result IsItem }
 {
     let at = address_word(front(text, 4))?;
-    let size = size_word(behind(text, 4))?;
+    let size = size_word(after(text, 4))?;
     range_in(space, at, size)
 }
 
@@ -54,7 +54,7 @@ fn front(text: &[u8], count: usize) -> &[u8]
 }
 
 /// The bytes of a text after a given number of first bytes.
-fn behind(text: &[u8], count: usize) -> &[u8]
+fn after(text: &[u8], count: usize) -> &[u8]
     ensures { result.now ≡ drop count text.now }
 {
     &text[count.min(text.len())..]

@@ -10,11 +10,12 @@ use Rattle.watch_defs.specs.declared.item.Item.{Item}
 use Rattle.watch_defs.specs.declared.item.Item.TheVariants.{Range, Pc}
 use Rattle.gpl_defs.specs.declared.scratchpad.TheConstants.{SCRATCHPAD}
 
--- The bytes of a memory that a program sees, and the address of the first of them.
+-- The bytes of a memory that a program sees: of the processor's, the cells of the scratchpad.
 abbrev pub bytes_in : Space → GplState → List ℕ
 bytes_in Cpu s = s.cells
 bytes_in Vdp s = s.vdp
 
+-- the address of the first of them
 abbrev pub base_of : Space → ℕ
 base_of Cpu = SCRATCHPAD
 base_of Vdp = 0

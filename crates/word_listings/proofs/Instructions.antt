@@ -14,7 +14,8 @@ use Rattle.tms_defs.specs.declared.instruction.BareOp.TheVariants.{LWPI}
 use Rattle.tms_defs.specs.declared.instruction.Operation.{Operation}
 use Rattle.tms_defs.specs.declared.instruction.Operation.TheVariants.{Two, Reg, Shift, One, Jump, Imm, Bare}
 use Rattle.instruction_defs.specs.declared.mnemonic.Mnemonic.TheVariants.{Of}
-use Rattle.instruction_defs.specs.Operations.{name_of, mnemonic}
+use Rattle.tms_defs.specs.Instructions.{name_of}
+use Rattle.instruction_defs.specs.Operations.{mnemonic}
 use Rattle.asm_defs.specs.Directives.{directive}
 use Rattle.listed_lines.proofs.LineTexts.{plain_byte, field_of}
 use Rattle.std.proofs.Common.{◌⊎◌, inl, inr, ℕ, ◌+◌, ◌*◌, Bool, List, [], ◌∷◌, length-append, ap, subst, Ok, Option}

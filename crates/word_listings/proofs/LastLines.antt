@@ -31,7 +31,7 @@ use Rattle.line_laws.proofs.SecondChecks.{room_by}
 use Rattle.line_laws.proofs.LinkedPieces.{pieces_held, pieces_there, pieces_split, none_from, at_word, content_none, content_not_yet, nothing_before}
 use Rattle.line_laws.proofs.Whole.{not_covered, no_uses}
 use Rattle.word_listings.proofs.LineBacks.{absolute_at, end_text, end_outcome, end_line, IsEntry, byte_line}
-use Rattle.word_listings.proofs.Behind.{Stands, Holds, Fails, taken, Ends, ends_last, ends_more, assembles_now, fails_still}
+use Rattle.word_listings.proofs.After.{Stands, Holds, Fails, taken, Ends, ends_last, ends_more, assembles_now, fails_still}
 
 -- lines that hold some pieces and an entry, or none, and nothing else
 pub record Held (lines : List AssembledLine) (held : List Piece) (entered : Option Spot) : Type 0 where
@@ -141,8 +141,8 @@ module _ (end byte : ℕ) where
     covers_before : (p : ℕ) → p < end → covers byte_assembled part.Absolute p ≡ false
     covers_before p lt = let no : nat_le end p ≡ false = grind (arith, nat_tests, lt) in rw no refl
 
-    covers_behind : (p : ℕ) → end < p → covers byte_assembled part.Absolute p ≡ false
-    covers_behind p lt =
+    covers_after : (p : ℕ) → end < p → covers byte_assembled part.Absolute p ≡ false
+    covers_after p lt =
         let no : nat_lt p (end + 1) ≡ false = grind (arith, nat_tests, lt) in
         let yes : nat_le end p ≡ true = grind (arith, nat_tests, lt) in
         rw (no, yes) refl
@@ -158,9 +158,9 @@ module _ (end byte : ℕ) where
     content_before : (p : ℕ) → p < end → content_at [] (byte_assembled ∷ lines) part.Absolute p ≡ content_of (2 * half) words p
     content_before p lt = rw (covers_before p lt) (hold.absolute p)
 
-    content_behind : (p : ℕ) → end < p → content_at [] (byte_assembled ∷ lines) part.Absolute p ≡ None
-    content_behind p lt =
-        rw (covers_behind p lt) (hold.absolute p ∙ content_none (2 * half) words p (omega (arith, there, lt)))
+    content_after : (p : ℕ) → end < p → content_at [] (byte_assembled ∷ lines) part.Absolute p ≡ None
+    content_after p lt =
+        rw (covers_after p lt) (hold.absolute p ∙ content_none (2 * half) words p (omega (arith, there, lt)))
 
     pub byte_held : entry lines ≡ None → half + length words < 32768 → Held (byte_assembled ∷ lines) (pieces_of (2 * half) (words ++ join byte 0 ∷ [])) None
     unfolding part_words
@@ -172,7 +172,7 @@ module _ (end byte : ℕ) where
               ∙ byte_pieces (content_at [] (byte_assembled ∷ lines) part.Absolute) half (32767 - (half + length words)) 32768 words byte size
               (λ p lt. content_before p (omega (arith, lt, there)))
               (subst (λ at. content_at [] (byte_assembled ∷ lines) part.Absolute at ≡ Some (content.Byte byte)) there content_there)
-              (λ p lt. content_behind p (omega (arith, lt, there)));
+              (λ p lt. content_after p (omega (arith, lt, there)));
           none = byte_none;
           entry_is = none;
         }
@@ -201,7 +201,7 @@ module_is all at lines held entered stands is =
     (ap (map (definition_in (names all))) stands.defs_are)
     (ap (λ references. references_of (map unused references) lines) stands.refs_are ∙ no_uses lines) is.entry_is
 
--- END behind lines that hold some pieces
+-- END after lines that hold some pieces
 module _ (entered : Option ℕ) (is_entry : IsEntry entered) where
   pub closes_end : (end : ℕ) (fits : end ≤ 65536) (before : List Line) (lines : List AssembledLine) (number : ℕ) (held : List Piece) → Stands before end
       → assembled_lines (assembled_line predefined) before ≡ Ok lines → Held lines held None

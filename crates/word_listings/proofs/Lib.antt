@@ -1,7 +1,7 @@
 pub mod Slots
 pub mod Instructions
 pub mod LineBacks
-pub mod Behind
+pub mod After
 pub mod LastLines
 pub mod ListingLaw
 pub mod ShortLaw

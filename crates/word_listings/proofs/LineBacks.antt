@@ -15,7 +15,7 @@ use Rattle.tms_defs.specs.declared.instruction.Instr.{Instr}
 use Rattle.tms_defs.specs.declared.instruction.Instr.TheVariants as instr
 use Rattle.instruction_defs.specs.declared.causes.FormError.{FormError}
 use Rattle.instruction_defs.specs.declared.causes.FormError.TheVariants.{JumpTooFar}
-use Rattle.instruction_defs.specs.Operations.{name_of}
+use Rattle.tms_defs.specs.Instructions.{name_of}
 use Rattle.instruction_defs.specs.Operands.{size_in_words}
 use Rattle.instruction_defs.specs.FirstChecks.{size_of}
 use Rattle.instruction_defs.specs.SecondChecks.{second_checks}
@@ -25,7 +25,7 @@ use Rattle.asm_defs.specs.declared.causes.AsmCause.{AsmCause}
 use Rattle.asm_defs.specs.declared.causes.AsmCause.TheVariants.{Form}
 use Rattle.asm_defs.specs.declared.location.Location.{Location}
 use Rattle.asm_defs.specs.declared.location.Part.TheVariants as part
-use Rattle.asm_defs.specs.Locations.{behind, value_of}
+use Rattle.asm_defs.specs.Locations.{after, value_of}
 use Rattle.asm_defs.specs.Directives.{directive}
 use Rattle.asm_defs.specs.Statements.{Statement, Instruction, Data, Byte, End, operation_statement, as_form}
 use Rattle.asm_defs.specs.FirstChecks.{EarlierLines, move, refs_in, defs_in, is_end, lists_too_many, is_bad}
@@ -43,10 +43,10 @@ use Rattle.word_listings.proofs.Instructions.{IsRead, is_read, again, values_unl
 abbrev pub absolute_at : ℕ → Location
 absolute_at at = record { part = part.Absolute; number = at }
 
--- a statement that moves on by a size and does nothing else to the lines behind it
+-- a statement that moves on by a size and does nothing else to the lines after it
 pub record IsOwn (at size : ℕ) (last : Bool) (statement : Statement) : Type 0 where
   pub moves : (known : Names) (reached : ℕ) →
-      move known (absolute_at at) reached statement ≡ Ok (record { origin = None; gap = 0; size = size; label = value_of (behind (absolute_at at) 0) })
+      move known (absolute_at at) reached statement ≡ Ok (record { origin = None; gap = 0; size = size; label = value_of (after (absolute_at at) 0) })
   pub refs : refs_in statement ≡ []
   pub defs : defs_in statement ≡ []
   pub last_is : is_end statement ≡ last

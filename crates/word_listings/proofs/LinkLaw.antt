@@ -8,7 +8,7 @@ use Rattle.object_defs.specs.Modules.{Module, StandsEven}
 use Rattle.object_defs.specs.Laws.{FitsPiece}
 use Rattle.object_laws.proofs.Written.{written_modules_are_read}
 use Rattle.link_defs.specs.Placing.{sections, first_base, word_at, section_words}
-use Rattle.link_defs.specs.First.{first_behind}
+use Rattle.link_defs.specs.First.{first_after}
 use Rattle.link_defs.specs.LinkedMemory.{linked, linked_parts, is_outside, is_loadable}
 use Rattle.line_laws.specs.KnownLines.{pieces_of}
 use Rattle.line_laws.proofs.LinkedPieces.{are_words, pairs_of, pairs_there, none_taken, all_filled, append_empty, memory_of, word_found, pair_found}
@@ -39,12 +39,12 @@ abbrev Found : Option ℕ → Option (ℕ × ℕ) → Type 0
 Found None pair = pair ≡ None
 Found (Some address) pair = (word : ℕ) × (pair ≡ Some (address, word))
 
-outside_found : (words : List ℕ) (before : List (ℕ × ℕ)) (at : ℕ) → Found (first_outside at words) (first_behind is_outside before (pairs_of at words))
+outside_found : (words : List ℕ) (before : List (ℕ × ℕ)) (at : ℕ) → Found (first_outside at words) (first_after is_outside before (pairs_of at words))
 outside_found [] before at = refl
 outside_found (word ∷ words) before at = by (is_loadable at) (outside_found words (before ++ (at, word) ∷ []) (at + 2))
   where
-    by : (b : Bool) → Found (first_outside (at + 2) words) (first_behind is_outside (before ++ (at, word) ∷ []) (pairs_of (at + 2) words))
-        → Found (if b then first_outside (at + 2) words else Some at) (if not b then Some (at, word) else first_behind is_outside (before ++ (at, word) ∷ []) (pairs_of (at + 2) words))
+    by : (b : Bool) → Found (first_outside (at + 2) words) (first_after is_outside (before ++ (at, word) ∷ []) (pairs_of (at + 2) words))
+        → Found (if b then first_outside (at + 2) words else Some at) (if not b then Some (at, word) else first_after is_outside (before ++ (at, word) ∷ []) (pairs_of (at + 2) words))
     by true rest = rest
     by false rest = (word, refl)
 
@@ -59,7 +59,7 @@ module _ (at : ℕ) (words : List ℕ) (entry : ℕ) (are : AreWords words) (ins
   abbrev pairs : List (ℕ × ℕ)
   pairs = pairs_of at words
 
-  parts_give : (found : Option ℕ) → Found found (first_behind is_outside [] pairs) → GivesWords at words entry found (linked_parts [] pairs [] (entry ∷ []))
+  parts_give : (found : Option ℕ) → Found found (first_after is_outside [] pairs) → GivesWords at words entry found (linked_parts [] pairs [] (entry ∷ []))
   parts_give None none = (
     memory_of at words entry,
     rw (none, none_taken [] at words (λ at le. refl), all_filled at words) refl,

@@ -24,7 +24,7 @@ use Rattle.asm_defs.specs.Statements.{Aorg, statement_in, Statement, operation_s
 use Rattle.asm_defs.specs.Locations.{Line, start}
 use Rattle.asm_defs.specs.FirstChecks.{Checked, parsed, moved, check, line_of, names, set_to, is_end}
 use Rattle.asm_defs.specs.SecondChecks.{Nothing, outcome, Outcome}
-use Rattle.asm_defs.specs.Modules.{assembled_line, module_by, module_behind, module_of_source}
+use Rattle.asm_defs.specs.Modules.{assembled_line, module_by, module_after, module_of_source}
 use Rattle.line_laws.proofs.PlacedWords.{HoldWords}
 use Rattle.line_laws.proofs.Whole.{none_by, room_still, hold_still}
 use Rattle.word_listings.specs.Listing.{memory_listing, lines_from, word_lines, odd_byte_lines}
@@ -37,7 +37,7 @@ use Rattle.word_listings.specs.Law.{StandEven, listed_module, WordListingsComeBa
 use Rattle.word_listings.proofs.Slots.{known, word_value}
 use Rattle.word_listings.proofs.Instructions.{AreWords, instr_at-signed}
 use Rattle.word_listings.proofs.LineBacks.{absolute_at, byte_line, end_text, end_line, IsEntry, words_back, LineBack}
-use Rattle.word_listings.proofs.Behind.{Stands, Holds, Ends, same_place, texts_from, drop_words, goes_from, Closes}
+use Rattle.word_listings.proofs.After.{Stands, Holds, Ends, same_place, texts_from, drop_words, goes_from, Closes}
 use Rattle.word_listings.proofs.LastLines.{closes_end, breaks_end, closes_byte, breaks_byte, words_held}
 use Rattle.source_defs.specs.Names.{is_word}
 use Rattle.std.specs.Prelude.{ℤ, pos, negsuc, FitsSigned, IfSome, if◌then◌else◌}
@@ -141,7 +141,7 @@ pub words_fit : (bytes : List ℕ) → 2 * length (words_of_bytes bytes) ≤ len
 words_fit (more ∷ less ∷ rest) = let ih = words_fit rest in omega (arith, ih)
 words_fit _ = omega arith
 
--- the bytes behind the words: none, or one
+-- the bytes after the words: none, or one
 data Rest (bytes : List ℕ) : Type 0 where
   Even : odd_texts bytes ≡ [] → padded_words bytes ≡ words_of_bytes bytes → length bytes ≡ 2 * length (words_of_bytes bytes) → Rest bytes
   Odd : (byte : ℕ) → byte < 256 → odd_texts bytes ≡ (codes "BYTE " ++ hex_byte byte) ∷ [] → padded_words bytes ≡ words_of_bytes bytes ++ join byte 0 ∷ []
@@ -261,16 +261,16 @@ listing_is at bytes end =
     (rw (map-append listing_line texts (odd_texts bytes ++ end ∷ []))
     (rw (map-append listing_line (odd_texts bytes) (end ∷ [])) refl))
 
-pub behind_laid : (all : List Line) (come : Result Module (Refusal AsmCause)) → names all ≡ predefined
-    → (assembled_lines (assembled_line predefined) all >>= λ found. Ok (module_by all found)) ≡ come → module_behind all ≡ come
-behind_laid all come names is =
+pub after_laid : (all : List Line) (come : Result Module (Refusal AsmCause)) → names all ≡ predefined
+    → (assembled_lines (assembled_line predefined) all >>= λ found. Ok (module_by all found)) ≡ come → module_after all ≡ come
+after_laid all come names is =
     ap (λ known. assembled_lines (assembled_line known) all >>= λ found. Ok (module_by all found)) names ∙ is
 
 -- the module of a source whose lines are let through to the last
 source_is : (texts : List (List ℕ)) (answer : Result Module (Refusal AsmCause)) → Ends [] 1 texts answer → list_all (λ line. list_all in_line line) (map listed texts) ≡ true
     → module_of_source (joined (map listed texts)) ≡ answer
 source_is texts answer ends clean =
-    rw (lines_joined (map listed texts) clean, ends.laid_is) (behind_laid ends.all answer ends.names_are ends.module_is)
+    rw (lines_joined (map listed texts) clean, ends.laid_is) (after_laid ends.all answer ends.names_are ends.module_is)
 
 even_comes_back : (half : ℕ) (bytes : List ℕ) (entered : Option ℕ) → AllBytes bytes → 2 * half < 65536 → 2 * half + length bytes ≤ 65536 → IsEntry entered
     → module_of_source (concat (listing_to (2 * half) bytes (end_text entered))) ≡ listed_module (2 * half) bytes entered

@@ -9,7 +9,7 @@ use Rattle.word_listings.specs.Listing.{memory_listing, lines_from, word_lines, 
 use Rattle.word_listings.specs.Law.{entered_listing, WordListingsAreShort}
 use Rattle.word_listings.proofs.Instructions.{AreWords}
 use Rattle.word_listings.proofs.LineBacks.{words_back}
-use Rattle.word_listings.proofs.Behind.{drop_words}
+use Rattle.word_listings.proofs.After.{drop_words}
 use Rattle.word_listings.proofs.ListingLaw.{are_words, words_fit}
 use Rattle.tms_defs.specs.Words.{words_of_bytes}
 
@@ -62,7 +62,7 @@ word_listings_are_short at bytes stands =
     let all = length-append (listing_line (codes "AORG " ++ hex_word at)) (concat (word_lines at (words_of_bytes bytes) ++ (odd_byte_lines bytes ++ listing_line (codes "END") ∷ []))) in
     omega (arith, words, odd, first, last, rest, all)
 
--- an entry behind END has six bytes
+-- an entry after END has six bytes
 pub entered_size : (at : ℕ) (bytes : List ℕ) (entry : ℕ) →
     length (concat (entered_listing at bytes entry)) ≡ length (concat (memory_listing at bytes)) + 6
 unfolding memory_listing word_digits

@@ -37,7 +37,8 @@ use Rattle.reports.proofs.NoUsage.{IsNoUsage, same_no_usage, program_no_usage, l
 use Rattle.bench_commands.specs.InputRun.{TookWithin}
 use Rattle.bench_commands.specs.Bench.{bench_program}
 use Rattle.bench_commands.proofs.Ends.{reads_whole}
-use Rattle.workbench.specs.FileProgram.{Reading, Reports, file_program}
+use Rattle.file_commands.specs.Inputs.{Inputs}
+use Rattle.workbench.specs.FileProgram.{Reports, file_program}
 use Rattle.workbench.specs.Answered.{FailsWith, AnswersWith}
 
 -- ---- no report has the status of words that say no command
@@ -64,7 +65,7 @@ asm_no_usage before after source report true on = same_no_usage report (Faulty T
 asm_no_usage before after source report false on =
     same_no_usage report (copy_report on.answer) on.is (copy_no_usage on.answer)
 
-no_usage : (command : FileCommand) (before after : Reading) (report : Report)
+no_usage : (command : FileCommand) (before after : Inputs) (report : Report)
     → Reports (OverFiles command) before after report → IsNoUsage report
 no_usage AsmFiles before after report (source, reading, on) =
     asm_no_usage before.shelf after.shelf source report (nat_lt largest_input (length source)) on
@@ -78,7 +79,7 @@ no_usage (Watch limit items) before after report (source, reading, same, on) =
     (program_of_source source) report) on
 
 -- a run ends by what its command answers
-pub ends_over : (command : FileCommand) (run : Run ProgramCommand Reading) (answer : Result Report Status) (end : Status)
+pub ends_over : (command : FileCommand) (run : Run ProgramCommand Inputs) (answer : Result Report Status) (end : Status)
     → AnswersWith command run.before run.after answer → Ends run.outputs answer end
     → EndsSaid file_program (Some (OverFiles command)) run end
 ends_over command run (Ok report) end is ends =
@@ -92,7 +93,7 @@ ends_over command run (Err status.Memory) end leaves (is, out, err) =
 ends_over command run (Err _) end fails ends = absurd fails
 
 -- what holds of what the words say holds of the command that was read of them
-pub ends_said : (before after : Reading) (o : Outputs) (end : Status) (said words : Option ProgramCommand) → said ≡ words
+pub ends_said : (before after : Inputs) (o : Outputs) (end : Status) (said words : Option ProgramCommand) → said ≡ words
     → EndsSaid file_program said (record { said = said; before = before; after = after; outputs = o }) end
     → EndsSaid file_program words (record { said = words; before = before; after = after; outputs = o }) end
 ends_said before after o end said words same ends = rw (sym same) ends
@@ -127,7 +128,7 @@ module _ (before after : SourceState) (bytes : List ℕ) (whole : ReadWhole larg
 
 -- what is answered to a source that was taken whole
 module _ (before after : SourceState) (source : List ℕ) (whole : ReadWhole largest_input before after source) where
-  abbrev at : SourceState → ShelfState → Reading
+  abbrev at : SourceState → ShelfState → Inputs
   at input shelf = record { input = input; shelf = shelf }
 
   pub asm_answered : (shelf shelf' : ShelfState) (answer : Result Report Status)

@@ -22,7 +22,8 @@ use Rattle.bench_commands.specs.Bench.{bench_input}
 use Rattle.bench_commands.proofs.Laws as bench
 use Rattle.bench_commands.proofs.Laws.{on_all}
 use Rattle.reports.proofs.Runs.{IsProgram, laws_of}
-use Rattle.workbench.specs.FileProgram.{Reading, Shown, AsmOn, Reports, ReadFails, Fails, Shows, file_program}
+use Rattle.file_commands.specs.Inputs.{Inputs, ShownInputs, FaultRose}
+use Rattle.workbench.specs.FileProgram.{AsmOn, Reports, ReadFails, Shows, file_program}
 use Rattle.workbench.specs.Laws.{LawsOfFileRuns}
 
 -- the report of `asm` on what was taken is that with the files that are shown
@@ -39,7 +40,7 @@ asm_on_input before after source report files shown on = by (nat_lt largest_inpu
         module_of_shown before after source (Some files) on.questions on.answer shown on.dialogue on.gives in
         on.is ∙ ap copy_report is
 
-shown : (command : ProgramCommand) (before after : Reading) (read : Shown) (report : Report) → Shows command before read
+shown : (command : ProgramCommand) (before after : Inputs) (read : ShownInputs) (report : Report) → Shows command before read
     → Reports command before after report → ReportWith command read.bytes read.files report
 shown (OverFiles AsmFiles) before after read report shows (source, reading, on) =
     on_all (AsmReport read.files) before.input after.input source read.bytes report shows.0 reading
@@ -54,7 +55,7 @@ shown (OverFiles (Watch limit items)) before after read report shows (source, re
 shown (Plain command) before after read report shows (on, same) =
     bench.shown bench_input command before.input after.input read.bytes report shows on
 
-fails : (command : ProgramCommand) (before after : Reading) → ReadFails command before after → Fails before after
+fails : (command : ProgramCommand) (before after : Inputs) → ReadFails command before after → FaultRose before after
 fails (OverFiles AsmFiles) before after (inl failed) = inl failed.0
 fails (OverFiles AsmFiles) before after (inr (source, whole, questions, dialogue, failed)) = inr failed.rose
 fails (OverFiles (LinkFiles names)) before after (questions, dialogue, failed) = inr failed.rose

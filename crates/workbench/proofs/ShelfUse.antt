@@ -11,9 +11,10 @@ use Rattle.report_defs.specs.Report.{Report, Faulty, largest_input}
 use Rattle.report_defs.specs.ProgramCommands.{AsmFiles, LinkFiles, Watch, ProgramCommand, OverFiles, Plain}
 use Rattle.file_commands.specs.Reported.{CopyReported}
 use Rattle.reports.specs.Run.{Run, EndsSaid, EndsBy}
-use Rattle.workbench.specs.FileProgram.{Reading, Reports, Begins, Leaves, file_program, TakesOfShelf}
+use Rattle.file_commands.specs.Inputs.{Inputs}
+use Rattle.workbench.specs.FileProgram.{Reports, Begins, Leaves, file_program, TakesOfShelf}
 
-abbrev Takes : ProgramCommand → Reading → Reading → Type 0
+abbrev Takes : ProgramCommand → Inputs → Inputs → Type 0
 Takes command before after = TakesOfShelf (Some command) before.shelf after.shelf
 
 none_taken : (before after : ShelfState) → after ≡ before → TakesOfShelf (Some (OverFiles AsmFiles)) before after
@@ -22,7 +23,7 @@ none_taken before after same =
     let taken = ap (λ (s : ShelfState). s.source.taken) same in
     (omega (arith, opens), omega (arith, taken))
 
-reporting : (command : ProgramCommand) (before after : Reading) (report : Report) → Reports command before after report
+reporting : (command : ProgramCommand) (before after : Inputs) (report : Report) → Reports command before after report
     → Takes command before after
 reporting (OverFiles AsmFiles) before after report (source, reads, on) = by (nat_lt largest_input (length source)) on
   where
@@ -36,12 +37,12 @@ reporting (OverFiles (LinkFiles names)) before after report (same, on) =
 reporting (OverFiles (Watch limit items)) before after report (source, reads, same, on) = same
 reporting (Plain command) before after report (on, same) = same
 
-beginning : (command : ProgramCommand) (before after : Reading) (front : Report) → Begins command before after front
+beginning : (command : ProgramCommand) (before after : Inputs) (front : Report) → Begins command before after front
     → Takes command before after
 beginning (OverFiles command) before after front on = absurd on
 beginning (Plain command) before after front (on, same) = same
 
-leaving : (command : ProgramCommand) (before after : Reading) → Leaves command before after → Takes command before after
+leaving : (command : ProgramCommand) (before after : Inputs) → Leaves command before after → Takes command before after
 leaving (OverFiles AsmFiles) before after (input, within, inl same) = none_taken before.shelf after.shelf same
 leaving (OverFiles AsmFiles) before after (input, within, inr (source, whole, questions, dialogue)) =
     dialogue_takes most_bytes most_copies _ before.shelf after.shelf questions dialogue
@@ -50,9 +51,9 @@ leaving (OverFiles (LinkFiles names)) before after (input, within, questions, di
 leaving (OverFiles (Watch limit items)) before after (input, same) = same
 leaving (Plain command) before after (input, same) = same
 
-takes_said : (said : Option ProgramCommand) (run : Run ProgramCommand Reading) (end : Status)
+takes_said : (said : Option ProgramCommand) (run : Run ProgramCommand Inputs) (end : Status)
     → EndsSaid file_program said run end → TakesOfShelf said run.before.shelf run.after.shelf
-takes_said None run end ends = ap (λ (r : Reading). r.shelf) ends.unread
+takes_said None run end ends = ap (λ (r : Inputs). r.shelf) ends.unread
 takes_said (Some command) run status.Done (report, is, wrote) = reporting command run.before run.after report is
 takes_said (Some command) run status.Refused (report, is, wrote) = reporting command run.before run.after report is
 takes_said (Some command) run status.Usage ends = absurd ends
@@ -62,6 +63,6 @@ takes_said (Some command) run status.WriteFault (inr (front, is, missed)) = begi
 takes_said (Some command) run status.Memory nothing = leaving command run.before run.after nothing.leaves
 takes_said (Some command) run status.Stopped (report, is, wrote) = reporting command run.before run.after report is
 
-pub takes_of_shelf : (run : Run ProgramCommand Reading) (end : Status) → EndsBy file_program run end
+pub takes_of_shelf : (run : Run ProgramCommand Inputs) (end : Status) → EndsBy file_program run end
     → TakesOfShelf run.said run.before.shelf run.after.shelf
 takes_of_shelf run end ends = takes_said run.said run end ends

@@ -1,15 +1,13 @@
 -- The program with files: what its commands read of the input and of a shelf, report and leave.
 use Rattle.std.specs.Prelude.{◌≡◌, ◌⊎◌, ℕ, ◌+◌, ◌*◌, ◌≤◌, nat_lt, MatchBool, List, length}
 use Rattle.std.specs.Prelude.{Option, Some, None}
-use Rattle.count_defs.specs.Counts.{saturating_sum, Rose}
-use Rattle.bench_io.specs.Stream.{SourceState}
+use Rattle.count_defs.specs.Counts.{saturating_sum}
 use Rattle.bench_io.specs.ReadAll.{ReadWhole}
 use Rattle.report_defs.specs.declared.fault.Fault.TheVariants.{TooLarge}
 use Rattle.report_defs.specs.Report.{Report, Faulty, OnInput, largest_input}
 use Rattle.report_defs.specs.ProgramCommands.{AsmFiles, LinkFiles, Watch, ProgramCommand}
 use Rattle.report_defs.specs.ProgramCommands.{OverFiles, Plain, program_usage}
 use Rattle.report_defs.specs.FileReports.{WatchReport, ReportWith}
-use Rattle.shelf_defs.specs.Files.{Files}
 use Rattle.shelf_defs.specs.Copied.{most_bytes, most_copies}
 use Rattle.shelf_defs.specs.Questions.{Question}
 use Rattle.bench_shelf.specs.States.{ShelfState}
@@ -17,20 +15,11 @@ use Rattle.bench_shelf.specs.Causes.{ReadWithinLimit}
 use Rattle.bench_shelf.specs.Dialogue.{CopyDialogue}
 use Rattle.file_commands.specs.Reading.{LinkDialogue}
 use Rattle.file_commands.specs.Reported.{Failed, CopyReported, LinkReported}
+use Rattle.file_commands.specs.Inputs.{Inputs, ShownInputs, ReadsFirst, FaultRose}
 use Rattle.bench_commands.specs.Bench.{bench_input}
 use Rattle.bench_commands.specs.InputRun as plain
 use Rattle.bench_commands.specs.InputRun.{ReadsInput, TookWithin}
 use Rattle.reports.specs.Run.{Program}
-
--- what the commands read: the input, and a shelf of files
-pub record Reading : Type 0 where
-  pub input : SourceState
-  pub shelf : ShelfState
-
--- what both may show
-pub record Shown : Type 0 where
-  pub bytes : List ℕ
-  pub files : Files
 
 -- The report of `asm` on a source that was taken of the input. If that is too large, no file is opened.
 abbrev pub AsmOn : ShelfState → ShelfState → List ℕ → Report → Type 0
@@ -40,7 +29,7 @@ AsmOn before after source report =
 
 -- The report of a command. `asm` takes the input and the files that it copies, `link` with names of files takes these
 -- alone, and every other command is a command of `bench`, or `watch`, and leaves the shelf as it was.
-abbrev pub Reports : ProgramCommand → Reading → Reading → Report → Type 0
+abbrev pub Reports : ProgramCommand → Inputs → Inputs → Report → Type 0
 Reports (OverFiles AsmFiles) before after report =
     (source : List ℕ) × ReadsInput before.input after.input source × AsmOn before.shelf after.shelf source report
 Reports (OverFiles (LinkFiles names)) before after report =
@@ -52,22 +41,14 @@ Reports (Plain command) before after report =
     plain.Reports bench_input command before.input after.input report × (after.shelf ≡ before.shelf)
 
 -- a front of it, which is written before its end is known
-abbrev pub Begins : ProgramCommand → Reading → Reading → Report → Type 0
+abbrev pub Begins : ProgramCommand → Inputs → Inputs → Report → Type 0
 Begins (OverFiles command) before after front = ⊥
 Begins (Plain command) before after front =
     plain.Begins bench_input command before.input after.input front × (after.shelf ≡ before.shelf)
 
--- The shelf is as it was, unless the input was taken whole before. Then it was asked for the files that the source
--- copies, each as the next after the answers before.
-abbrev pub ReadsFirst : Reading → Reading → Type 0
-ReadsFirst before after =
-    (after.shelf ≡ before.shelf)
-    ⊎ ((source : List ℕ) × ReadWhole largest_input before.input after.input source
-    × (questions : List Question) × CopyDialogue before.shelf after.shelf source questions)
-
 -- What a command that wrote nothing leaves of the input and of the shelf. Of no file more bytes were taken than it may
 -- have: else it is reported as too large. `asm` opens none before it has taken the input whole.
-abbrev pub Leaves : ProgramCommand → Reading → Reading → Type 0
+abbrev pub Leaves : ProgramCommand → Inputs → Inputs → Type 0
 Leaves (OverFiles AsmFiles) before after =
     TookWithin before.input after.input × ReadWithinLimit most_bytes before.shelf after.shelf
     × ReadsFirst before after
@@ -81,7 +62,7 @@ Leaves (Plain command) before after =
 
 -- A call failed of what the command reads: of the input, and then no file was opened; or of the shelf, which `asm` asks
 -- for files after the input was taken whole, at the file that was asked for last.
-abbrev pub ReadFails : ProgramCommand → Reading → Reading → Type 0
+abbrev pub ReadFails : ProgramCommand → Inputs → Inputs → Type 0
 ReadFails (OverFiles AsmFiles) before after =
     (plain.Fails before.input after.input × (after.shelf ≡ before.shelf))
     ⊎ ((source : List ℕ) × ReadWhole largest_input before.input after.input source
@@ -93,20 +74,15 @@ ReadFails (OverFiles (LinkFiles names)) before after =
 ReadFails (OverFiles (Watch limit items)) before after = plain.Fails before.input after.input
 ReadFails (Plain command) before after = plain.ReadFails bench_input command before.input after.input
 
--- a count of faults rose: of the input, or of the shelf
-abbrev pub Fails : Reading → Reading → Type 0
-Fails before after =
-    plain.Fails before.input after.input ⊎ Rose before.shelf.source.faults after.shelf.source.faults
-
 -- what a command reads is shown: the bytes of the input, the files of the shelf, both, or nothing
-abbrev pub Shows : ProgramCommand → Reading → Shown → Type 0
+abbrev pub Shows : ProgramCommand → Inputs → ShownInputs → Type 0
 Shows (OverFiles AsmFiles) reading shown =
     (reading.input.left ≡ Some shown.bytes) × (reading.shelf.files ≡ Some shown.files)
 Shows (OverFiles (LinkFiles names)) reading shown = reading.shelf.files ≡ Some shown.files
 Shows (OverFiles (Watch limit items)) reading shown = reading.input.left ≡ Some shown.bytes
 Shows (Plain command) reading shown = plain.Shows bench_input command reading.input shown.bytes
 
-abbrev pub file_program : Program ProgramCommand Reading Shown
+abbrev pub file_program : Program ProgramCommand Inputs ShownInputs
 file_program =
     record {
       usage = program_usage;
@@ -114,7 +90,7 @@ file_program =
       Begins = Begins;
       Leaves = Leaves;
       ReadFails = ReadFails;
-      Fails = Fails;
+      Fails = FaultRose;
       Shows = Shows;
       ReportOn = λ command shown report. ReportWith command shown.bytes shown.files report;
     }

@@ -43,8 +43,9 @@ pub struct Symbols {
 impl Model for Symbols {
     ghost use Rattle.std.specs.FinMap.{code};
     ghost use Rattle.std.specs.Coded.{coded_list, coded_ℕ};
-    ghost use Rattle.expression_defs.specs.Symbols.{Names, value_code};
+    ghost use Rattle.expression_defs.specs.Symbols.{Names};
     ghost use Rattle.asm_text.specs.Kept.{names_of};
+    ghost use Rattle.asm_text.specs.ValueCode.{value_code};
 
     ghost Value = { Names };
 

@@ -58,7 +58,7 @@ impl<'a> Iterator for Lines<'a> {
 /// Where the next line begins, after one that goes up to a line feed or the text's end.
 fn after(text: &[u8], feed: usize) -> usize
     requires { feed ≤ length text.now }
-    ensures { result ≡ spec.behind_feed text.now feed }
+    ensures { result ≡ spec.after_feed text.now feed }
 {
     if feed < text.len() { feed + 1 } else { feed }
 }

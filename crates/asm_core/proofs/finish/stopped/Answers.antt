@@ -3,13 +3,13 @@ use Rattle.expression_defs.specs.Layout.{assembled_lines}
 use Rattle.asm_defs.specs.Modules.{assembled_line}
 use Rattle.asm_core.specs.declared.error.AsmError.{AsmError}
 use Rattle.asm_core.specs.Finishing.{RefusesAt}
-use Rattle.asm_core.proofs.StopLaws.{value_refused, still_refused, refused_behind}
+use Rattle.asm_core.proofs.StopLaws.{value_refused, still_refused, refused_after}
 use Rattle.asm_core.proofs.finish.stopped.Goals as goal
 
 pub returns-in_default : goal.returns-in_default
 returns-in_default c = λ lines waiting done is so_far same.
     subst (λ (error : AsmError). RefusesAt error (assembled_lines (assembled_line c.args.symbols.now) lines)) (sym c.refused_at.ensures)
-    (refused_behind c.args.symbols.now lines waiting c.args.refused.now is done so_far same c.in_default.is)
+    (refused_after c.args.symbols.now lines waiting c.args.refused.now is done so_far same c.in_default.is)
 
 pub returns-in-Err : goal.returns-in-Err
 returns-in-Err c = λ lines waiting done is so_far same.

@@ -20,7 +20,7 @@ returns-then-key-eq-RT_KEY c =
 pub returns : goal.returns
 returns c =
     let key = c.in_ok-key.key in
-    let told = is_named key c.if-key-eq-NOP_KEY.false c.if-key-eq-RT_KEY.false
+    let reported = is_named key c.if-key-eq-NOP_KEY.false c.if-key-eq-RT_KEY.false
     ∙ by_number c.args.text.now (Some key) c.type_inv.text c.in_ok-key.ensures in
     let mapped : c.map.result ≡ option_map Of c.operation_named.result = search rules in
-    mapped ∙ (ap (option_map Of) c.operation_named.ensures ∙ told)
+    mapped ∙ (ap (option_map Of) c.operation_named.ensures ∙ reported)

@@ -1,4 +1,4 @@
--- What `write_whole` has left is the bytes behind those that the writer got.
+-- What `write_whole` has left is the bytes after those that the writer got.
 use Rattle.std.proofs.Common.{◌≡◌, ℕ, take, drop}
 use Rattle.std.specs.Io.KnownBytes.{Appends}
 use Rattle.bench_io.proofs.std_io.write_whole.Given as goal

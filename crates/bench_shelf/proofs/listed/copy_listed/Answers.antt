@@ -1,4 +1,4 @@
-use Rattle.bench_shelf.proofs.ListedLaws.{answered_all, answered_before, untold_all, causes_all}
+use Rattle.bench_shelf.proofs.ListedLaws.{answered_all, answered_before, no_report_all, causes_all}
 use Rattle.bench_shelf.proofs.listed.copy_listed.Goals as goal
 
 pub returns-in-Ok-clause-answered : goal.returns-in-Ok-clause-answered
@@ -8,10 +8,10 @@ returns-in-Ok-clause-answered g c =
     c.keeping-copying.ensures.none c.keeping-copying.ensures.copies c.copy_lines.ensures.most c.listed.result c.in-Ok.ensures.copies c.listed.ensures.finishes
     c.in-Ok.ensures.grows.held
 
-pub returns-in-Ok-clause-untold : goal.returns-in-Ok-clause-untold
-returns-in-Ok-clause-untold g c =
+pub returns-in-Ok-clause-no_report : goal.returns-in-Ok-clause-no_report
+returns-in-Ok-clause-no_report g c =
     let held = c.in-Ok.ensures.grows.held in
-    untold_all held.0 held.1.taken.lines c.listed.result (c.listed.ensures.finishes held.0 held.1)
+    no_report_all held.0 held.1.taken.lines c.listed.result (c.listed.ensures.finishes held.0 held.1)
 
 pub returns-in-Ok-clause-causes : goal.returns-in-Ok-clause-causes
 returns-in-Ok-clause-causes g c =

@@ -1,5 +1,5 @@
 use Rattle.std.proofs.Common.{◌≡◌, ◌+◌, None, ◌∙◌, arith}
-use Rattle.bench_shelf.proofs.RunLaws.{at_here, at_behind}
+use Rattle.bench_shelf.proofs.RunLaws.{at_here, at_after}
 use Rattle.bench_shelf.proofs.runs.place_of.Goals as goal
 
 pub returns-then-left-run : goal.returns-then-left-run
@@ -11,5 +11,5 @@ returns-then-left-run c =
 
 pub loop-run-preserved : goal.loop-run-preserved
 loop-run-preserved c =
-    at_behind (record { file = None; line = c.args.number }) c.args.runs.now c.loop-run.run-index c.loop-run.left c.run-item.result c.loop-run-test.true
+    at_after (record { file = None; line = c.args.number }) c.args.runs.now c.loop-run.run-index c.loop-run.left c.run-item.result c.loop-run-test.true
     c.run-item.is c.if-left-run.false ∙ c.loop-run.invariant

@@ -8,7 +8,7 @@ use Rattle.reports.specs.Outputs.{Outputs, EndsWith}
 use Rattle.gpl_list_defs.specs.Text.{listing_lines}
 use Rattle.gpl_list_defs.specs.Listing.{report_by}
 use Rattle.gpl_list.specs.Listings.{model_of_listing, model_of_refusal}
-use Rattle.debug_commands.proofs.Listed.{rows_missed, rows_written, line_told}
+use Rattle.debug_commands.proofs.Listed.{rows_missed, rows_written, line_written}
 use Rattle.debug_commands.proofs.glist.finish_listing.Goals as goal
 
 pub returns-then-is_err : goal.returns-then-is_err
@@ -34,9 +34,9 @@ returns-in-Some g c =
       err' = g.E.Sink.state c.tell.new.err;
     } in
     let wrote = rows_written c.write.result o lines (sym c.is_err.ensures.value ∙ c.if-is_err.false) c.write.ensures in
-    let told = rw (c.as_slice.ensures.value, c.gpl_line.ensures) at c.tell.ensures in
+    let reported = rw (c.as_slice.ensures.value, c.gpl_line.ensures) at c.tell.ensures in
     subst (λ (refused : Result Unit (Refusal GplCause)). EndsWith o (report_by lines refused) c.tell.result) c.in-Some.ensures
-    (line_told o lines (gpl_line (model_of_refusal c.in-Some.refused)) c.tell.result wrote told)
+    (line_written o lines (gpl_line (model_of_refusal c.in-Some.refused)) c.tell.result wrote reported)
 
 pub returns-in-None : goal.returns-in-None
 returns-in-None g c =

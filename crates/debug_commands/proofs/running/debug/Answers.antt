@@ -1,7 +1,8 @@
 use Rattle.std.proofs.Common.{Option, refl, subst}
 use Rattle.debug_report_defs.specs.declared.command.DebugCommand.{DebugCommand}
 use Rattle.reports.specs.Run.{EndsSaid, Run}
-use Rattle.debug_commands.specs.Debug.{Reading, debug_program}
+use Rattle.file_commands.specs.Inputs.{Inputs}
+use Rattle.debug_commands.specs.Debug.{debug_program}
 use Rattle.debug_commands.proofs.ShelfUse.{takes_of_shelf}
 use Rattle.debug_commands.proofs.running.debug.Goals as goal
 
@@ -12,7 +13,7 @@ returns-in-Some-clause-ends g c =
     let out = g.O.Sink.state in
     let err = g.E.Sink.state in
     let new = c.run_debug_command.new in
-    let run : Option DebugCommand → Run DebugCommand Reading = λ said. record {
+    let run : Option DebugCommand → Run DebugCommand Inputs = λ said. record {
       said = said;
       before = record { input = source c.args.input.now; shelf = shelf c.args.shelf.now };
       after = record { input = source new.input; shelf = shelf new.shelf };
@@ -25,10 +26,10 @@ returns-in-Some-clause-shelf g c = takes_of_shelf _ c.run_debug_command.result (
 
 pub returns-in-None-clause-ends : goal.returns-in-None-clause-ends
 returns-in-None-clause-ends g c =
-    let reading : Reading = record { input = g.S.Source.state c.args.input.now; shelf = g.F.Shelf.shelf c.args.shelf.now } in
+    let reading : Inputs = record { input = g.S.Source.state c.args.input.now; shelf = g.F.Shelf.shelf c.args.shelf.now } in
     let out = g.O.Sink.state c.args.out.now in
     let err = g.E.Sink.state in
-    let run : Option DebugCommand → Run DebugCommand Reading = λ said. record {
+    let run : Option DebugCommand → Run DebugCommand Inputs = λ said. record {
       said = said;
       before = reading;
       after = reading;

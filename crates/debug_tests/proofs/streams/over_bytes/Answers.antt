@@ -6,7 +6,8 @@ use Rattle.report_defs.specs.declared.status.Status.{Status}
 use Rattle.report_defs.specs.declared.status.Status.TheVariants.{Done, Refused, Stopped}
 use Rattle.reports.specs.Streams.{EndsThrough, IsWhole}
 use Rattle.reports.proofs.Streams.{said_ending, vectors_hold_the_report}
-use Rattle.debug_commands.specs.Debug.{Reading, debug_program}
+use Rattle.file_commands.specs.Inputs.{Inputs}
+use Rattle.debug_commands.specs.Debug.{debug_program}
 use Rattle.debug_tests.proofs.streams.over_bytes.Goals as goal
 
 is_whole : (end : Status) → (end ≡ Done) ⊎ ((end ≡ Refused) ⊎ (end ≡ Stopped)) → IsWhole end
@@ -16,8 +17,8 @@ is_whole end (inr (inr is)) = subst IsWhole (sym is) tt
 
 pub returns-in-Done : goal.returns-in-Done
 returns-in-Done g c =
-    let enter : SourceState → Reading = λ s. record { input = s; shelf = g.F.Shelf.shelf c.args.shelf.now } in
-    let leave : SourceState → Reading = λ s. record { input = s; shelf = g.F.Shelf.shelf c.debug_through-status.new.shelf }
+    let enter : SourceState → Inputs = λ s. record { input = s; shelf = g.F.Shelf.shelf c.args.shelf.now } in
+    let leave : SourceState → Inputs = λ s. record { input = s; shelf = g.F.Shelf.shelf c.debug_through-status.new.shelf }
     in
     let Ends : List ℕ → Type 0 = λ bytes. EndsThrough
     (said_ending debug_program (debug_command c.args.words.now) enter leave)

@@ -1,7 +1,7 @@
 use Rattle.std.proofs.Common.{◌≡◌, ℕ, List, ◌++◌, length, ap, sym, ◌∙◌, length-append, arith}
 use Rattle.std.specs.List.{flat_map, range_with_len}
 use Rattle.report_defs.specs.DemoText.{demo_text, block_at, block_line, next_number, last_lines}
-use Rattle.demo_program.proofs.Blocks.{more_blocks, number_behind}
+use Rattle.demo_program.proofs.Blocks.{more_blocks, number_after}
 use Rattle.demo_program.proofs.text.demo_text.Goals as goal
 
 pub loop-index-preserved : goal.loop-index-preserved
@@ -22,7 +22,7 @@ loop-index-preserved c =
           grown.items
           ∙ (ap (λ (t : List ℕ). text ++ t) line
           ∙ (ap (λ (t : List ℕ). t ++ block_at number n) i.text ∙ sym (more_blocks number n)));
-      block = c.next_number-block_number-in-loop-index.ensures ∙ (ap next_number (c.from.ensures ∙ i.block) ∙ sym (number_behind number n));
+      block = c.next_number-block_number-in-loop-index.ensures ∙ (ap next_number (c.from.ensures ∙ i.block) ∙ sym (number_after number n));
       size = omega (arith, size, short, same, whole, before);
     }
 

@@ -1,15 +1,15 @@
 use Rattle.std.proofs.Common.{◌≡◌, ◌+◌, false, List, length}
 use Rattle.source_defs.specs.Lines.{LinesLieInside, line_texts}
-use Rattle.expression_defs.specs.Layout.{laid, laid_behind}
+use Rattle.expression_defs.specs.Layout.{laid, laid_after}
 use Rattle.expression_defs.proofs.LaidLaws.{IsNumbered, texts_of}
 use Rattle.gpl_source_defs.specs.Locations.{Line}
 use Rattle.gpl_source_defs.specs.FirstChecks.{check}
-use Rattle.gpl_asm.specs.Building.{IsBehind}
+use Rattle.gpl_asm.specs.Building.{IsAfter}
 use Rattle.gpl_asm.proofs.source.gpl_assemble.Given as goal
 
 -- some lines were taken, none of which ends the source, and the lines that are left go on from there
 abbrev pub invariant-loop-line : goal.invariant-loop-line
 invariant-loop-line l =
-    (before : List Line) × IsBehind before l.builder × (l.builder.ended ≡ false) × LinesLieInside l.text l.line-iterator
+    (before : List Line) × IsAfter before l.builder × (l.builder.ended ≡ false) × LinesLieInside l.text l.line-iterator
     × IsNumbered (length before + 1) l.line-iterator
-    × (laid_behind check before (texts_of l.text l.line-iterator) ≡ laid check (line_texts l.text))
+    × (laid_after check before (texts_of l.text l.line-iterator) ≡ laid check (line_texts l.text))

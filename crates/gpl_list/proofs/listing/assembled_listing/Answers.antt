@@ -12,7 +12,7 @@ use Rattle.gpl_list.proofs.listing.assembled_listing.Goals as goal
 
 pub returns-in-Ok : goal.returns-in-Ok
 returns-in-Ok c = λ texts lines keeps.
-    let same = c.names.ensures lines keeps.behind in
+    let same = c.names.ensures lines keeps.after_lines in
     let rest = keeps.rows.0 in
     let describes = subst (λ (known : Names). Describes texts known [] rest c.args.read.rows.items) (sym same)
     (keeps.rows.2 (names lines) (grown_not (names lines))) in
@@ -22,7 +22,7 @@ returns-in-Ok c = λ texts lines keeps.
 
 pub returns-in-Err-At : goal.returns-in-Err-At
 returns-in-Err-At c = λ texts lines keeps.
-    let same = c.names.ensures lines keeps.behind in
+    let same = c.names.ensures lines keeps.after_lines in
     let rest = keeps.rows.0 in
     let describes = subst (λ (known : Names). Describes texts known [] rest c.args.read.rows.items) (sym same)
     (keeps.rows.2 (names lines) (grown_not (names lines))) in

@@ -1,7 +1,7 @@
 use Rattle.std.proofs.Common.{◌≡◌, ℕ, List, ◌+◌, ◌/◌, ◌%◌, length, drop, ap, subst, ◌∙◌, arith}
 use Rattle.std.proofs.lemmas.Result.{err_from_is_err_and}
 use Rattle.bench_io.specs.Written.{Written}
-use Rattle.bench_io.proofs.Writes.{missed_at, written_behind}
+use Rattle.bench_io.proofs.Writes.{missed_at, written_after}
 use Rattle.gpl_list_defs.specs.Text.{line_text, further_lines, row_lines}
 use Rattle.gpl_list.specs.Reading.{model_of_row}
 use Rattle.gpl_list.proofs.Further.{rows_wrap}
@@ -24,5 +24,5 @@ returns g c =
     let lines : further_lines ((c.address.result + 8) % 65536) c.further_bytes.result.now ≡ further_lines (row.at + 8) (drop 8 row.bytes) =
     ap (further_lines ((c.address.result + 8) % 65536)) bytes
     ∙ rows_wrap ((length (drop 8 row.bytes) + 7) / 8) ((c.address.result + 8) % 65536) (row.at + 8) (drop 8 row.bytes) (omega (arith, c.address.ensures.value)) in
-    written_behind _ _ _ _ (line_text row) (further_lines (row.at + 8) (drop 8 row.bytes)) wrote
+    written_after _ _ _ _ (line_text row) (further_lines (row.at + 8) (drop 8 row.bytes)) wrote
     (subst (λ (lines : List (List ℕ)). Written c.put_further.result (g.O.Sink.state c.put_chunk.new.sink) (g.O.Sink.state c.put_further.new.out) lines) lines c.put_further.ensures)

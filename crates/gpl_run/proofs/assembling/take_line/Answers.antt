@@ -17,7 +17,7 @@ pub unreachable-requires : goal.unreachable-requires
 unreachable-requires c =
     let has = c.requires.1 in
     let there = subst (λ text. RefusesAt c.in-Err-At.field-0 (laid check (numbered 1 (has.texts ++ text ∷ [])))) c.as_bytes.ensures.value
-    (c.in-Err-At.ensures has.texts has.taken).0 in
+    (c.in-Err-At.ensures.texts has.texts has.taken).0 in
     let refuses = refused c.requires.0 c.args.line.now c.args.builder.now has c.in-Err-At.field-0 there in
     let assembled = source_gives_words.1.links.assembled in
     search rules
@@ -25,4 +25,4 @@ unreachable-requires c =
 pub returns-in-Ok : goal.returns-in-Ok
 returns-in-Ok c rest has =
     goes_on rest c.args.line.now c.args.builder.now has c.line.new.self
-    (subst (λ text. HasAccepted (has.texts ++ text ∷ []) c.line.new.self) c.as_bytes.ensures.value (c.in-Ok.ensures has.texts has.taken))
+    (subst (λ text. HasAccepted (has.texts ++ text ∷ []) c.line.new.self) c.as_bytes.ensures.value (c.in-Ok.ensures.texts has.texts has.taken))

@@ -35,7 +35,7 @@ pub returns-in-Some-clause-found : goal.returns-in-Some-clause-found
 returns-in-Some-clause-found g c =
     let place = c.in-Some.place in
     let at = slice_get-get_or c.loop-made.watched place c.index-watched-place.result c.in-Some.ensures.within in
-    let first = WatchedRuns.first_told c.next.new.self c.loop-made.watched c.pc-reached.ensures c.first_that_holds.ensures.first ∙ c.in-Some.is in
+    let first = WatchedRuns.first_reported c.next.new.self c.loop-made.watched c.pc-reached.ensures c.first_that_holds.ensures.first ∙ c.in-Some.is in
     WatchedRuns.hit_found c.next.new.self c.next.new.steps c.loop-made.invariant c.in_default.is
     c.next.ensures.turned c.next.ensures.ended place c.args.limit first c.loop-made-test.true at c.hit-found.ensures c.pc-from.ensures c.change.ensures
 
@@ -58,7 +58,7 @@ pub loop-made-preserved : goal.loop-made-preserved
 loop-made-preserved g c =
     WatchedRuns.goes_on c.next.new.self c.next.new.steps c.loop-made.invariant c.in_default.is
     c.next.ensures.turned c.next.ensures.ended
-    (WatchedRuns.first_told c.next.new.self c.loop-made.watched c.pc-reached.ensures c.first_that_holds.ensures.first ∙ c.in_default-first_that_holds.is)
+    (WatchedRuns.first_reported c.next.new.self c.loop-made.watched c.pc-reached.ensures c.first_that_holds.ensures.first ∙ c.in_default-first_that_holds.is)
 
 pub returns-clause-found : goal.returns-clause-found
 returns-clause-found g c =

@@ -15,4 +15,4 @@ loop-at-preserved c =
     ]
 
 pub returns : goal.returns
-returns c = let behind = no_count c.args.a.now c.args.b.now c.loop-at.at (omega arith) in omega arith
+returns c = let after = no_count c.args.a.now c.args.b.now c.loop-at.at (omega arith) in omega arith

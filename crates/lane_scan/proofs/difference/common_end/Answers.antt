@@ -13,4 +13,4 @@ returns-else-a-at c =
     omega arith
 
 pub returns-after-loop-at : goal.returns-after-loop-at
-returns-after-loop-at c = let behind = no_place c.args.a.now c.args.b.now c.loop-at.at (omega arith) in omega arith
+returns-after-loop-at c = let after = no_place c.args.a.now c.args.b.now c.loop-at.at (omega arith) in omega arith

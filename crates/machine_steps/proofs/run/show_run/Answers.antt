@@ -48,3 +48,9 @@ returns-clause-shows g c =
     let state = g.O.Sink.state in
     let all : c.loop-made.made ≡ c.args.limit = let a = c.loop-made-test.false in let b = c.loop-made.auto.made-end in omega arith in
     ShownRuns.limited c.args.limit c.args.machine.now c.loop-made.machine c.loop-made.made (state c.args.out.now) (state c.loop-made.out) c.loop-made.seen c.loop-made.invariant all
+
+pub returns-in-Port-clause-shows : goal.returns-in-Port-clause-shows
+returns-in-Port-clause-shows g c =
+    let state = g.O.Sink.state in
+    ShownRuns.at_port c.args.limit c.args.machine.now c.loop-made.machine c.loop-made.made (state c.args.out.now) (state c.loop-made.out) c.loop-made.seen c.loop-made.invariant
+    c.loop-made-test.true c.step.result c.step.new.self c.step.ensures.step c.in-Port.address c.in-Port.is c.in-Port.ensures.stopped

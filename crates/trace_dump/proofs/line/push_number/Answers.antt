@@ -1,5 +1,5 @@
 use Rattle.std.proofs.Common.{◌≡◌, ◌+◌, ◌-◌, ◌++◌, length, replicate, ap, ◌∙◌, append_assoc, arith}
-use Rattle.report_defs.specs.Trace.{number_text}
+use Rattle.source_defs.specs.Digits.{right_in}
 use Rattle.trace_dump.proofs.Decimals.{six_digits}
 use Rattle.trace_dump.proofs.Numbers.{blank_more, no_blank}
 use Rattle.trace_dump.proofs.line.push_number.Goals as goal
@@ -30,7 +30,7 @@ push_str-requires-2 c =
     (omega arith, omega arith)
 
 pub returns-clause-text : goal.returns-clause-text
-unfolding number_text
+unfolding right_in
 returns-clause-text c =
     let short = six_digits c.args.number c.format-digits.result.now c.requires.number c.format-digits.ensures.text in
     let i = c.loop.invariant in

@@ -28,7 +28,7 @@ loop-span-preserved c =
     (model_of_word c.in_ok-word.word) c.in_ok-word.ensures in
     record {
       inside = inside.1;
-      room = omega (arith, ap length c.in-Some.ensures.steps, i.room, ap (λ place. place.number) c.behind-place.ensures);
-      so_far = rw (longer, c.behind-place.ensures) (sym more
+      room = omega (arith, ap length c.in-Some.ensures.steps, i.room, ap (λ place. place.number) c.after-place.ensures);
+      so_far = rw (longer, c.after-place.ensures) (sym more
           ∙ (ap (λ spans. prepended front (data_values look at c.loop-span.place (map (part field) spans))) (sym c.in-Some.ensures.steps) ∙ i.so_far));
     }

@@ -29,11 +29,11 @@ returns-in_err-keep-clause-unchanged c =
 pub returns-clause-added : goal.returns-clause-added
 returns-clause-added c =
     worked c.args.self.now c.prepare.new.self c.keep-2.new.self c.emit.new.self c.args.text.now c.args.checked.now
-    c.in_ok-waiting.field-0.waiting c.in_ok-waiting.field-0.emitted c.behind-at.result
-    (sym c.is_some.ensures ∙ c.if-is_some.false) c.prepare.ensures.lines c.prepare.ensures.image c.behind-at.ensures
+    c.in_ok-waiting.field-0.waiting c.in_ok-waiting.field-0.emitted c.after-at.result
+    (sym c.is_some.ensures ∙ c.if-is_some.false) c.prepare.ensures.lines c.prepare.ensures.image c.after-at.ensures
     (subst (λ (at : Location). AssemblesBy c.prepare.new.self.symbols (c.prepare.new.self.taken + 1) at c.args.text.now
     (model_of_statement c.args.checked.now.parsed.statement) c.in_ok-waiting.field-0.waiting c.in_ok-waiting.field-0.emitted)
-    (sym c.behind-at.ensures) c.in_ok-waiting.ensures)
+    (sym c.after-at.ensures) c.in_ok-waiting.ensures)
     c.in_ok-keep.ensures.kept c.keep-2.ensures.work c.keep-2.ensures.still c.emit.ensures.known
-    (subst (λ waits. Emits c.keep-2.new.self c.behind-at.result c.in_ok-waiting.field-0.emitted waits c.emit.new.self) c.is_some-waits.ensures
+    (subst (λ waits. Emits c.keep-2.new.self c.after-at.result c.in_ok-waiting.field-0.emitted waits c.emit.new.self) c.is_some-waits.ensures
     c.emit.ensures.emits)

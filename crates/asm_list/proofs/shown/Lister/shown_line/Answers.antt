@@ -12,7 +12,7 @@ returns-in-Err-Refused c =
     let line = c.args.line.now in
     let answer = parse_line line.text.items in
     let parsed = rw c.as_slice.ensures.value at c.in-Err-Refused.ensures.parsed in
-    let is = nothing_said (known_to c.args.self.now) line.here c.in-Err-Refused.field-0-0 answer
+    let is = nothing_said (known_to c.args.self.now) line.taken.at line.taken.origin c.in-Err-Refused.field-0-0 answer
     (subst (λ (failure : Failure). Fails {B = Statement} failure answer) c.in-Err-Refused.field-0-is parsed) in
-    subst (λ (defined : listed.Shown). Shows (record { at = line.here; placed = c.new.result }) defined) is
+    subst (λ (defined : listed.Shown). Shows (record { at = line.taken.at; placed = c.new.result }) defined) is
     (record { at = refl; placed = c.new.ensures.items ∙ nothing_text })

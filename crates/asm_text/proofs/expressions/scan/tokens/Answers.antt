@@ -4,13 +4,13 @@ use Rattle.std.specs.Result.{is_ok}
 use Rattle.std.proofs.lemmas.List.{map-append}
 use Rattle.std.proofs.lemmas.Result.{err_from_is_err_and}
 use Rattle.expression_defs.specs.Tokens.{tokens}
-use Rattle.expression_defs.proofs.TokenLaws.{token_goes, behind_none, tokens_bad, tokens_more, tokens_end, tokens_follow}
+use Rattle.expression_defs.proofs.TokenLaws.{token_goes, after_none, tokens_bad, tokens_more, tokens_end, tokens_follow}
 use Rattle.asm_text.specs.GivenTokens.{model_of_token}
 use Rattle.asm_text.proofs.expressions.scan.tokens.Goals as goal
 
 pub loop-start-init : goal.loop-start-init
 loop-start-init c =
-    (length c.args.text.now, omega arith, omega arith, rw c.new-found.ensures.items (behind_none (tokens c.args.text.now)))
+    (length c.args.text.now, omega arith, omega arith, rw c.new-found.ensures.items (after_none (tokens c.args.text.now)))
 
 pub returns-in_err-token-clause-cause : goal.returns-in_err-token-clause-cause
 returns-in_err-token-clause-cause c =

@@ -1,7 +1,7 @@
 use Rattle.std.proofs.Common.{◌≡◌, [], ap, ◌∙◌}
 use Rattle.std.specs.Prelude.{map}
-use Rattle.asm_list_defs.specs.Listed.{heres}
-use Rattle.bench_shelf.specs.Kept.{model_of_kept}
+use Rattle.asm_list_defs.specs.Listed.{shown, defined}
+use Rattle.bench_shelf.specs.Kept.{model_of_kept, shown_of, names_of}
 use Rattle.bench_shelf.proofs.copying.Copying.keeping.Goals as goal
 
 pub returns-clause-none : goal.returns-clause-none
@@ -13,6 +13,7 @@ returns-clause-none c =
       places = holds.places;
       kept = record {
         are = ap (map model_of_kept) c.new.ensures.items;
-        heres = ap (map (λ line. line.here)) c.new.ensures.items ∙ ap heres none;
+        shown = λ known. ap (map (shown_of known)) c.new.ensures.items ∙ ap (shown known) none;
+        names = ap (map names_of) c.new.ensures.items ∙ ap defined none;
       };
     }

@@ -5,7 +5,7 @@ use Rattle.asm_core.specs.Finishing.{GivesModule}
 use Rattle.shelf_defs.specs.Assembly.{texts}
 use Rattle.bench_shelf.specs.Runs.{places_of}
 use Rattle.bench_shelf.specs.Kept.{IsKept}
-use Rattle.bench_shelf.proofs.ListedLaws.{all_assembled, refused_told}
+use Rattle.bench_shelf.proofs.ListedLaws.{all_assembled, refused_reported}
 use Rattle.bench_shelf.proofs.copying.Copying.listed.Goals as goal
 
 pub returns-in-Ok : goal.returns-in-Ok
@@ -28,7 +28,7 @@ returns-in-Ok-refused_line c = record {
         subst (IsKept done holds.taken.lines) c.unwrap-lines.ensures holds.kept,
         (
           c.finish_with_names-module.ensures.names (texts done) holds.taken,
-          refused_told done c.args.self.builder holds.taken c.as_slice.result.now c.in-Err.error c.in-Ok-refused_line.field-0
+          refused_reported done c.args.self.builder holds.taken c.as_slice.result.now c.in-Err.error c.in-Ok-refused_line.field-0
               (ap places_of c.as_slice.ensures.value ∙ holds.places)
               (subst (λ answer. GivesModule answer (module_of_lines (texts done))) c.in-Err.is gives) c.in-Ok-refused_line.ensures,
         ),

@@ -1,6 +1,6 @@
 use Rattle.std.proofs.Common.{refl}
 use Rattle.bench_shelf.proofs.FolderLaws.{
-  nothing_told,
+  nothing_said,
   nothing_left,
   tells_refused,
   tells_counts,
@@ -18,7 +18,7 @@ open_file-tells g c =
     let before = c.args.self.now in
     let after = c.new.self.now in
     record {
-      opened = nothing_told c.result;
+      opened = nothing_said c.result;
       refused = tells_refused before after c.args.name.now c.result c.ensures;
       end = nothing_left c.result;
       counts = tells_counts before after c.result c.ensures;

@@ -7,7 +7,7 @@ use Rattle.source_defs.proofs.FieldLaws.{fields_stand_apart}
 use Rattle.expression_defs.specs.Layout.{with_names}
 use Rattle.gpl_source_defs.specs.declared.location.Location.{Location}
 use Rattle.expression_defs.specs.Growing.{Grows}
-use Rattle.gpl_source_defs.specs.Locations.{location, behind, origin_of}
+use Rattle.gpl_source_defs.specs.Locations.{location, after, origin_of}
 use Rattle.expression_defs.specs.Layout.{set_or}
 use Rattle.gpl_source_defs.specs.FirstChecks.{checked, line_of, names, label_entry, label_value, is_taken, is_full, is_end}
 use Rattle.gpl_source_defs.specs.SecondChecks.{outcome}
@@ -16,7 +16,7 @@ use Rattle.gpl_source_defs.proofs.CheckLaws.{is_let_through}
 use Rattle.gpl_asm.specs.Replay.{answer}
 use Rattle.gpl_asm.proofs.LineLaws.{place_is}
 use Rattle.gpl_asm.proofs.CountLaws.{counted}
-use Rattle.gpl_asm.proofs.TakeLaws.{leads_on, reaches, is_behind}
+use Rattle.gpl_asm.proofs.TakeLaws.{leads_on, reaches, is_after}
 use Rattle.gpl_asm.proofs.lines.GplLines.take.Goals as goal
 
 pub returns-then-is_comment-clause-short : goal.returns-then-is_comment-clause-short
@@ -54,7 +54,7 @@ returns-clause-takes c = λ lines is.
     let keeps = c.in_ok-keep.ensures in (
       line_of (location lines) (length lines + 1) found,
       ap (λ answer. answer >>= λ found. Ok (line_of (location lines) (length lines + 1) found)) here,
-      is_behind lines builder is found c.in_ok-rest.rest c.advance.new.self
+      is_after lines builder is found c.in_ok-rest.rest c.advance.new.self
           (λ later grows.
           ap (λ (at : Location). answer later at c.in_ok-rest.rest) (sym at)
           ∙ (c.in_ok-rest.ensures.answers later (subst (λ (known : Names). Grows known later) (sym known) grows)
@@ -64,9 +64,9 @@ returns-clause-takes c = λ lines is.
             waiting = went.waiting.waiting ∙ keeps.waiting;
             names = went.waiting.names ∙ (keeps.defined ∙ ap (λ number. with_names builder.symbols (label_entry found.label number)) c.label_value-value.ensures);
             location = went.location
-                ∙ (ap (λ (origin : Option Location). behind (set_or origin c.keep.new.self.location) c.in-Ok.checked.size) c.origin-origin.ensures.origin
-                ∙ (ap (λ (at : Location). behind (set_or (origin_of builder.location found.statement) at) c.in-Ok.checked.size) keeps.still.location
-                ∙ ap (behind (set_or (origin_of builder.location found.statement) builder.location)) c.in-Ok.ensures.size));
+                ∙ (ap (λ (origin : Option Location). after (set_or origin c.keep.new.self.location) c.in-Ok.checked.size) c.origin-origin.ensures.origin
+                ∙ (ap (λ (at : Location). after (set_or (origin_of builder.location found.statement) at) c.in-Ok.checked.size) keeps.still.location
+                ∙ ap (after (set_or (origin_of builder.location found.statement) builder.location)) c.in-Ok.ensures.size));
             taken = went.taken ∙ ap (λ taken. taken + 1) keeps.still.taken;
             ended = went.ended ∙ ap (λ ended. is_end found.statement || ended) keeps.still.ended;
           }),

@@ -1,6 +1,6 @@
 use Rattle.std.proofs.Common.{◌∷◌, sym, ◌∙◌, arith}
 use Rattle.module_image.proofs.TableLaws.{words_most}
-use Rattle.module_image.proofs.RoomLaws.{is_full, is_over, has_room, words_counted, image_behind, overlaps_are}
+use Rattle.module_image.proofs.RoomLaws.{is_full, is_over, has_room, words_counted, image_after, overlaps_are}
 use Rattle.module_image.proofs.image.Image.place.Goals as goal
 
 pub overflow_add-self : goal.overflow_add-self
@@ -15,7 +15,7 @@ overflow_add-self c =
 
 pub returns-then-self : goal.returns-then-self
 returns-then-self c = λ references earlier line is at given.
-    let image = image_behind references earlier line c.args.at c.args.contents.now c.args.self.now is at given c.requires c.fill_reserved.new.self c.fill_reserved.ensures in
+    let image = image_after references earlier line c.args.at c.args.contents.now c.args.self.now is at given c.requires c.fill_reserved.new.self c.fill_reserved.ensures in
     record {
       room = sym (is_full earlier line (omega (arith, words_counted references (line ∷ earlier) c.fill_reserved.new.self image, c.if-self.true)));
       image = image;
@@ -23,7 +23,7 @@ returns-then-self c = λ references earlier line is at given.
 
 pub returns-then-overlaps : goal.returns-then-overlaps
 returns-then-overlaps c = λ references earlier line is at given.
-    let image = image_behind references earlier line c.args.at c.args.contents.now c.args.self.now is at given c.requires c.fill_reserved.new.self c.fill_reserved.ensures in
+    let image = image_after references earlier line c.args.at c.args.contents.now c.args.self.now is at given c.requires c.fill_reserved.new.self c.fill_reserved.ensures in
     record {
       room = sym (is_over earlier line (omega (arith, words_counted references (line ∷ earlier) c.fill_reserved.new.self image, c.if-self.false))
           (sym (overlaps_are references earlier line c.args.at c.args.contents.now c.args.self.now is at given c.requires)
@@ -33,7 +33,7 @@ returns-then-overlaps c = λ references earlier line is at given.
 
 pub returns : goal.returns
 returns c = λ references earlier line is at given.
-    let image = image_behind references earlier line c.args.at c.args.contents.now c.args.self.now is at given c.requires c.fill_reserved.new.self c.fill_reserved.ensures in
+    let image = image_after references earlier line c.args.at c.args.contents.now c.args.self.now is at given c.requires c.fill_reserved.new.self c.fill_reserved.ensures in
     record {
       room = sym (has_room earlier line (omega (arith, words_counted references (line ∷ earlier) c.fill_reserved.new.self image, c.if-self.false))
           (sym (overlaps_are references earlier line c.args.at c.args.contents.now c.args.self.now is at given c.requires)

@@ -23,7 +23,7 @@ steps c =
     next_checksum line at inside c.self.inside.total c.self.invariant.2 in
     let is : found ≡ found_with c.self.inside.form (checksum (take at line ++ get_or line at 0 ∷ [])) (get_or line at 0)
     (tag_at c.self.inside.form at (get_or line at 0)) (drop (at + 1) line) =
-    c.found_with-found.ensures ∙ rw (c.complement.ensures, c.from.ensures, sum, c.tag_at-tag.ensures, c.behind-fields.ensures) refl in
+    c.found_with-found.ensures ∙ rw (c.complement.ensures, c.from.ensures, sum, c.tag_at-tag.ensures, c.after-fields.ensures) refl in
     sym c.self.view_is ∙ (first_group line at inside c.self.inside.form found is ∙ ap (λ (gs : List FoundGroup). found ∷ gs) (left c))
   where
     left : (c : goal.After-self-2)
@@ -33,7 +33,7 @@ steps c =
         ≡ c.if-ends_line.self
     left c = elim c.if-ends_line.branch [
       | then-ends_line w ↦ rw (sym (w.if-ends_line.ensures {u = tt})) (sym (w.self-is ∙ (w.new.ensures ∙ none_left c.self.inside.form)))
-      | else-ends_line w ↦ rw (sym (w.if-ends_line.ensures {u = tt}), sym w.size.ensures) (sym (w.self-is ∙ w.behind.ensures))
+      | else-ends_line w ↦ rw (sym (w.if-ends_line.ensures {u = tt}), sym w.size.ensures) (sym (w.self-is ∙ w.after.ensures))
     ]
 
 pub returns-clause-steps : goal.returns-clause-steps

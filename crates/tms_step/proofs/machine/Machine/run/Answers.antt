@@ -71,9 +71,9 @@ returns-clause-run g c =
     let number : c.loop-made.steps - c.args.steps.now ≡ c.loop-made._made = omega arith in
     let all : c.loop-made._made ≡ c.args.limit = omega arith in
     let at = c.loop-made.self in
-    let told : c.end_at_limit.result ≡ end_at_limit c.args.stop at.cpu.pc =
+    let reported : c.end_at_limit.result ≡ end_at_limit c.args.stop at.cpu.pc =
     c.end_at_limit.ensures ∙ ap (end_at_limit c.args.stop) c.pc-2.ensures.value in
-    rw (number, told)
+    rw (number, reported)
     (run_at_limit c.args.stop c.args.limit c.loop-made._made c.args.self.now at c.loop-made.invariant.0 all)
 
 pub returns-in-Some-clause-limit : goal.returns-in-Some-clause-limit

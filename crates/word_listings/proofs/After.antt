@@ -1,4 +1,4 @@
--- Lines behind others: where they stand, what they hold, where one is refused; and those of words, to the last line.
+-- Lines after others: where they stand, what they hold, where one is refused; and those of words, to the last line.
 use Rattle.std.proofs.Common.{◌≡◌, ℕ, ◌+◌, ◌*◌, ◌≤◌, Bool, true, false, List, [], ◌∷◌, ◌++◌, zero, suc, ◌%◌}
 use Rattle.std.proofs.Common.{length, refl, ap, ◌∙◌, Ok, Some, None, arith}
 use Rattle.std.specs.Option.{option_map}
@@ -9,7 +9,7 @@ use Rattle.source_defs.specs.ListedLines.{listed}
 use Rattle.expression_defs.specs.Expression.{Absolute}
 use Rattle.expression_defs.specs.Symbols.{predefined}
 use Rattle.source_defs.specs.Lines.{numbered}
-use Rattle.expression_defs.specs.Layout.{laid_behind, assembled_lines}
+use Rattle.expression_defs.specs.Layout.{laid_after, assembled_lines}
 use Rattle.object_defs.specs.Digits.{padded}
 use Rattle.object_defs.specs.Modules.{Module}
 use Rattle.asm_defs.specs.declared.causes.AsmCause.{AsmCause}
@@ -17,7 +17,7 @@ use Rattle.asm_defs.specs.declared.location.Location.{Location}
 use Rattle.asm_defs.specs.declared.location.Part.{Part}
 use Rattle.asm_defs.specs.declared.location.Part.TheVariants as part
 use Rattle.asm_defs.specs.Statements.{statement_in}
-use Rattle.asm_defs.specs.Locations.{Line, location, place, reached, relocatable, behind, value_of}
+use Rattle.asm_defs.specs.Locations.{Line, location, place, reached, relocatable, after, value_of}
 use Rattle.asm_defs.specs.FirstChecks.{EarlierLines, Checked, parsed, moved, checked, check, known_of, line_of, names, refs, defs}
 use Rattle.asm_defs.specs.SecondChecks.{Outcome, Words}
 use Rattle.asm_defs.specs.Memory.{AssembledLine}
@@ -36,7 +36,7 @@ use Rattle.asm_defs.specs.declared.causes.AsmCause.TheVariants.{Form}
 use Rattle.word_listings.specs.Modules.{wraps, wrapping_from, unless_far}
 use Rattle.word_listings.proofs.Instructions.{AreWords}
 
--- lines behind which the location is an absolute place, and which say nothing else
+-- lines after which the location is an absolute place, and which say nothing else
 pub record Stands (before : List Line) (at : ℕ) : Type 0 where
   pub names_are : names before ≡ predefined
   pub location_is : location before ≡ absolute_at at
@@ -48,7 +48,7 @@ pub record Stands (before : List Line) (at : ℕ) : Type 0 where
 pub same_place : (m n : ℕ) → m ≡ n → absolute_at m ≡ absolute_at n
 same_place m n e = ap absolute_at e
 
--- a line that is let through behind others
+-- a line that is let through after others
 pub record Taken (before : List Line) (number : ℕ) (text : List ℕ) (at next : ℕ) (last : Bool) (answer : Result Outcome AsmCause) : Type 0 where
   pub line : Line
   pub check_is : check before number (listed text) ≡ Ok line
@@ -58,10 +58,10 @@ pub record Taken (before : List Line) (number : ℕ) (text : List ℕ) (at next 
   pub assemble_is : (earlier : List AssembledLine) → assembled_line predefined before earlier line
       ≡ (answer >>= λ found. with_room earlier (record { at = absolute_at at; outcome = found }))
 
--- a line by itself is let through behind others
+-- a line by itself is let through after others
 module _ (at : ℕ) (text : List ℕ) (size : ℕ) (last : Bool) (answer : Result Outcome AsmCause) (back : LineBack at text size last answer) (fits : at + size ≤ 65536) where
   abbrev found : Checked
-  found = record { label = None; statement = back.statement; move = record { origin = None; gap = 0; size = size; label = value_of (behind (absolute_at at) 0) } }
+  found = record { label = None; statement = back.statement; move = record { origin = None; gap = 0; size = size; label = value_of (after (absolute_at at) 0) } }
 
   in_part : nat_le (at + (0 + size)) 65536 ≡ true
   in_part = grind (arith, nat_tests, fits)
@@ -87,7 +87,7 @@ module _ (at : ℕ) (text : List ℕ) (size : ℕ) (last : Bool) (answer : Resul
         here_by found m n p e = rw (p, e) refl
 
     place_is : place before line ≡ absolute_at at
-    place_is = ap (λ here. behind here 0) stands.location_is ∙ same_place (at + 0) at (omega arith)
+    place_is = ap (λ here. after here 0) stands.location_is ∙ same_place (at + 0) at (omega arith)
 
     with_no_names : (before : List Line) → names before ≡ predefined → names (line_of number found ∷ before) ≡ predefined
     with_no_names before e = rw back.own.refs e
@@ -124,15 +124,15 @@ Fails before refusal = assembled_lines (assembled_line predefined) before ≡ Er
 pub fails_still : (line : Line) (before : List Line) (refusal : Refusal AsmCause) → Fails before refusal → Fails (line ∷ before) refusal
 fails_still line before refusal e = rw e refl
 
--- what lines come to: words that stand one behind the other from a place on, or a refusal
+-- what lines come to: words that stand one after the other from a place on, or a refusal
 abbrev pub Comes : List Line → ℕ → Result (List ℕ) (Refusal AsmCause) → Type 0
 Comes before from (Ok words) = (earlier : List AssembledLine) × Holds before earlier from words
 Comes before from (Err refusal) = Fails before refusal
 
--- lines behind others, to the last
+-- lines after others, to the last
 pub record Ends (before : List Line) (number : ℕ) (texts : List (List ℕ)) (answer : Result Module (Refusal AsmCause)) : Type 0 where
   pub all : List Line
-  pub laid_is : laid_behind check before (numbered number (map listed texts)) ≡ Ok all
+  pub laid_is : laid_after check before (numbered number (map listed texts)) ≡ Ok all
   pub names_are : names all ≡ predefined
   pub module_is : (assembled_lines (assembled_line predefined) all >>= λ found. Ok (module_by all found)) ≡ answer
 
@@ -153,7 +153,7 @@ ends_more before number text texts at next come answer taken ends = record {
   all = ends.all;
   laid_is =
       rw taken.check_is
-      (chosen taken.line.last false (Ok (taken.line ∷ before)) (laid_behind check (taken.line ∷ before) (numbered (number + 1) (map listed texts))) taken.last_is
+      (chosen taken.line.last false (Ok (taken.line ∷ before)) (laid_after check (taken.line ∷ before) (numbered (number + 1) (map listed texts))) taken.last_is
       ∙ ends.laid_is);
   names_are = ends.names_are;
   module_is = ends.module_is;
@@ -208,7 +208,7 @@ pub drop_words : (count : ℕ) (words : List ℕ) → AreWords words → AreWord
 drop_words count words are k = rw (get_or-drop count words k 0) (are (count + k))
 
 module _ (from : ℕ) (total : List ℕ) (tails : List (List ℕ)) (whole : Module) (end : ℕ) (below : end ≤ 65536) where
-  -- the last lines, behind all words or where a line before is refused
+  -- the last lines, after all words or where a line before is refused
   abbrev pub Closes : Type 0
   Closes =
       (before : List Line) (number : ℕ) → Stands before end →

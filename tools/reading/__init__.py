@@ -1,0 +1,1 @@
+"""Which definitions a reader believes."""
