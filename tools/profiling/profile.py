@@ -1,0 +1,77 @@
+"""A run that is profiled: its counts, its routines, and its deepest stacks."""
+import typing
+
+from lib.languages import ASSEMBLER, GPL
+from profiling.authors import Author
+from profiling.counts import Counts
+from profiling.routines import Calls, GplCalls, ProcessorCalls
+from stepping.run import first_state
+
+
+class Stack(typing.NamedTuple):
+    """What a stack of GPL holds, and the bytes of each."""
+    name: str
+    size: int
+
+
+DATA, RETURNS = Stack('bytes of data', 1), Stack('return addresses', 2)
+
+
+class Deepest:
+    """The highest value of each stack pointer of a GPL program before a step, with the first step that had it."""
+
+    def __init__(self):
+        self.first = dict(zip((DATA, RETURNS), bytes.fromhex(first_state()[0][1])))
+        self.found = {stack: (value, None) for stack, value in self.first.items()}
+
+    def take(self, step):
+        _, data, returns = step.before
+        if returns > self.found[RETURNS][0]:
+            self.found[RETURNS] = (returns, step)
+        if data > self.found[DATA][0]:
+            self.found[DATA] = (data, step)
+
+
+class Profile(typing.NamedTuple):
+    """A profile: how many steps were made, how the run ended, as a sentence; the counts, the calls, the deepest stacks,
+    if there are any, and the author of the lines."""
+    steps: int
+    end: str
+    counts: Counts
+    calls: Calls
+    deepest: typing.Optional[Deepest]
+    author: Author
+
+
+def of_gpl(stream, listing, author):
+    """The profile of a GPL program."""
+    counts, calls, deepest = Counts(listing, GPL), GplCalls(), Deepest()
+    for step in counted(stream, counts, calls):
+        deepest.take(step)
+    return Profile(stream.count, stream.end, counts, calls, deepest, author)
+
+
+def of_processor(stream, listing, author):
+    """The profile of a program of the processor."""
+    counts, calls = Counts(listing, ASSEMBLER), ProcessorCalls(listing.lines)
+    for _ in counted(stream, counts, calls):
+        pass
+    return Profile(stream.count, stream.end, counts, calls, None, author)
+
+
+def counted(stream, counts, calls):
+    """The steps of a run, each once it is counted."""
+    before = None
+    for step in stream:
+        address = calls.address(step)
+        if before is None:
+            counts.began(address)
+        else:
+            counts.went(before, address)
+        calls.take(step)
+        before = address
+        yield step
+    if before is not None:
+        counts.went(before, stream.last)
+    if stream.is_over:
+        counts.ended(stream.last)
