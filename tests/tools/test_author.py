@@ -88,8 +88,19 @@ class Author(Calling):
         self.assertEqual(ended.stderr, b'game/board.gpl:1: duplicate label\n    N      EQU  >8301\n'
                                        b'game/board.gpl:1: note: N has its value from -D N\n')
         self.file('a.a', b' END\n')
-        self.assertEqual(self.call('assemble', '-D', 'A', 'a.a').returncode, 2)
         self.assertEqual(self.call('steps', '--exec', '-D', 'A', 'a.a').returncode, 2)
+
+    def test_a_line_of_which_several_are_made_is_once_on_a_page(self):
+        self.file('game/bytes', bytes(range(40)))
+        self.changed('board.gpl', b'       EXIT\n', b'       EXIT\nHERE   PUT  N,8\nDATA1  BIN  "bytes"\n')
+        page = self.call('steps', 'game/main.gpl').stdout.decode()
+        lines = json.loads(re.search(r'>(\{"kind".*?)</script>', page, re.S)[1])['lines']
+        names = [called for _, _, _, called in lines]
+        self.assertEqual(len(names), len(set(names)))
+        found = {called: (text, at, digits) for text, at, digits, called in lines}
+        self.assertEqual(found['board.gpl:7'], ('HERE   PUT  N,8', 0x600B, ''))
+        self.assertEqual(found['board.gpl:7 PUT:3'], ('       ST   @N,8', 0x600B, 'be0108'))
+        self.assertEqual(found['board.gpl:8'], ('DATA1  BIN  "bytes"', 0x600E, bytes(range(40)).hex()))
 
     def test_each_line_of_a_page_is_one_of_its_file(self):
         """Each line of the page of examples/lights has the text of the line that it is called by."""

@@ -1,13 +1,16 @@
-"""A GPL source as a tool takes it: expanded if it has one of the forms, with what the author wrote for each line."""
+"""A source as a tool takes it: expanded if it has one of the forms, with what the author wrote for each line."""
 import argparse
 import collections
+import itertools
 import os
 import re
 import typing
 
 from expanding.expand import Expanded, expanded, has_forms
 from expanding.show import path_of, within
+from lib.languages import ASSEMBLER, GPL
 from lib.refusals import file_shown, lines, shown
+from lib.sources import copied, text_copied
 
 DEFINE = re.compile(r'([A-Za-z][0-9A-Za-z]{0,5})(?:=(?:([0-9]{1,5})|>([0-9A-Fa-f]{1,4})))?')
 LINE = re.compile(rb'line ([0-9]+)')
@@ -33,6 +36,11 @@ class Source(typing.NamedTuple):
         """The files that were read."""
         return self.made.files if self.made else [self.path]
 
+    @property
+    def refusals(self):
+        """The refusals of the expansion."""
+        return self.made.refusals if self.made else []
+
     def place(self, number):
         """The place of a line of the text."""
         return self.made.places[number - 1]
@@ -44,6 +52,19 @@ class Source(typing.NamedTuple):
     def where(self, number):
         """The place of a line of the text, as a person reads it."""
         return str(self.place(number)) if self.made else f'{os.path.basename(self.path)}:{number}'
+
+    def key(self, number):
+        """Which line of the author a line of the text is: the file and the number, and the same of the lines of the
+        macros that it comes from."""
+        if not self.made:
+            return (('', number),)
+        place = self.place(number)
+        return ((place.file, place.number), *((it.file, it.number) for it in place.within))
+
+    @property
+    def cells(self):
+        """The cells of blocks: names, addresses and widths."""
+        return self.made.cells if self.made else []
 
     def is_given(self, number):
         """Whether a line of the text comes of -D."""
@@ -72,10 +93,19 @@ class Source(typing.NamedTuple):
         """A listing by the lines and the names that the author wrote."""
         if not self.made:
             return listing
-        found = [Line(self.place(line.number).short, line.address, line.data, self.line(line.number).encode('latin-1'))
-                 for line in listing.lines]
         names = [name._replace(name=self.spelled(name.name)) for name in listing.names]
-        return listing._replace(lines=found, names=names)
+        return listing._replace(lines=list(self.authored(listing.lines)), names=names)
+
+    def authored(self, listed):
+        """The author's lines for lines of the text with their addresses and bytes: each once, also if several lines
+        come of it."""
+        if not self.made:
+            yield from listed
+            return
+        for place, found in itertools.groupby(listed, lambda line: self.place(line.number)):
+            first, *more = found
+            data = b''.join(line.data for line in (first, *more))
+            yield Line(place.short, first.address, data, self.line(first.number).encode('latin-1'))
 
     def by_author(self, rows):
         """Rows for a person on lines of the text, as rows on the author's lines: each begins with FILE:LINE: or is the
@@ -113,12 +143,13 @@ class Source(typing.NamedTuple):
         return self.local_names[name].spelled if name in self.local_names else name
 
 
-def source_of(path, data, defines=()):
-    """The source that a path names, which is expanded if it has one of the forms or if names are defined; Refused if a
-    line has a form in a wrong way."""
-    if not has_forms(data) and not defines:
+def source_of(path, data, defines=(), language=GPL, most=1):
+    """The source that a path names, which is expanded if it or a file that an assembler source copies has one of the
+    forms, or if names are defined; Refused if a line has a form in a wrong way, unless more refusals are wanted."""
+    copies = map(text_copied, copied(path, data)) if language == ASSEMBLER else ()
+    if not defines and not any(has_forms(text, language) for text in (data, *copies)):
         return Source(path, data, None)
-    made = expanded(path, data, defines)
+    made = expanded(path, data, defines, language, most)
     return Source(path, made.text, made)
 
 
@@ -135,6 +166,6 @@ def define(word):
 
 
 def option(parser):
-    """The option that gives names of a GPL source their values."""
+    """The option that gives names of a source their values."""
     parser.add_argument('-D', '--define', metavar='NAME[=VALUE]', action='append', type=define, default=[],
-                        dest='defines', help='a name of a GPL source and its value, 1 if none is given')
+                        dest='defines', help='a name of the source and its value, 1 if none is given')

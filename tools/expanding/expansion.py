@@ -3,28 +3,36 @@ from expanding import conditions
 from expanding.cells import Block
 from expanding.expression import REGISTERS, Unvalued, value
 from expanding.files import MOST_BYTES, MOST_COPIES, TOO_DEEP, data_of, name_in
-from expanding.lines import are_cut_short, changed, comment_of, operation_of, parts_of, pieces
+from expanding.lines import are_cut_short, changed, comment_of, label_of, operation_of, parts_of, pieces
 from expanding.local_labels import LABEL, MARK, Labels, Scope
 from expanding.macros import NAME, Macro, parameters_of, stranger
-from expanding.names import BARE, FORMS, KNOWN
+from expanding.names import FORMS
 from expanding.places import Refused
+from expanding.refusals import Refusals, label_left, leave_out
 from expanding.source import of_file, of_use
 from lib.command import MOST_BYTES as MOST_TEXT
 
 # the most uses of macros, and how many may be in one another
 MOST_USES, MOST_NESTED = 65_536, 16
+# what a line without a label begins with
+UNLABELLED = frozenset(('', ' ', '\t', '*', '\r'))
 # the bytes of a BYTE line
 ROW = 16
 
 
 class Expansion:
-    """A source while it is expanded: the lines that are made, each with its place."""
+    """A source while it is expanded: the lines that are made, each with its place. The last of so many refusals ends
+    it."""
 
-    def __init__(self, folder, names):
-        self.folder, self.names, self.macros = folder, {**REGISTERS, **names}, {}
+    def __init__(self, folder, names, words, most=1):
+        self.folder, self.names, self.words, self.macros = folder, {**REGISTERS, **names}, words, {}
+        # the refusals, and the lines that are left out for them: their numbers and the author's texts
+        self.refusals, self.left_out = Refusals(most), []
         # of each line its text, its place, and the author's line that it comes from
         self.texts, self.places, self.written, self.size = [], [], [], 0
-        self.files, self.copies, self.uses = [], 0, 0
+        self.files, self.copies = [], 0
+        # the uses of macros: the name, the place and the author's line
+        self.uses = []
         self.labels, self.scope = Labels([]), Scope('')
         self.block, self.cells = None, []
         # of each operation that nothing defines the first line, as place and text
@@ -36,54 +44,71 @@ class Expansion:
     def take(self, source):
         """Takes lines up to their end, or to that of the source."""
         for text in source:
-            operation = operation_of(text)
-            form = self.forms.get(operation) or (self.take_use if operation in self.macros else None)
+            number = source.number
             try:
-                if form:
-                    form(source, parts_of(text))
-                else:
-                    self.take_line(source, text, operation)
-            except Unvalued as error:
-                raise source.refused(str(error)) from None
+                self.take_text(source, text)
+            except Refused as refused:
+                self.refusals.note(refused)
+                self.write(source, label_left(text, self.words.known), number)
+                self.left_out.append((len(self.texts), text))
             if self.ended:
                 return
         if source.open:
-            raise conditions.is_open(source)
+            self.refusals.note(conditions.is_open(source))
 
-    def write(self, source, text):
-        """Adds a line to those that are made."""
+    def take_text(self, source, text):
+        """Takes a line, by its form if it has one."""
+        operation = operation_of(text)
+        form = self.forms.get(operation) or (self.take_use if operation in self.macros else None)
+        try:
+            if form:
+                form(source, parts_of(text))
+            else:
+                self.take_line(source, text, operation)
+        except Unvalued as error:
+            raise source.refused(str(error)) from None
+
+    def note(self, source, cause):
+        """Notes the refusal of a line whose form goes on with the lines after it."""
+        self.refusals.note(source.refused(cause))
+
+    def write(self, source, text, number=None):
+        """Adds a line to those that are made, for the line that was taken last, or for another one."""
+        number = number or source.number
         self.size += len(text) + 1
         if self.size > MOST_TEXT:
             raise source.refused(f'too large: with this line the source has more than {MOST_TEXT:,} bytes')
         self.texts.append(text)
-        self.places.append(source.place)
-        self.written.append(source.text)
+        self.places.append(source.place_of(number))
+        self.written.append(source.texts[number - 1])
 
     def take_line(self, source, text, operation):
         """A line that has no form, but perhaps local labels."""
-        if text[:1] not in ('', ' ', '\t', '*', '\r'):
-            written = parts_of(text).label
-            text = self.label(source, written, operation) + text[len(written):]
+        has_label = text[:1] not in UNLABELLED
+        if '.' in text and text[0] != '*':
+            label, gap, written, second_gap, operands, *rest = parts_of(text)
+            label = self.label(source, label, operation) if has_label else label
+            operands = operands if operation in self.words.bare else self.marked(source, operands)
+            text = ''.join([label, gap, written, second_gap, operands, *rest])
+        elif has_label:
+            self.label(source, label_of(text), operation)
         if operation == 'EQU':
             self.note_value(parts_of(text))
         elif operation == 'END':
             self.ended = source
-        elif operation and operation not in KNOWN:
+        elif operation and operation not in self.words.known:
             self.unknown.setdefault(operation, (source.place, source.text))
-        if '.' in text and text[0] != '*' and operation not in BARE:
-            parts = parts_of(text)
-            text = ''.join(parts._replace(operands=self.marked(source, parts.operands)))
         self.write(source, text)
 
     def marked(self, source, operands):
         """Operands with the characters that stand for local labels."""
-        return self.labels.marked(operands, source.scope or self.scope, source)
+        return self.labels.marked(operands, source.scope or self.scope, source) if '.' in operands else operands
 
     def label(self, source, label, operation=''):
         """A label; the character that stands for it, if it is local."""
-        if LABEL.fullmatch(label):
+        if label.startswith('.') and LABEL.fullmatch(label):
             label = self.labels.mark(source.scope or self.scope, label, source)
-        if MARK.fullmatch(label):
+        if not label.isascii() and MARK.fullmatch(label):
             return self.labels.placed(label, source)
         if operation != 'EQU' and not source.scope:
             self.scope = Scope(label.upper())
@@ -114,8 +139,13 @@ class Expansion:
         self.files.append(name)
         return name, data
 
+    def unlabelled(self, source, parts):
+        """Refuses a form that has a label but may have none."""
+        if parts.label:
+            self.note(source, f'bad directive: {parts.operation.upper()} has no label')
+
     def take_copy(self, source, parts):
-        unlabelled(source, parts)
+        self.unlabelled(source, parts)
         if source.depth >= TOO_DEEP:
             raise source.refused('copy too deep')
         if self.copies >= MOST_COPIES:
@@ -134,26 +164,48 @@ class Expansion:
             self.write(source, f'       BYTE {row}{parts.end}')
 
     def take_macro(self, source, parts):
-        begin, name, texts = source.number, parts.label.upper(), []
-        if not NAME.fullmatch(name):
-            raise source.refused('bad label: before MACRO stands the name of the macro')
-        if name in KNOWN or name in FORMS:
-            raise source.refused(f'{name} is an operation or a directive, and no name of a macro')
-        if name in self.macros:
-            raise source.refused(f'{name} is a macro already: {self.macros[name].file}:{self.macros[name].first - 1}')
+        name, first = parts.label.upper(), source.number + 1
+        wrong = self.wrong_name(name)
+        if wrong:
+            self.note(source, wrong)
         if name in self.unknown:
-            place, text = self.unknown[name]
-            raise Refused(place, f'unknown operation: {name} is a macro from {source.place.file}:{begin} on', text)
-        parameters = parameters_of(parts.operands)
+            place, text = self.unknown.pop(name)
+            where = f'{source.place.file}:{source.number}'
+            self.refusals.note(Refused(place, f'unknown operation: {name} is a macro from {where} on', text))
+            leave_out(self, place, text)
+        try:
+            parameters = parameters_of(parts.operands)
+        except Unvalued as error:
+            self.note(source, str(error))
+            parameters = None
+        texts = self.lines_of(source, name, parameters)
+        if not wrong and parameters is not None:
+            self.macros[name] = Macro(name, parameters, texts, source.place.file, first)
+
+    def wrong_name(self, name):
+        """Why a macro may not have a name, or None."""
+        if not NAME.fullmatch(name):
+            return 'bad label: before MACRO stands the name of the macro'
+        if name in self.words.known or name in FORMS:
+            return f'{name} is an operation or a directive, and no name of a macro'
+        if name in self.macros:
+            return f'{name} is a macro already: {self.macros[name].file}:{self.macros[name].first - 1}'
+        return None
+
+    def lines_of(self, source, name, parameters):
+        """The lines of a macro, up to its ENDM."""
+        begin, texts = source.number, []
         for text in source:
             operation = operation_of(text)
             if operation == 'ENDM':
-                self.macros[name] = Macro(name, parameters, texts, source.place.file, begin + 1)
-                return
+                return texts
             if operation == 'MACRO':
-                raise source.refused(f'MACRO in the macro {name}: ENDM is missing')
-            if unknown := stranger(text, parameters):
-                raise source.refused(f'{unknown} names no parameter of {name}')
+                self.note(source, f'MACRO in the macro {name}: ENDM is missing')
+                source.number -= 1
+                return texts
+            unknown = stranger(text, parameters) if parameters is not None else None
+            if unknown:
+                self.note(source, f'{unknown} names no parameter of {name}')
             texts.append(text)
         raise source.refused('this MACRO has no ENDM', begin)
 
@@ -166,9 +218,9 @@ class Expansion:
             raise source.refused(f'{macro.name} uses itself')
         if len(place.within) >= MOST_NESTED:
             raise source.refused('macros too deep')
-        if self.uses >= MOST_USES:
+        if len(self.uses) >= MOST_USES:
             raise source.refused('too many uses of macros')
-        self.uses += 1
+        self.uses.append((macro.name, place, source.text))
         if macro.parameters and are_cut_short(parts):
             raise source.refused('bad operand: a blank ends the operands; write none before or after a comma')
         self.write_label(source, parts)
@@ -177,25 +229,32 @@ class Expansion:
         self.take(of_use(macro, texts, place, source.depth, Scope(macro.name)))
 
     def take_if(self, source, parts):
-        unlabelled(source, parts)
-        conditions.begin(source, value(parts.operands, self.names) != 0)
+        self.unlabelled(source, parts)
+        try:
+            holds = value(parts.operands, self.names) != 0
+        except Unvalued as error:
+            self.note(source, str(error))
+            holds = True
+        conditions.begin(source, holds)
 
     def take_ifdef(self, source, parts):
-        unlabelled(source, parts)
+        self.unlabelled(source, parts)
         if not NAME.fullmatch(parts.operands):
-            raise source.refused('bad operand: IFDEF takes a name')
+            self.note(source, 'bad operand: IFDEF takes a name')
         conditions.begin(source, parts.operands.upper() in self.names)
 
     def take_else(self, source, parts):
-        unlabelled(source, parts)
+        self.unlabelled(source, parts)
         conditions.other(source)
 
     def take_endif(self, source, parts):
-        unlabelled(source, parts)
+        self.unlabelled(source, parts)
         conditions.end(source)
 
     def take_cells(self, source, parts):
-        unlabelled(source, parts)
+        self.unlabelled(source, parts)
+        # after a refused line no cell is refused: those of this block get any addresses
+        self.block = Block(0, 0xFFFF)
         given = [value(text, self.names) for text in pieces(parts.operands)]
         if len(given) != 2:
             raise source.refused('operand count: CELLS takes the first and the last address of a block')
@@ -211,10 +270,4 @@ class Expansion:
             return self.write(source, comment_of(parts))
         self.names.setdefault(parts.label.upper(), at)
         self.cells.append((parts.label.upper(), at, width))
-        return self.write(source, changed(parts, operation='EQU', operands=f'>{at:04X}'))
-
-
-def unlabelled(source, parts):
-    """Refuses a form that has a label but may have none."""
-    if parts.label:
-        raise source.refused(f'bad directive: {parts.operation.upper()} has no label')
+        return self.write(source, changed(parts, parts.label, 'EQU', f'>{at:04X}'))

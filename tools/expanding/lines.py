@@ -2,7 +2,8 @@
 import re
 import typing
 
-PARTS = re.compile(r"([^ \t]*)([ \t]*)([^ \t]*)([ \t]*)((?:[^ \t']|'[^']*(?:'|\Z))*)(.*)", re.S)
+PARTS = re.compile(r"([^ \t]*)([ \t]*)([^ \t]*)([ \t]*)((?:[^ \t']+|'[^']*(?:'|\Z))*)(.*)", re.S)
+LABEL = re.compile(r'[^ \t]*')
 OPERATION = re.compile(r'(?!\*)[^ \t]*[ \t]+([^ \t\r]+)')
 PIECE = re.compile(r"(?:[^,']|'[^']*(?:'|\Z))+|(?<=,)(?=,|\Z)|\A(?=,)")
 # the most characters of a line
@@ -30,7 +31,12 @@ def operation_of(text):
 def parts_of(text):
     """The parts of a line."""
     end = '\r' if text.endswith('\r') else ''
-    return Parts(*[*PARTS.match(text[:-1] if end else text).groups(), end])
+    return Parts._make((*PARTS.match(text.removesuffix('\r')).groups(), end))
+
+
+def label_of(text):
+    """The label of a line, if it has one."""
+    return LABEL.match(text.removesuffix('\r'))[0]
 
 
 def pieces(operands):
@@ -46,20 +52,19 @@ def are_cut_short(parts):
 
 def fitted(blanks, grown):
     """The blanks after a field that has grown: as many fewer, but one at least; and how much too far right all is."""
-    if not blanks or '\t' in blanks:
+    if not grown or not blanks or '\t' in blanks:
         return blanks, 0
     wanted = len(blanks) - grown
     return ' ' * max(1, wanted), max(0, 1 - wanted)
 
 
-def changed(parts, **fields):
+def changed(parts, label, operation, operands):
     """A line with other fields: what stands after them stays in its column, if there is room."""
-    made = parts._replace(**fields)
-    gap, over = fitted(parts.gap, len(made.label) - len(parts.label))
-    second_gap, over = fitted(parts.second_gap, over + len(made.operation) - len(parts.operation))
-    comment = made.rest.lstrip(' \t')
-    blanks, _ = fitted(made.rest[:len(made.rest) - len(comment)], over + len(made.operands) - len(parts.operands))
-    return ''.join([made.label, gap, made.operation, second_gap, made.operands, blanks, comment, made.end])
+    gap, over = fitted(parts.gap, len(label) - len(parts.label))
+    second_gap, over = fitted(parts.second_gap, over + len(operation) - len(parts.operation))
+    comment = parts.rest.lstrip(' \t')
+    blanks, _ = fitted(parts.rest[:len(parts.rest) - len(comment)], over + len(operands) - len(parts.operands))
+    return ''.join([label, gap, operation, second_gap, operands, blanks, comment, parts.end])
 
 
 def comment_of(parts):

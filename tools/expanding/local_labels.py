@@ -3,7 +3,7 @@ import re
 import typing
 
 from expanding.expression import REGISTERS
-from expanding.lines import changed, parts_of
+from expanding.lines import Parts, changed, parts_of
 
 FIRST = 0x10000
 MARK = re.compile('[\U00010000-\U0010ffff]')
@@ -59,11 +59,11 @@ class Labels(typing.NamedTuple):
 
     def names(self, texts):
         """A name for each local label, which no line has: its own letters and a number."""
-        taken = {word.upper() for word in WORD.findall('\n'.join(texts))} | set(REGISTERS)
+        taken = {word.upper() for word in set(WORD.findall('\n'.join(texts)))} | set(REGISTERS)
+        stems = {written: stem_of(written) for written in {local.written for local in self.found}}
         made, counts = [], {}
         for local in self.found:
-            stem = re.sub('[^A-Z0-9]', '', local.written.upper()).lstrip('0123456789') or 'L'
-            name = None
+            stem, name = stems[local.written], None
             while name is None or name in taken:
                 counts[stem] = counts.get(stem, 0) + 1
                 name = stem[:LONGEST - len(str(counts[stem]))] + str(counts[stem])
@@ -71,14 +71,32 @@ class Labels(typing.NamedTuple):
             made.append(name)
         return made
 
-    def spelled(self, text):
-        """A line with its local labels as they are written."""
-        return MARK.sub(lambda it: self.of(it[0]).written, text)
+    def spelled(self, texts):
+        """Lines with their local labels as they are written."""
+        written = [local.written for local in self.found]
+        return [replaced(text, written) for text in texts]
 
-    def named(self, text, names):
-        """A line with names for the characters of its local labels, in the columns that the author gave it."""
-        spelled = self.spelled(text)
-        if text.startswith('*'):
-            return spelled
-        made = parts_of(MARK.sub(lambda it: names[ord(it[0]) - FIRST], text))
-        return changed(parts_of(spelled), label=made.label, operands=made.operands)
+    def named(self, texts, names):
+        """Lines with names for the characters of their local labels, in the columns that the author gave them."""
+        written = [local.written for local in self.found]
+        return [text if text.isascii() else named(text, written, names) for text in texts]
+
+
+def replaced(text, words):
+    """A text with a word for each character that stands for a local label."""
+    return text if text.isascii() else MARK.sub(lambda it: words[ord(it[0]) - FIRST], text)
+
+
+def named(text, written, names):
+    """A line with names for the characters of its local labels, in the columns that it has as they are written."""
+    if text.startswith('*'):
+        return replaced(text, written)
+    label, gap, operation, second_gap, operands, rest, end = parts_of(text)
+    spelled = Parts(replaced(label, written), gap, replaced(operation, written), second_gap,
+                    replaced(operands, written), replaced(rest, written), end)
+    return changed(spelled, replaced(label, names), spelled.operation, replaced(operands, names))
+
+
+def stem_of(written):
+    """What the name of a local label begins with."""
+    return re.sub('[^A-Z0-9]', '', written.upper()).lstrip('0123456789') or 'L'

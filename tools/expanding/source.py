@@ -12,9 +12,10 @@ class Lines:
         self.number, self.open = 0, []
 
     def __iter__(self):
-        while self.number < len(self.texts):
+        texts, last = self.texts, len(self.texts)
+        while self.number < last:
             self.number += 1
-            yield self.texts[self.number - 1]
+            yield texts[self.number - 1]
 
     @property
     def place(self):
