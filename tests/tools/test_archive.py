@@ -37,6 +37,25 @@ class Archive(Calling):
         _, rows = self.rows()
         self.assertIn('part.a  copied     by main.a', rows)
 
+    def test_a_source_of_several_files_is_expanded_and_its_parts_are_copied(self):
+        self.file('part.gpl', b'.l     LOAD 5\n')
+        self.file('main.gpl', b'LOAD   MACRO N\n       ST   @>8300,\\N\n       ENDM\nS      EQU  $\n'
+                              b'       COPY "part.gpl"\n       EXIT\n       END  S\n')
+        rows = ['main.gpl  same       4 bytes', 'part.gpl  copied     by main.gpl',
+                '2 files: 1 same, 1 copied, 0 different']
+        self.assertEqual(self.rows(), (0, rows))
+
+    def test_of_an_expanded_source_the_file_and_the_line_are_named(self):
+        for part, said in ((b'*\n FOO\n', 'part.gpl:2: unknown operation'),
+                           (b'*\n B .x\n', 'part.gpl:2: unknown name: there is no .x'),
+                           (b'.a EQU 1\n B .a\n B FOO\n', 'part.gpl:3: unknown name')):
+            self.file('part.gpl', part)
+            self.file('main.gpl', b'S      EQU  $\n COPY "part.gpl"\n EXIT\n END S\n')
+            self.assertEqual(self.rows()[1][:2], [f'main.gpl  refused    {said}', 'part.gpl  copied     by main.gpl'])
+        large = b' COPY "part.gpl"\n' + b'*\n' * (1 << 19)
+        self.file('main.gpl', large)
+        self.assertEqual(self.rows()[1][0], 'main.gpl  refused    too large')
+
     def test_folders_in_folders_are_taken_by_r_alone(self):
         self.file('deep down/image.bin', IMAGE)
         self.assertEqual(self.rows()[1], ['0 files: 0 same, 0 different'])

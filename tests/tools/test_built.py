@@ -17,12 +17,13 @@ echo $$ >>"$CALLS"
 cat >"$CALLS.input"
 mkdir -p ../low/out/rlib/low.rlib
 [ -z "$SECONDS_LONG" ] || sleep "$SECONDS_LONG"
-[ -z "$FAILS" ] || exit 1
+[ -z "$FAILS" ] || exit "$FAILS"
 name=${PWD##*/}
 printf '#!/bin/sh\\necho built "$@"\\n' >"out/$name"
 chmod +x "out/$name"
 """
 OLD = 1_000_000_000
+NOBODY = 65534
 
 
 class Repository(Calling):
@@ -109,6 +110,36 @@ class Built(Repository):
         ended = self.ti_bench('demo', FAILS='1')
         self.assertEqual((ended.returncode, ended.stdout), (70, ''))
         self.assertIn('crates/ti_bench/out/build.log says why', ended.stderr)
+
+    def test_a_build_that_fails_or_makes_no_program_is_an_error_also_if_an_old_one_is_there(self):
+        self.ti_bench('demo')
+        self.age('crates/low/src/lib.rt')
+        for status in '1', '0':
+            ended = self.ti_bench('demo', FAILS=status)
+            self.assertEqual((ended.returncode, ended.stdout), (70, ''))
+            self.assertIn('the program could not be built; crates/ti_bench/out/build.log says why', ended.stderr)
+            self.program.unlink(missing_ok=True)
+
+    def test_if_nothing_may_be_written_an_old_program_is_used_and_none_is_an_error(self):
+        self.ti_bench('demo')
+        self.age('crates/low/src/lib.rt')
+        out = self.program.parent
+        for path, mode in ((self.folder, 0o755), (out / 'build.lock', 0o444), (out, 0o555)):
+            path.chmod(mode)
+        self.addCleanup(out.chmod, 0o755)
+        other = {'user': NOBODY, 'group': NOBODY, 'extra_groups': []} if os.geteuid() == 0 else {}
+
+        def called():
+            ended = subprocess.run([self.top / 'ti_bench', 'demo'], capture_output=True, text=True, cwd='/',
+                                   env=self.environment(), **other)
+            return ended.returncode, ended.stdout, ended.stderr
+
+        why = 'and crates/ti_bench/out/build.lock: Permission denied'
+        self.assertEqual(called(), (0, 'built demo\n', f'tools/built: crates/low/src/lib.rt is newer than the program, '
+                                                       f'{why}; the old program is used\n'))
+        self.program.chmod(0o644)
+        self.assertEqual(called(), (70, '', f'tools/built: the program has to be built first, {why}\n'))
+        self.assertEqual(self.builds(), 1)
 
     def test_a_link_is_followed_and_a_copy_is_refused(self):
         link, copy = self.folder / 'a link', self.folder / 'elsewhere/ti_bench'

@@ -70,6 +70,19 @@ class Cartridge(Calling):
         ended = self.call('cartridge', 'a.gpl', '--uses', 'STAR')
         self.assertEqual((ended.returncode, ended.stderr), (1, b'tools/cartridge: the source has no name STAR\n'))
 
+    def test_the_uses_of_a_macro(self):
+        self.file('part.gpl', b'ONE    MACRO\n       TWO  \\x,5\n       ENDM\nTWO    MACRO A,B\n'
+                              b"       ST   \\A,\\B\n       ENDM\n".replace(b'\\x', b'@>8300'))
+        self.file('a.gpl', b'       COPY "part.gpl"\nTWO    ONE\n       two  @>8302,7\n       B    TWO\n       END  TWO\n')
+        self.assertEqual(self.call('cartridge', 'a.gpl', '--uses', 'one').stdout.decode().splitlines(), [
+            'part.gpl:1: ONE is a macro', 'a.gpl:2: TWO    ONE'])
+        self.assertEqual(self.call('cartridge', 'a.gpl', '--uses', 'Two').stdout.decode().splitlines(), [
+            'part.gpl:4: TWO is a macro of A, B', 'a.gpl:2, in ONE of part.gpl:2: TWO  @>8300,5',
+            'a.gpl:3: two  @>8302,7', 'a.gpl:2: TWO is >6000', 'a.gpl:4: B    TWO', 'a.gpl:5: END  TWO'])
+        ended = self.call('cartridge', LIGHTS, '--uses', 'SAY')
+        self.assertEqual((ended.returncode, ended.stderr), (0, b''))
+        self.assertRegex(ended.stdout.decode(), r'\Amacros.gpl:[0-9]+: SAY is a macro of .*\n[a-z]+.gpl:[0-9]+: ')
+
     def test_the_image_is_filled_up_to_whole_groms(self):
         self.file('a.gpl', SOURCE)
         ended = self.call('cartridge', 'a.gpl', '-o', 'aG.bin', '--rpk', 'a.rpk')

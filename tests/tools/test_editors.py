@@ -9,6 +9,7 @@ import unittest
 
 from calling import TOP, Calling
 from editing import names
+from expanding.names import FORMS
 from lib.program import program
 from lib.repository import read_text
 
@@ -30,9 +31,23 @@ LINES = {
         (" TEXT 'IT''S, ALL'  a text", "directive:TEXT text:'IT''S, ALL' comment:a text"),
         ('LABEL', 'label:LABEL'),
         ('LONGNAME RTN', 'bad:LONGNAME operation:RTN'),
-        (' COPY "A"', 'bad:COPY bad:" name:A bad:"'),
-        (' EVEN', 'bad:EVEN'),
-        (' STX @A', 'bad:STX prefix:@ name:A'),
+        (' COPY "A"  a file', 'directive:COPY text:"A" comment:a file'),
+        (" bin 'A.BIN'", "directive:bin text:'A.BIN'"),
+        (' EVEN', 'macro:EVEN'),
+        (' Say_It @A,\\ROW+1', 'macro:Say_It prefix:@ name:A parameter:\\ROW operator:+ number:1'),
+        (' EVEN.', 'bad:EVEN.'),
+        ('SAY_AGAIN MACRO ROW,A_LONG_WORD  it is', 'macro:SAY_AGAIN directive:MACRO parameter:ROW,A_LONG_WORD '
+                                                   'comment:it is'),
+        (' ENDM  and so on', 'directive:ENDM comment:and so on'),
+        (' IF BENCH+1  so', 'directive:IF name:BENCH operator:+ number:1 comment:so'),
+        (' IFDEF BENCH', 'directive:IFDEF name:BENCH'),
+        (' else  or', 'directive:else comment:or'),
+        (' ENDIF', 'directive:ENDIF'),
+        (' CELLS >8300,>8371', 'directive:CELLS number:>8300 number:>8371'),
+        ('BOARD  CELL 16', 'label:BOARD directive:CELL number:16'),
+        ('.again BR .again', 'label:.again operation:BR label:.again'),
+        ('\\L  BR A', 'label:\\L operation:BR name:A'),
+        (' \\OP \\LEN(A_B),@\\A', 'macro:\\OP parameter:\\LEN(A_B) prefix:@ parameter:\\A'),
         (" ST @LONGNAME,'A", "operation:ST prefix:@ bad:LONGNAME bad:'A"),
         (' ST @A, 5', 'operation:ST prefix:@ name:A comment:5'),
         (' DATA A_B', 'directive:DATA name:A bad:_ name:B'),
@@ -50,7 +65,8 @@ LINES = {
         (' DST @A,5', 'bad:DST prefix:@ name:A number:5'),
     ],
 }
-SCOPES = {'comment': 'comment', 'entity': 'label', 'keyword.mnemonic': 'operation', 'keyword.control': 'directive',
+SCOPES = {'comment': 'comment', 'entity.name.function.macro': 'macro', 'entity': 'label',
+          'variable.parameter': 'parameter', 'keyword.mnemonic': 'operation', 'keyword.control': 'directive',
           'keyword.operator.prefix': 'prefix', 'keyword.operator.arithmetic': 'operator', 'constant.numeric': 'number',
           'constant.language': 'here', 'variable.language': 'register', 'variable.other': 'name', 'string': 'text',
           'invalid': 'bad'}
@@ -58,7 +74,8 @@ GROUPS = {'Comment': 'comment', 'Remark': 'comment', 'Label': 'label', 'Operatio
           'Directive': 'directive', 'BareDirective': 'directive', 'FileDirective': 'directive', 'Prefix': 'prefix',
           'Operator': 'operator', 'Number': 'number', 'Here': 'here', 'Register': 'register', 'Name': 'name',
           'Text': 'text', 'File': 'text', 'BadLabel': 'bad', 'BadOperation': 'bad', 'LongName': 'bad',
-          'BadSign': 'bad', 'OpenText': 'bad'}
+          'BadSign': 'bad', 'OpenText': 'bad', 'Macro': 'macro', 'MacroUse': 'macro', 'MacroLine': 'directive',
+          'Parameters': 'parameter', 'Parameter': 'parameter', 'Local': 'label'}
 
 
 def parts(line, kinds):
@@ -136,6 +153,12 @@ class Names(unittest.TestCase):
                 self.assertEqual(program().run(command, given=f" {word} it's\n".encode()).status, 0, word)
             for word in listed.operations + listed.directives + listed.file_directives:
                 self.assertEqual(program().run(command, given=f" {word} it's\n".encode()).status, 1, word)
+
+
+    def test_the_forms_that_are_expanded_are_named_too(self):
+        found = names.with_forms(names.gpl())
+        self.assertEqual(set(itertools.chain(*found)) - set(itertools.chain(*names.gpl())), FORMS)
+        self.assertEqual((found.file_directives, found.bare_directives), (['BIN', 'COPY'], ['ELSE', 'ENDIF', 'ENDM']))
 
 
 class Files(Calling):

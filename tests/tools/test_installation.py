@@ -10,7 +10,7 @@ import sys
 from unittest import mock
 
 from calling import TOP, Calling
-from lib import command, distribution, elf, target
+from lib import command, distribution, documents, elf, target
 from lib.distribution import File, Link
 from lib.installation import LIST, Installation
 from lib.program import other
@@ -283,6 +283,29 @@ class HandedOut(Calling):
         self.assertNotIn('README', self.release(ti_bench=kit, ti_debug=kit)[1])
         self.assertRegex(self.release(ti_bench=kit, ti_debug=kit)[1], 'ti_bench is no program for Linux on x86-64')
 
+
+    def test_a_document_says_what_holds_in_an_installation(self):
+        text = ('# A\n<!-- in the repository -->\n`./ti_bench` here\n<!-- installed\n`ti_bench` there\n-->\n'
+                '<!-- in the repository -->\nmore\n<!-- end -->\n    (cd a && ../../ti_debug list | ./ti_bench asm)\n'
+                '`tools/raw`, `tools/rawer`, `tools/built`, x/tools/raw [a](B.md#c) [d](../man/m.1) [e](../crates/f) '
+                '[g](https://h/i.md) ![p](p.png)\n')
+        places = {'docs/A.md': 'share/doc/t/docs/A.md', 'docs/B.md': 'share/doc/t/docs/B.md',
+                  'man/m.1': 'share/man/man1/m.1.gz', 'docs/p.png': 'share/doc/t/docs/p.png'}
+        wanted = ('# A\n`ti_bench` there\n    (cd a && ti_debug list | ti_bench asm)\n'
+                  '`ti_bench-raw`, `tools/rawer`, `tools/built`, x/tools/raw [a](B.md#c) [d](../../../man/man1/m.1.gz) '
+                  'e [g](https://h/i.md) ![p](p.png)\n')
+        self.assertEqual(documents.installed('docs/A.md', text, places, ['raw', 'label']), wanted)
+        places['docs/TESTING.md'] = 'share/doc/t/docs/TESTING.md'
+        self.assertEqual(documents.installed('docs/TESTING.md', './ti_bench [a](B.md)', places, ['raw']),
+                         './ti_bench [a](B.md)')
+
+    def test_the_documents_have_both_texts_where_they_differ(self):
+        placed = distribution.installed(distribution.files(os.environ['TI_BENCH']), 'ti-bench', '.gz')
+        for name in ('README.md', 'docs/USE.md'):
+            text = placed[f'share/doc/ti-bench/{name}'].data.decode()
+            self.assertNotRegex(text, r'<!--|-->|\./ti_bench|\.ci/run|\btools/label')
+        self.assertIn('(../../man/man1/ti_bench.1.gz)', placed['share/doc/ti-bench/README.md'].data.decode())
+        self.assertIn('share/man/man1/ti_bench.1.gz', placed)
 
     def test_without_dpkg_deb_there_is_no_package_which_is_said(self):
         for name in ('env', 'python3'):

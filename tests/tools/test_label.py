@@ -158,6 +158,21 @@ class Wished(Labelling):
         lines, _ = self.label('--names', 'names', 'gdis', '6000', given=self.image(HELLO))
         self.assertIn('PLACE  EQU D601D+1', lines)
 
+    def test_all_names_of_an_address_are_kept(self):
+        self.file('names', b''.join(b'>%04X N%X%d\n' % (at, at, number) for number in range(3)
+                                    for at in (0x601B, 0x601E, 0x602E, 0x5000)))
+        lines, _ = self.label('--names', 'names', 'gdis', '6000', given=self.image(HELLO))
+        debugger = program.Program(program.other(self.program.path, 'ti_debug'))
+        listed = debugger.run('glist', given='\n'.join([*lines, '']).encode()).out.decode()
+        found = set(re.findall(r'^name >(\w{4}) +\d+ (N\w+)$', listed, re.M))
+        self.assertEqual(found, {(at, f'N{at}{number}') for at in ('601B', '601E', '602E', '5000')
+                                 for number in range(3)})
+
+    def test_it_is_said_if_no_name_of_a_file_is_kept(self):
+        self.file('names', b'>6000 START\n')
+        said = self.label('--names', 'names', 'gdis', '6000', given=b'')[1]
+        self.assertEqual(said, ['names: the names are left out', '0 bytes'])
+
     def test_names_that_cannot_be_are_rejected_with_their_line(self):
         for text, said in (('>6000 R5', 'R5: duplicate label'), ('>6000 TOOLONG', 'TOOLONG: bad label'),
                            ('>6000 1X', '1X: bad label'), ('6000 X', 'not an address and a name'),
@@ -217,6 +232,8 @@ class Wished(Labelling):
         words = ['--pointer', '6000-6003', '--table', '600A-600B', '--data', '6008-6008', 'gdis', '6000']
         lines, _ = self.label(*words, given=data)
         self.assertIn('DST  @>8300,D6008', '\n'.join(lines))
+        lines, _ = self.label('--pointer', '6001-6006', 'gdis', '6000', given=self.image(b'A RTN\n DATA A,A,A\n'))
+        self.assertEqual([line[:38].strip() for line in lines if 'DATA' in line], ['DATA P6000'] * 3)
 
 
 class Doubts(Labelling):

@@ -4,9 +4,10 @@ import types
 import unittest
 
 from label_takers import TAKERS, source
-from labelling import traced
+from labelling import takes, traced
 from labelling.label import Wishes, labelled
 from labelling.taken_gpl import Stacks, moves, stores
+from labelling.takes import Takes
 from test_label import Labelling
 
 UP_TO_ZERO = b"""\
@@ -48,6 +49,10 @@ class Said(Labelling):
             "TEXT 'LAST' * >6019 after a call"])
         self.assertEqual(said, [])
 
+    def test_the_byte_that_is_the_last_is_two_hexadecimal_digits(self):
+        for word, wanted in (('61ae=3..1f', Takes(3, None, 0x1F)), ('61AE=12+@2', Takes(12, 2)), ('61AE=1', Takes(1))):
+            self.assertEqual(takes.takes(word), (0x61AE, wanted))
+
     def test_words_that_say_nothing_have_status_2(self):
         for word in ('601F', '601F=', '601F=3+@4', '601F=3+@0', '601F=3..0', '61F=1', '601F=-1', '601F=1+2',
                      '601F=99999'):
@@ -77,6 +82,17 @@ class Said(Labelling):
         lines, said = self.label('--covered', 'run', '--takes', '601F=4', 'gdis', '6000', given=self.image(UP_TO_ZERO))
         self.assertEqual(said[0], '>6007: the call came back to another place than --takes 601F says')
         self.assertIn("       TEXT 'THREE'                     * >600A after a call", lines)
+
+    def test_a_call_that_came_back_at_once_takes_no_bytes(self):
+        source = (b'START  CALL S\n       EXIT\nS      CZ   @>8310\n       BS   LAST\n       FETCH @>8311\n'
+                  b'LAST   RTN\n       END  START\n')
+        image = self.image(source)
+        _, said = self.label('gdis', '6000', given=image)
+        self.assertIn('after more bytes and after fewer', said[0])
+        self.file('run', self.program.run('trace', '9', given=source).out)
+        lines, said = self.label('--covered', 'run', 'gdis', '6000', given=image)
+        self.assertEqual(len(said), 1, said)
+        self.assertIn('       EXIT                             * >6003', lines)
 
     def test_a_call_that_came_back_to_two_places_is_not_certain(self):
         step = '     {} >{} S00 D9F R{} {}\n'

@@ -3,7 +3,10 @@ import unittest
 
 from calling import TOP, Calling
 from lib import program
-from lying import liar
+from lib.command import Stopped
+from lying import liar, sleeper
+from stepping.clock import Clock
+from stepping.run import run_of
 from test_marks import PORTS
 
 SHOW = (TOP / 'examples/show/input').read_bytes()
@@ -105,9 +108,18 @@ class Lying(Calling):
                   'the words of this source are not in the object text', **self.debug('list', rb' 0201 ', b' 0202 '))
 
     def test_a_page_that_is_cut_is_compared_with_a_run(self):
-        self.file('a.gpl', b'S INC @>8300\n B S\n END S\n')
-        self.said(['steps', '--seconds', '0', '-o', 'out', 'a.gpl'], NOT_LED_TO,
-                  **self.bench_lies('run', rb'^>8300 01', b'>8300 02'))
+        source = b'S INC @>8300\n B S\n END S\n'
+        first = program.Program(self.debugger).run('gsteps', '1', given=source).out.splitlines(True)[0]
+        debugger = program.Program(sleeper(self.folder, self.debugger, 'gsteps', first))
+        lies = self.bench_lies('run', rb'^>8300 01', b'>8300 02')['TI_BENCH']
+        for bench, said in ((self.bench, ''), (lies, NOT_LED_TO)):
+            debugger.clock = Clock(4)
+            try:
+                self.assertEqual(len(run_of(program.Program(bench), debugger, source, 9).steps), 1)
+            except Stopped as stopped:
+                self.assertEqual(stopped.text, said)
+            else:
+                self.assertEqual(said, '')
 
     def test_hits_are_not_written(self):
         self.file('a.gpl', SHOW)

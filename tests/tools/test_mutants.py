@@ -35,14 +35,16 @@ class Mutants(Calling):
             self.assertTrue(mutants.is_python('\n'.join(lines)))
 
     def test_the_tests_of_a_file_are_those_that_name_it(self):
-        self.assertEqual(mutants.tests_of(TOP / 'tools/raw')[0], 'raw')
-        self.assertEqual(mutants.tests_of(TOP / 'tools/lib/elf.py')[0], 'installation')
+        self.assertEqual(mutants.tests_of(TOP / 'tools/raw')[0], ['raw'])
+        self.assertEqual(mutants.tests_of(TOP / 'tools/lib/elf.py')[0], ['installation'])
+        self.assertEqual(mutants.tests_of(TOP / 'tools/listing/pieces.py')[-1], ['tools/interpreter --check'])
         self.assertEqual(mutants.names_of(TOP / 'tools/labelling/check.py'), ['check', 'archive', 'label'])
         self.assertEqual(mutants.names_of(TOP / 'tools/lib/elf.py'), ['elf', 'install', 'release'])
         self.assertEqual(mutants.names_of(TOP / 'tools/raw'), ['raw'])
-        self.assertEqual(mutants.tests_of(TOP / 'tools/labelling/check.py')[0], 'label')
-        self.assertEqual(len(mutants.tests_of(TOP / 'tools/lib' / '_'.join(['named', 'nowhere.py']))),
-                         len(list((TOP / 'tests/tools').glob('test_*.py'))))
+        self.assertEqual(mutants.names_of(TOP / 'tools/listing/pieces.py'), ['pieces', 'interpreter'])
+        self.assertEqual(mutants.tests_of(TOP / 'tools/labelling/check.py')[0], ['label'])
+        nowhere = mutants.tests_of(TOP / 'tools/lib' / '_'.join(['named', 'nowhere.py']))
+        self.assertEqual(sum(map(len, nowhere)), len(list((TOP / 'tests/tools').glob('test_*.py'))))
 
     def test_what_python_keeps_of_a_file_goes_with_its_text(self):
         path = self.file('tools/lib/one.py', b'ONE = 1\n')
@@ -81,15 +83,28 @@ class Mutants(Calling):
             for trap in b'', b'trap "" TERM\n':
                 top = self.runs(trap + b'sleep 600 &\necho $! > begun\n' + script)
                 with unittest.mock.patch.object(mutants, 'GRACE', 0.5):
-                    self.assertEqual(mutants.noticed(top, ['any'], 2), ('any', how))
+                    self.assertEqual(mutants.noticed(top, [['any']], 2), ('any', how))
                 self.assert_ended('begun')
 
     def test_the_test_that_fails_is_named(self):
         for said, name in ((b'FAIL: test_a (test_raw.Raw.test_a) [0]', 'raw.Raw.test_a'), (b'what', 'raw'),
                            (b'ok\nERROR: setUpClass (test_raw.Raw)\n', 'raw.Raw')):
             top = self.runs(b"echo '" + said + b"'\nexit 1\n")
-            self.assertEqual(mutants.noticed(top, ['raw', 'any'], 20), (name, 'which fails'))
-        self.assertIsNone(mutants.noticed(self.runs(b'exit 0\n'), ['raw', 'any'], 20))
+            self.assertEqual(mutants.noticed(top, [['raw'], ['any']], 20), (name, 'which fails'))
+        self.assertIsNone(mutants.noticed(self.runs(b'exit 0\n'), [['raw'], ['any']], 20))
+
+    def test_tests_are_tried_in_their_order_up_to_the_first_that_fails(self):
+        top = self.runs(b'echo "$@" >>calls\n[ "$2" != other ]\n')
+        self.file('tools/a', b'#!/bin/sh\necho "$@" >>calls\nexit 1\n').chmod(0o700)
+        calls = self.folder / 'calls'
+        for groups, name, said in (([['raw'], ['any', 'more'], ['tools/a --check']], 'tools/a --check',
+                                    '--first raw\n--first any more\n--check\n'),
+                                   ([['raw'], ['other', 'more'], ['tools/a --check']], 'other more',
+                                    '--first raw\n--first other more\n')):
+            calls.unlink(missing_ok=True)
+            self.assertEqual(mutants.noticed(top, groups, 20), (name, 'which fails'))
+            self.assertEqual(calls.read_text(), said)
+            self.assertFalse(mutants.passes(top, name, 20))
 
     def test_only_a_module_that_passes_without_the_change_notices_it(self):
         path = self.file('tools/raw', b'#!/usr/bin/env python3\nA = 1\n')

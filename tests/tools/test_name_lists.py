@@ -1,5 +1,9 @@
-"""Tests of the lists of names that tools/interpreter keeps."""
+"""Tests of the lists of names that tools/interpreter keeps, and of its status."""
+import importlib.machinery
+import importlib.util
+import sys
 import unittest
+from unittest import mock
 
 from calling import TOP
 from lib.repository import read_text
@@ -74,6 +78,18 @@ class NameLists(unittest.TestCase):
     def test_the_lists_are_settled(self):
         for path, text in name_lists.files(Listing()).items():
             self.assertEqual(read_text(TOP / path), text, path)
+
+
+class Status(unittest.TestCase):
+    def test_it_is_1_if_any_file_is_not_what_would_be_written(self):
+        loader = importlib.machinery.SourceFileLoader('interpreter', str(TOP / 'tools/interpreter'))
+        script = importlib.util.module_from_spec(importlib.util.spec_from_loader('interpreter', loader))
+        loader.exec_module(script)
+        for statuses in ([0, 0], [0, 1], [1, 0], [1, 1]):
+            with mock.patch.object(sys, 'argv', ['interpreter', '--check']), \
+                    mock.patch.object(script.generated, 'settle', side_effect=statuses) as settled:
+                self.assertEqual(script.main(), max(statuses))
+            self.assertEqual([call.args[1] for call in settled.mock_calls], [True, True])
 
 
 if __name__ == '__main__':

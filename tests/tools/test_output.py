@@ -107,6 +107,14 @@ class Outputs(Calling):
         self.assertEqual(self.apart(lambda: output.write(old, b'x' * 100), limit=50), f'{old}: File too large')
         self.assertEqual((old.read_bytes(), os.listdir(self.folder)), (b'old', ['old']))
 
+    def test_no_file_stays_open(self):
+        old = self.file('old', b'x' * 100)
+        os.link(old, self.folder / 'other')
+        before = os.listdir('/proc/self/fd')
+        for name in ('old', 'made'):
+            output.write(self.folder / name, b'new')
+            self.assertEqual(os.listdir('/proc/self/fd'), before, name)
+
     def test_a_signal_once_the_file_has_its_name_is_heard(self):
         replace = os.replace
 
@@ -117,6 +125,54 @@ class Outputs(Calling):
         with mock.patch('os.replace', heard), self.assertRaises(command.Ended):
             output.write(self.folder / 'made', b'new')
         self.assertEqual(os.listdir(self.folder), ['made'])
+
+    def names(self):
+        """The names of all that is in the folder."""
+        return sorted(str(path.relative_to(self.folder)) for path in self.folder.rglob('*'))
+
+    def test_all_files_of_a_folder_are_written_with_the_mode_of_the_mask(self):
+        mask = os.umask(0o027)
+        self.addCleanup(os.umask, mask)
+        output.write_files(self.folder / 'new/films', [('a', b'1'), ('b', b'2')])
+        self.assertEqual(self.names(), ['new', 'new/films', 'new/films/a', 'new/films/b'])
+        self.assertEqual((self.folder / 'new/films/b').read_bytes(), b'2')
+        self.assertEqual(stat.S_IMODE((self.folder / 'new/films/a').stat().st_mode), 0o640)
+
+    def test_a_signal_leaves_none_of_the_files_of_a_folder(self):
+        def cut():
+            yield 'a', b'1'
+            self.assertEqual(len(self.names()), len(before) + 2 + (not before))
+            raise command.Ended(signal.SIGTERM)
+
+        rename, renamed = os.rename, []
+
+        def heard(*given):
+            rename(*given)
+            renamed.append(given)
+            if len(renamed) == 2:
+                raise command.Ended(signal.SIGINT)
+
+        whole = [(name, b'1') for name in 'abc']
+        for before in [], ['films', 'films/other']:
+            for name in before[1:]:
+                self.file(name, b'old')
+            with self.assertRaises(command.Ended):
+                output.write_files(self.folder / 'films', cut())
+            self.assertEqual(self.names(), before)
+            renamed.clear()
+            with mock.patch('os.rename', heard), self.assertRaises(command.Ended):
+                output.write_files(self.folder / 'films', whole)
+            self.assertEqual((self.names(), len(renamed)), (before, 2))
+
+    def test_a_folder_that_takes_no_files_is_named(self):
+        self.give_to_nobody()
+        films = self.folder / 'films'
+        self.assertEqual(self.apart(lambda: output.write_files(films, [('a', b'1'), ('b', b'x' * 100)]), limit=50),
+                         f'{films}: File too large')
+        self.assertEqual(self.names(), [])
+        self.folder.chmod(0o555)
+        self.addCleanup(self.folder.chmod, 0o755)
+        self.assertEqual(self.apart(lambda: output.write_files(films, [])), f'{films}: Permission denied')
 
     def test_what_comes_by_standard_input_is_no_output(self):
         path = self.file('a', b'entry >A000\n>A000 10FF\n')

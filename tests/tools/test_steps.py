@@ -1,15 +1,12 @@
 """Tests of tools/steps: the data of a page, replayed here, against what the program writes."""
-import io
 import json
 import random
 import re
 import unittest
-from unittest import mock
 
 from calling import TOP, Calling
 from lib import program
 from lib.dump import dump
-from stepping import reports, run
 
 DATA = re.compile(r'<script type="application/json" id="data">(.*?)</script>', re.S)
 CELLS, VIDEO, REGISTERS, END = 0x8300, 0x10000, 0x14000, 0x14011
@@ -199,43 +196,6 @@ class Steps(Calling):
         source = b'* a line of a comment\n' * 47_000 + b'S EXIT\n END S\n'
         data = data_of(self.page(source))
         self.assertEqual((len(data['lines']), data['names']), (47_002, [['S', FIRST_GROM, 47_001]]))
-
-    def test_heavy_runs_are_cut_and_that_is_said(self):
-        source = b'S ALL >20\n ALL >21\n B S\n END S\n'
-        self.file('a.gpl', source)
-        ended = self.call('steps', '--seconds', '0', 'a.gpl', '100000')
-        self.assertEqual(ended.returncode, 0)
-        data = data_of(ended.stdout)
-        self.assertEqual(data['end'], 'Only the first step is shown: more would take longer than 0 seconds.')
-        self.assertIn(data['end'], ended.stderr.decode())
-        *_, last = states(data)
-        self.assertEqual(last[VIDEO:REGISTERS], self.shown(source, len(data['steps'])).vdp)
-
-    def read(self, lines, seconds=1, seconds_a_line=0, most=None):
-        """How many steps of a report are read, and why no more, if each line takes so many seconds to come."""
-        clock = iter(number * seconds_a_line for number in range(1000))
-        with mock.patch.object(reports.time, 'monotonic', lambda: next(clock)), \
-                mock.patch.object(reports, 'MOST_BYTES', most or reports.MOST_BYTES):
-            steps, rest, cut = reports.steps_of(io.BytesIO(b''.join(lines)), run.step_of, seconds)
-        return len(steps), rest, cut
-
-    def test_the_last_steps_are_left_out_after_the_seconds_that_are_given(self):
-        lines = [b'%6d >6000 S00 D9F R7E INC @>8300 >8300=%02X\n' % (number, number) for number in range(1, 100)]
-        end = b'gpl >6000 S00 D9F R7E\n'
-        self.assertEqual(self.read([*lines, end], 50, 0.5), (99, end, ''))
-        self.assertEqual(self.read([*lines, end], 10, 0.5),
-                         (21, b'', 'more would take longer than 10 seconds'))
-        self.assertEqual(self.read([*lines, end], 0.25, 0.125), (3, b'', 'more would take longer than 0.25 seconds'))
-
-    def test_the_last_steps_are_left_out_if_the_changes_are_too_many(self):
-        lines = [b'%6d >6000 S00 D9F R7E MOVE >0004,@>8300,V@>0000 >8300=01,02,03,04\n' % number
-                 for number in range(1, 100)]
-        self.assertEqual(reports.MOST_BYTES, 32_000_000)
-        # a step of four bytes has eight digits, and takes 28 bytes of a page
-        self.assertEqual(self.read(lines, most=27)[::2], (1, 'the changes are more than 0 MB'))
-        self.assertEqual(self.read(lines, most=28)[::2], (2, 'the changes are more than 0 MB'))
-        self.assertEqual(self.read(lines, most=10 * 28)[::2], (11, 'the changes are more than 0 MB'))
-        self.assertEqual(self.read(lines, most=99 * 28)[::2], (99, ''))
 
     def test_the_name_of_a_file_stays_a_text(self):
         page = self.page(b' EXIT\n END >6000\n', name='<b>&\'"; {{data}}.gpl').decode()

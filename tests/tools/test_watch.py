@@ -4,6 +4,7 @@ import unittest
 
 from calling import TOP, Calling
 from lib import program
+from lying import sleeper
 
 SHOW = (TOP / 'examples/show/input').read_bytes()
 # it is stopped in its sixth step
@@ -132,6 +133,23 @@ class Watch(Calling):
             for words in ([], ['--all']):
                 ended = self.watch(*words, 'show.gpl', limit, 'pad:8310', source=source)
                 self.assertEqual((ended.returncode, ended.stdout, ended.stderr), (1, b'', b'tools/watch: %s\n' % text))
+
+    def test_a_program_that_takes_too_long_is_ended(self):
+        bench = program.program().path
+        debugger = program.other(bench, 'ti_debug')
+        source = b'S INC @>8300\n B S\n END S\n'
+        self.file('show.gpl', source)
+        begun = b''.join(program.Program(debugger).run('gsteps', '3', given=source).out.splitlines(True)[:3])
+        ended = self.call('watch', '--all', '--seconds', '10', 'show.gpl', '9', 'pad:8300',
+                          TI_DEBUG=sleeper(self.folder, debugger, 'gsteps', begun))
+        self.assertEqual((ended.returncode, ended.stdout.count(b' step ')), (0, 2), ended.stderr)
+        self.assertEqual(ended.stderr, b'tools/watch: only the first 3 steps were looked at: more would take longer '
+                                       b'than 10 seconds\n')
+        for words in [], ['--all']:
+            ended = self.call('watch', *words, '--seconds', '1', 'show.gpl', '9', 'pad:8300',
+                              TI_BENCH=sleeper(self.folder, bench, 'watch'), TI_DEBUG=debugger)
+            self.assertEqual((ended.returncode, ended.stdout, ended.stderr), (
+                1, b'', b'tools/watch: the program runs longer than 1 seconds; --seconds gives it more\n'))
 
     def test_a_refused_source_is_reported(self):
         ended = self.watch('show.gpl', '3', 'pad:SUM', source=b' FOO\n')

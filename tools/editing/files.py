@@ -8,15 +8,25 @@ from lib.repository import TOP, read_text
 TEMPLATES = TOP / 'tools/editing'
 MARK = re.compile(r'\{\{(\w+)\}\}')
 # The fields of a line in a grammar: a good or a bad label, one of the names or a bad operation, and operands.
-FIELDS = {'label': r'(?:([A-Z][0-9A-Z]{0,5})(?![^ \t])|([^ \t*][^ \t]*))?',
-          'word': r'(?:({{operations}})(?![^ \t])|({{directives}})(?![^ \t])|([^ \t]+))',
+FIELDS = {'label': r'(?:([A-Z][0-9A-Z]{0,5}{{more_labels}})(?![^ \t])|([^ \t*][^ \t]*))?',
+          'word': r'(?:({{operations}})(?![^ \t])|({{directives}})(?![^ \t])|({{macro_word}})(?![^ \t])|([^ \t]+))',
           'operands': r"(?:[^ \t']|'[^']*(?:'|$))+"}
-# The settings that differ by language, beside its names; the prefixes belong to operands.
+# The settings that differ by language, beside its names; the prefixes belong to operands. In a GPL source a local label
+# or the parameter of a macro may be a label, and an operation that is none may be a macro.
 LANGUAGES = {
     'ti99gpl': {'title': 'GPL of the TI-99/4A', 'ending': 'gpl', 'prefix': r'(?:[VGR]?@|V?\*)',
-                'vim_prefix': r'\%([VGR]\=@\|V\=\*\)'},
+                'vim_prefix': r'\%([VGR]\=@\|V\=\*\)',
+                'more_labels': r'|\.[0-9A-Z_]{1,31}|\\[A-Z][0-9A-Z_]*', 'macro': r'[A-Z][0-9A-Z_]{0,30}',
+                'macro_word': r'[A-Z][0-9A-Z_]{0,30}|\\[A-Z][0-9A-Z_]*', 'local': r'\.[0-9A-Z_]{1,31}',
+                'parameter': r'\\(?:LEN\([0-9A-Z_]+\)|[A-Z][0-9A-Z_]*)',
+                'vim_label': r'\%(\.[0-9A-Za-z_]\{1,31}\|\\\a[0-9A-Za-z_]*\)', 'vim_macro': r'\a[0-9A-Za-z_]\{,30}',
+                'vim_macro_word': r'\%(\a[0-9A-Za-z_]\{,30}\|\\\a[0-9A-Za-z_]*\)',
+                'vim_local': r'\.[0-9A-Za-z_]\{1,31}',
+                'vim_parameter': r'\\\%(LEN([0-9A-Za-z_]\+)\|\a[0-9A-Za-z_]*\)'},
     'ti99asm': {'title': 'TMS9900 assembler of the TI-99/4A', 'ending': 'a99', 'prefix': '[@*]',
-                'vim_prefix': '[@*]'},
+                'vim_prefix': '[@*]', 'more_labels': '', 'macro': '', 'macro_word': '(?!)', 'local': '',
+                'parameter': '', 'vim_label': '', 'vim_macro': '', 'vim_macro_word': '', 'vim_local': '',
+                'vim_parameter': ''},
 }
 
 
@@ -33,8 +43,8 @@ def vim(language, names):
 def grammar(language, names):
     """A TextMate grammar; a rule of the template that would list no name is left out."""
     lists = {field: '|'.join(found) for field, found in names._asdict().items()}
-    fields = {field: MARK.sub(lambda mark: lists[mark[1]], pattern) for field, pattern in FIELDS.items()}
-    values = {**LANGUAGES[language], **lists, **fields, 'language': language}
+    values = {**LANGUAGES[language], **lists, 'language': language}
+    values.update((field, MARK.sub(lambda mark: values[mark[1]], pattern)) for field, pattern in FIELDS.items())
 
     def filled(it):
         if isinstance(it, dict):

@@ -10,7 +10,9 @@ A line of a copied file is left out in a copy of the file, which is in a folder 
 import os
 import pathlib
 import tempfile
+import typing
 
+from expanding.names import FORMS, WORDS
 from lib import notes
 from lib.languages import OF_COMMAND
 from lib.refusals import PLACE, file_shown, lines
@@ -23,13 +25,14 @@ KEEPS_NO_LABEL = {'EQU', 'COPY', 'END'}
 
 
 class Line:
-    """A line that was left out: the copied file that it is in, or None, its number, its label, and whether the label is
-    still there."""
+    """A line that was left out: the copied file that it is in, or None, its number, its label, whether the label is
+    still there, and whether the line would have been expanded."""
 
-    def __init__(self, file, number, text):
+    def __init__(self, file, number, text, is_form=False):
         found = notes.fields(text)
         self.file, self.number, self.label, self.operation = file, number, found.label, found.operation.upper()
-        self.is_kept = bool(self.label) and self.operation not in KEEPS_NO_LABEL
+        self.is_kept = bool(self.label) and self.operation not in KEEPS_NO_LABEL and not is_form
+        self.is_form = is_form
 
     @property
     def text(self):
@@ -37,7 +40,11 @@ class Line:
 
     def may_define(self, names):
         """Whether one of some names is perhaps unknown since the line was left out."""
-        return self.operation == 'COPY' or (not self.is_kept and self.label.upper() in names)
+        return self.is_form or self.operation == 'COPY' or (not self.is_kept and self.label.upper() in names)
+
+    def may_name(self, operation):
+        """Whether the line might have made an operation known, as the name of a macro."""
+        return self.is_form and (self.operation == 'COPY' or self.label.upper() == operation)
 
 
 class Texts:
@@ -75,8 +82,9 @@ class Texts:
 def doubt(file, place, text, language, left_out):
     """The note of a refusal that may come of a line that was left out, or none."""
     name, number, cause = place.groups()
-    names = set(notes.names_in(text, language))
-    of_names = [line for line in left_out if cause == 'unknown name' and line.may_define(names)]
+    names, operation = set(notes.names_in(text, language)), notes.fields(text).operation.upper()
+    of_names = [line for line in left_out if (cause == 'unknown name' and line.may_define(names)) or (
+        cause == 'unknown operation' and line.may_name(operation))]
     found = of_names[:1] or (left_out[-1:] if cause in BY_PLACE else [])
     for line in found:
         where = b'' if line.file == name else b' of ' + file_shown(line.file or os.path.basename(file))
@@ -86,11 +94,17 @@ def doubt(file, place, text, language, left_out):
     return []
 
 
-def refusals_of(assembler, kind, file, source, ended):
-    """The refusals of a source, of which the first is given: how each run ended, and notes. One that names no line of
-    the source or of a file that it copies is the last."""
-    left_out, texts = {}, Texts(assembler, kind, file, source)
-    while len(left_out) < MOST:
+def refusals_of(assembler, kind, file, source, ended, before=(), most=MOST):
+    """The refusals of a source, of which the first is given, up to so many: how each run ended, and notes. Lines that
+    are left out before are given by their numbers and texts. A refusal that names no line of the source or of a file
+    that it copies is the last."""
+    left_out: typing.Dict[tuple, Line] = {}
+    plain = WORDS[OF_COMMAND[kind]].known - FORMS
+    for number, text in before:
+        left_out[None, str(number)] = Line(None, number, text, notes.fields(text).operation.upper() not in plain)
+    texts = Texts(assembler, kind, file, source)
+    most += len(left_out)
+    while len(left_out) < most:
         place = PLACE.fullmatch(ended.fault)
         text = texts.line(place[1], int(place[2])) if place else None
         if text is None:

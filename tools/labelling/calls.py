@@ -1,7 +1,7 @@
 """What the program answers, over bytes."""
-from lib.command import FAILED, UNREADABLE, Stopped
+from lib.command import FAILED, MOST_BYTES, UNREADABLE, Stopped
 
-LIMIT = 1048576      # bytes of an input
+LIMIT = MOST_BYTES
 
 
 class Rejected(Exception):

@@ -50,11 +50,11 @@ def labelled(program, lister, at, data, wishes):
     if at + len(data) > MEMORY:
         raise Rejected('past the end of memory')
     if not data:
-        return Labelled(report(program, lister, f'{at:04X}'), [], '0 bytes')
+        return Labelled(report(program, lister, f'{at:04X}'), _names_left_out(wishes), '0 bytes')
     labelling = Labelling(program, language, Image([(at, data)]), wishes)
     entry = next((it for it in labelling.entries if labelling.image.holds(it)), None)
     wanted = OfImage(program, language, labelling.image, entry)
-    return labelling.made([], entry, wanted) or _flat(wanted)
+    return labelling.made([], entry, wanted) or _flat(wanted, wishes)
 
 
 def comes_back(program, data, at=0x6000, lister='gdis'):
@@ -85,12 +85,17 @@ def _of_object(program, text, wishes):
     raise Rejected('no source was found of which the program makes the same words')
 
 
-def _flat(wanted):
+def _names_left_out(wishes):
+    """What is said of the files of names if a source has no names."""
+    return [f'{name}: the names are left out' for name, _ in wishes.names]
+
+
+def _flat(wanted, wishes):
     """The listing as it is, if no labelled source passed the check."""
     flat = wanted.flat()
     if len(flat) > LIMIT or wanted.made(flat) != wanted.wanted:
         raise Rejected('no source was found of which the program makes the same bytes')
-    return Labelled(flat, [], FLAT)
+    return Labelled(flat, _names_left_out(wishes), FLAT)
 
 
 class Labelling:

@@ -7,6 +7,7 @@ import pathlib
 import re
 import typing
 
+from lib import documents
 from lib.command import UNREADABLE, Stopped
 from lib.repository import TOP, read_text
 from lib.program import other
@@ -17,15 +18,18 @@ PROGRAMS = ['ti_bench', 'ti_debug']
 # the scripts of tools/ that users call as ti_bench-NAME, each with the folders and files of tools/ that it needs beside
 # lib
 TOOLS: typing.Dict[str, typing.List[str]] = {
-    'archive': ['labelling'],
-    'assemble': ['editing/left_out.py', 'expanding'],
+    'archive': ['expanding', 'labelling'],
+    'assemble': ['editing/left_out.py', 'expanding', 'stepping', 'warning'],
     'cartridge': ['expanding', 'packing', 'stepping'],
+    'compare': ['comparing', 'expanding', 'profiling', 'stepping'],
     'expand': ['expanding'],
     'label': ['labelling'],
     'pattern': ['drawing'],
+    'profile': ['expanding', 'profiling', 'stepping'],
     'raw': [],
     'screen': ['stepping'],
     'steps': ['expanding', 'stepping'],
+    'test': ['expanding', 'profiling', 'stepping', 'testing'],
     'watch': ['expanding', 'stepping'],
 }
 # the scripts that an installation has beside them
@@ -98,17 +102,25 @@ def files(program, top=TOP):
     return found
 
 
-def installed(found, name='ti_bench'):
-    """Where an installation has the files that are handed out, with the links to its commands. Its folder of documents
-    has a name."""
-    placed = {f'bin/{command}': Link(f'lib/ti_bench/tools/{script}') for command, script in commands().items()}
-    for path, file in found.items():
-        if path in NOT_INSTALLED:
-            continue
-        if path.startswith(f'{MANUALS}/'):
-            placed[f'share/man/man1/{pathlib.PurePath(path).name}'] = file
-        elif path in (*PROGRAMS, 'VERSION') or path.startswith(('tools/', 'editors/')):
-            placed[f'lib/ti_bench/{path}'] = file
-        else:
-            placed[f'share/doc/{name}/{path}'] = file
+def place_of(path, name, packed):
+    """Where an installation has a file that is handed out. Its folder of documents has a name, and the manual pages
+    have an ending if they are packed."""
+    if path.startswith(f'{MANUALS}/'):
+        return f'share/man/man1/{pathlib.PurePath(path).name}{packed}'
+    if path in (*PROGRAMS, 'VERSION') or path.startswith(('tools/', 'editors/')):
+        return f'lib/ti_bench/{path}'
+    return f'share/doc/{name}/{path}'
+
+
+def installed(found, name='ti_bench', packed=''):
+    """Where an installation has the files that are handed out, with the links to its commands. Its documents say what
+    holds there."""
+    placed: typing.Dict[str, typing.Union[File, Link]] = {
+        f'bin/{command}': Link(f'lib/ti_bench/tools/{script}') for command, script in commands().items()}
+    places = {path: place_of(path, name, packed) for path in found if path not in NOT_INSTALLED}
+    for path, place in places.items():
+        placed[place] = found[path]
+        if path.endswith('.md'):
+            text = documents.installed(path, found[path].data.decode('utf-8'), places, TOOLS)
+            placed[place] = File(text.encode('utf-8'))
     return placed

@@ -3,6 +3,9 @@ import argparse
 import contextlib
 import errno
 import os
+import pathlib
+import secrets
+import shutil
 import stat
 import sys
 import tempfile
@@ -133,3 +136,40 @@ def write(path, data):
         raise
     except OSError as error:
         raise unreadable(error, path) from None
+
+
+def place_files(folder, files):
+    """Makes files of a folder, of each its name and its bytes: first all of them in a folder beside them, which has a
+    name of its own."""
+    kept, names, placed = folder / f'.ti_bench-{secrets.token_hex(8)}', [], []
+    try:
+        kept.mkdir(mode=0o700)
+        for name, data in files:
+            (kept / name).write_bytes(data)
+            names.append(name)
+        for name in names:
+            placed.append(folder / name)
+            os.rename(kept / name, folder / name)
+    except BaseException:
+        for path in placed:
+            path.unlink(missing_ok=True)
+        raise
+    finally:
+        # a TemporaryDirectory would stay if a signal came while it is made
+        shutil.rmtree(kept, ignore_errors=True)
+
+
+def write_files(folder, files):
+    """Writes new files of a folder, which need not be there, of each its name and its bytes: all, or none if it is
+    stopped or one of them cannot be written."""
+    missing = [path for path in (folder, *folder.parents) if not path.exists()]
+    try:
+        folder.mkdir(parents=True, exist_ok=True)
+        place_files(folder, files)
+    except BaseException as error:
+        for path in missing:
+            with contextlib.suppress(OSError):
+                path.rmdir()
+        if isinstance(error, OSError):
+            raise unreadable(error, folder) from None
+        raise

@@ -30,15 +30,19 @@ class Run(typing.NamedTuple):
 
 
 class Program:
-    """A program that reads bytes and writes bytes."""
+    """A program that reads bytes and writes bytes. Its runs take no longer than a clock says, if there is one."""
 
     def __init__(self, path):
-        self.path = path
+        self.path, self.clock = path, None
 
     def run(self, *words, given=b'', folder=None, **more):
         """A run with these words on these bytes, in a folder."""
+        left = self.clock.left if self.clock else None
         try:
-            ended = subprocess.run([self.path, *words], input=given, capture_output=True, cwd=folder, **more)
+            ended = subprocess.run([self.path, *words], input=given, capture_output=True, cwd=folder, timeout=left,
+                                   **more)
+        except subprocess.TimeoutExpired:
+            raise self.clock.over() from None
         except OSError as error:
             # the name in the error may be that of the folder
             raise unreadable(error, error.filename or self.path) from None

@@ -81,8 +81,18 @@ def unused_rows(source, names):
             yield f'{source.where(name.line)}: nothing uses {source.spelled(name.name)}'
 
 
+def macro_rows(source, wanted):
+    """The same of a macro: where it is defined, and its uses, also those in other macros."""
+    macro = source.made.macros.get(wanted.upper()) if source.made else None
+    if macro:
+        takes = f' of {", ".join(macro.parameters)}' if macro.parameters else ''
+        yield f'{macro.file}:{macro.first - 1}: {macro.name} is a macro{takes}'
+        yield from (f'{place}: {text.strip()}' for name, place, text in source.made.uses if name == macro.name)
+
+
 def use_rows(source, names, wanted):
-    """The lines that use a name, each with its text; none if the source has no such name."""
+    """The lines that use a name or a macro, each with its text; none if the source has no such name."""
+    yield from macro_rows(source, wanted)
     for name in names.found:
         if wanted.upper() in (name.name, source.spelled(name.name).upper()):
             yield f'{source.where(name.line)}: {source.spelled(name.name)} is >{name.value:04X}'

@@ -63,7 +63,9 @@ class Listing(typing.NamedTuple):
 
 
 class Placed(typing.NamedTuple):
-    """A line at its address in linked memory, with its bytes there; and what it is called: its number and its file."""
+    """A line at its address in linked memory, with its bytes there; its number in its file; and what it is called: its
+    number and its file."""
+    number: int
     address: int
     data: bytes
     text: bytes
@@ -130,7 +132,7 @@ def placed(path, listing, linked, memory, prefix=''):
     for line in listing.lines:
         at, size = line.address(base), len(line.bytes_at(base))
         name = f'{line.file}:{line.number}' if line.file else f'{prefix}{line.number}'
-        lines.append(Placed(at, bytes(memory[at + offset] for offset in range(size)), line.text, name))
+        lines.append(Placed(line.number, at, bytes(memory[at + offset] for offset in range(size)), line.text, name))
     names = [(name.name, int.from_bytes(name.value.at(base), 'big')) for name in listing.names
              if name.value.mark != EXTERNAL]
     return lines, names

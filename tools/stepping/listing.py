@@ -43,3 +43,19 @@ def listing_of(report):
         else:
             raise command.Stopped(f'no line of a listing: {row.decode("latin-1")}')
     return Listing(lines, names)
+
+
+def image_of(listing):
+    """The bytes from the lowest to the highest address at which the lines place one."""
+    placing = [line for line in listing.lines if line.data]
+    first = min((line.address for line in placing), default=0)
+    made = bytearray(max((line.address + len(line.data) for line in placing), default=0) - first)
+    for line in placing:
+        made[line.address - first:line.address - first + len(line.data)] = line.data
+    return bytes(made)
+
+
+def check_image(listing, image):
+    """Stops the script if a listing does not have each line, or if the bytes of its lines are not those of an image."""
+    if image_of(listing) != image or any(line.number != number for number, line in enumerate(listing.lines, 1)):
+        raise command.Stopped('the bytes of the lines are not those that the source is assembled to')

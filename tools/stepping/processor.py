@@ -126,10 +126,10 @@ def names_in(listed):
     return [(name, int(value, 16)) for name, value in NAME.findall(listed)]
 
 
-def run_of(debugger, objects, listed, limit, seconds):
+def run_of(debugger, objects, listed, limit):
     """The run of object text that the program accepts and whose linked memory is listed, up to a number of
     instructions."""
-    report = reported(debugger.path, ['steps', str(limit)], objects, step_of, seconds)
+    report = reported(debugger, ['steps', str(limit)], objects, step_of)
     first = first_memory(listed)
     steps, memory = replayed(first, report.steps)
     end, stopped = ending(report, limit)

@@ -3,8 +3,9 @@
 If a run has more changes than a page can hold, or takes longer than a page should, its last steps are left out. What a
 report says must fit together: else the tools that read it stop and say so.
 """
+import signal
 import subprocess
-import time
+import threading
 import typing
 
 from lib import command
@@ -18,19 +19,20 @@ def size_of(changes):
     return sum(len(digits) + 12 for _, digits, _ in changes) + 8
 
 
-def steps_of(output, step_of, seconds):
-    """The steps that a report begins with, what follows them, and why steps are left out, if any are."""
-    steps, size, deadline = [], 0, time.monotonic() + seconds
+def steps_of(output, step_of, clock):
+    """The steps that a report begins with, what follows them, and why steps are left out, if any are. No more are read
+    once half of what was left on the clock is over."""
+    steps, size, least = [], 0, clock.left / 2
     for line in output:
-        step = step_of(line.decode('latin-1').rstrip('\n'))
+        step = step_of(line.decode('latin-1').rstrip('\n')) if line.endswith(b'\n') else None
         if step is None:
             return steps, line + output.read(), ''
         steps.append(step)
         size += size_of(step.changes)
         if size > MOST_BYTES:
             return steps, b'', f'the changes are more than {MOST_BYTES // 1_000_000} MB'
-        if time.monotonic() > deadline:
-            return steps, b'', f'more would take longer than {seconds:g} seconds'
+        if clock.left < least:
+            return steps, b'', clock.cut
     return steps, b'', ''
 
 
@@ -43,42 +45,64 @@ class Report(typing.NamedTuple):
     status: typing.Optional[int]
 
 
-def reported(debugger, words, given, step_of, seconds):
-    """The report of an input that the program accepts."""
+def read(running, given, step_of, clock):
+    """The report that a process writes on an input. It is ended if it writes nothing for too long."""
+    is_late = threading.Event()
+
+    def end():
+        is_late.set()
+        running.kill()
+
+    alarm = threading.Timer(clock.left / 2, end)
+    alarm.start()
     try:
-        with subprocess.Popen([debugger, *words], stdin=subprocess.PIPE, stdout=subprocess.PIPE,
+        # the whole input is read before the first byte is written
+        running.stdin.write(given)
+        running.stdin.close()
+        steps, rest, cut = steps_of(running.stdout, step_of, clock)
+        status = None if cut else running.wait()
+    finally:
+        alarm.cancel()
+        running.kill()
+    if is_late.is_set() and status == -signal.SIGKILL:
+        return Report(steps, '', clock.cut, None)
+    return Report(steps, rest.decode('latin-1'), cut, status)
+
+
+def reported(debugger, words, given, step_of):
+    """The report of an input that the program accepts, as far as its clock allows."""
+    try:
+        with subprocess.Popen([debugger.path, *words], stdin=subprocess.PIPE, stdout=subprocess.PIPE,
                               stderr=subprocess.DEVNULL) as running:
-            try:
-                # the whole input is read before the first byte is written
-                running.stdin.write(given)
-                running.stdin.close()
-                steps, rest, cut = steps_of(running.stdout, step_of, seconds)
-                status = None if cut else running.wait()
-            finally:
-                running.kill()
+            report = read(running, given, step_of, debugger.clock)
     except BrokenPipeError:
         # it has ended without reading its input
         raise no_report('no end of a run') from None
     except OSError as error:
-        raise command.Stopped(f'{debugger}: {error.strerror}', command.UNREADABLE) from None
-    if status not in (None, 0, 7):
-        raise command.Stopped(f'{debugger} {" ".join(words)}: ended with status {status}')
-    return Report(steps, rest.decode('latin-1'), cut, status)
+        raise command.Stopped(f'{debugger.path}: {error.strerror}', command.UNREADABLE) from None
+    if report.status not in (None, 0, 7):
+        raise command.Stopped(f'{debugger.path} {" ".join(words)}: ended with status {report.status}')
+    return report
 
 
 def replayed(first, steps, is_before=None):
     """Steps, each with the bytes that it changed and no others, and the memory that all lead to. The memory before the
-    first is given as changes of a memory of 0. The numbers of the steps must be 1, 2 and so on. If lines show a part of
-    the memory before their steps, and no byte that stays, `is_before` says whether that part is so."""
-    memory, made = bytearray(END), []
+    first is given as changes of a memory of 0."""
+    memory = bytearray(END)
     make(memory, first)
+    return list(checked(memory, steps, is_before)), memory
+
+
+def checked(memory, steps, is_before=None):
+    """Steps one after the other, each with the bytes that it changed and no others, which are then in the memory. The
+    numbers of the steps must be 1, 2 and so on. If lines show a part of the memory before their steps, and no byte that
+    stays, `is_before` says whether that part is so."""
     for number, step in enumerate(steps, 1):
         is_fit = step.number == number and (is_before is None or is_before(step, memory))
         changed = differing(memory, step.changes)
         if not is_fit or (is_before and changed != step.changes):
             raise command.Stopped(f'what the program shows of step {number} does not fit the steps before it')
-        made.append(step._replace(changes=changed))
-    return made, memory
+        yield step._replace(changes=changed)
 
 
 def not_led_to():

@@ -40,13 +40,15 @@ class Step(typing.NamedTuple):
 
 class Run(typing.NamedTuple):
     """A run: its steps, the address after the last, the state before the first as changes of a memory of 0, how it
-    ended as a sentence, whether the program stopped with an error, and why steps are left out, if any are."""
+    ended as a sentence, whether the program stopped with an error, why steps are left out, if any are, and the reason
+    of its end: 0 for EXIT, and None if it has not ended."""
     steps: list
     last: int
     first: list
     end: str
     stopped: bool
     cut: str
+    reason: typing.Optional[int]
 
 
 def first_state():
@@ -82,10 +84,10 @@ def state_shown(rest):
 
 
 def ending(report, limit):
-    """How a run ended, as a sentence; and whether with an error."""
+    """How a run ended, as a sentence; and by which reason, None if it has not ended."""
     steps = len(report.steps)
     if report.cut:
-        return only(steps, report.cut), False
+        return only(steps, report.cut), None
     found = END_LINE.match(report.rest)
     if (found or STATE.match(report.rest)) is None or (not found and steps != limit):
         raise no_report('no end of a run')
@@ -93,21 +95,21 @@ def ending(report, limit):
     if is_stopped != (report.status == 7):
         raise no_report(f'a run that ended with status {report.status}')
     if not found:
-        return f'Cut off after {counted(steps)}, the limit.', False
+        return f'Cut off after {counted(steps)}, the limit.', None
     if is_stopped:
-        return f'Stopped at >{found[3]} after {counted(steps)}: {REASONS[int(found[2])]}.', True
-    return f'Ended by EXIT at >{found[3]} after {counted(steps)}.', False
+        return f'Stopped at >{found[3]} after {counted(steps)}: {REASONS[int(found[2])]}.', int(found[2])
+    return f'Ended by EXIT at >{found[3]} after {counted(steps)}.', 0
 
 
-def run_of(bench, debugger, source, limit, seconds):
+def run_of(bench, debugger, source, limit):
     """The run of a GPL source that the program accepts, up to a number of steps."""
-    report, first = reported(debugger, ['gsteps', str(limit)], source, step_of, seconds), first_state()
+    report, first = reported(debugger, ['gsteps', str(limit)], source, step_of), first_state()
     steps, memory = replayed(first, report.steps, is_before)
-    end, stopped = ending(report, limit)
+    end, reason = ending(report, limit)
     rest = report.rest
     if report.cut:
         rest = bench.run('run', str(len(steps)), given=source).out.decode('latin-1')
     last, shown = state_shown(rest)
     if memory != shown:
         raise not_led_to()
-    return Run(steps, last, first, end, stopped, report.cut)
+    return Run(steps, last, first, end, bool(reason), report.cut, reason)

@@ -15,9 +15,11 @@ syntax match ti99asmComment /^\*.*/
 syntax match ti99asmBlanks /^[ \t]\+/ nextgroup=@ti99asmWord
 syntax match ti99asmBadLabel /^[^ \t*]\S*/ nextgroup=@ti99asmWord skipwhite
 syntax match ti99asmLabel /^\a[0-9A-Za-z]\{,5}\ze\%([ \t]\|$\)/ nextgroup=@ti99asmWord skipwhite
+syntax match ti99asmMacroLine contained /MACRO/ nextgroup=ti99asmParameters skipwhite
+syntax match ti99asmParameters contained /\S\+/ nextgroup=ti99asmRemark
 
 syntax cluster ti99asmWord contains=ti99asmOperation,ti99asmBare,ti99asmDirective,
-      \ti99asmBareDirective,ti99asmFileDirective,ti99asmBadOperation
+      \ti99asmBareDirective,ti99asmFileDirective,ti99asmMacroUse,ti99asmBadOperation
 syntax match ti99asmBadOperation contained /\S\+/ nextgroup=ti99asmOperands skipwhite
 syntax keyword ti99asmOperation contained nextgroup=ti99asmOperands skipwhite
       \ A AB ABS AI ANDI B BL BLWP C CB CI CLR COC CZC DEC DECT DIV INC INCT INV JEQ JGT JH JHE JL JLE JLT JMP JNC JNE
@@ -39,7 +41,7 @@ syntax match ti99asmRemark contained /[ \t].*/
 
 syntax cluster ti99asmOperand contains=ti99asmBadSign,ti99asmName,ti99asmLongName,
       \ti99asmRegister,ti99asmNumber,ti99asmHere,ti99asmOperator,ti99asmPrefix,
-      \ti99asmOpenText,ti99asmText
+      \ti99asmOpenText,ti99asmText,ti99asmLocal,ti99asmParameter
 syntax match ti99asmBadSign contained /[^-+*\/ \t0-9A-Za-z>$@,()']/
 syntax match ti99asmName contained /\a[0-9A-Za-z]*/
 syntax match ti99asmLongName contained /\a[0-9A-Za-z]\{6,}/
@@ -59,6 +61,12 @@ highlight default link ti99asmBare Statement
 highlight default link ti99asmDirective PreProc
 highlight default link ti99asmBareDirective PreProc
 highlight default link ti99asmFileDirective PreProc
+highlight default link ti99asmMacro Macro
+highlight default link ti99asmMacroLine PreProc
+highlight default link ti99asmMacroUse Macro
+highlight default link ti99asmParameters Identifier
+highlight default link ti99asmParameter Special
+highlight default link ti99asmLocal Function
 highlight default link ti99asmName Identifier
 highlight default link ti99asmRegister Type
 highlight default link ti99asmNumber Number

@@ -15,10 +15,15 @@ syntax match ti99gplComment /^\*.*/
 syntax match ti99gplBlanks /^[ \t]\+/ nextgroup=@ti99gplWord
 syntax match ti99gplBadLabel /^[^ \t*]\S*/ nextgroup=@ti99gplWord skipwhite
 syntax match ti99gplLabel /^\a[0-9A-Za-z]\{,5}\ze\%([ \t]\|$\)/ nextgroup=@ti99gplWord skipwhite
+syntax match ti99gplLabel /^\%(\.[0-9A-Za-z_]\{1,31}\|\\\a[0-9A-Za-z_]*\)\ze\%([ \t]\|$\)/ nextgroup=@ti99gplWord skipwhite
+syntax match ti99gplMacro /^\a[0-9A-Za-z_]\{,30}\ze[ \t]\+MACRO\%([ \t]\|$\)/ nextgroup=ti99gplMacroLine skipwhite
+syntax match ti99gplMacroLine contained /MACRO/ nextgroup=ti99gplParameters skipwhite
+syntax match ti99gplParameters contained /\S\+/ nextgroup=ti99gplRemark
 
 syntax cluster ti99gplWord contains=ti99gplOperation,ti99gplBare,ti99gplDirective,
-      \ti99gplBareDirective,ti99gplFileDirective,ti99gplBadOperation
+      \ti99gplBareDirective,ti99gplFileDirective,ti99gplMacroUse,ti99gplBadOperation
 syntax match ti99gplBadOperation contained /\S\+/ nextgroup=ti99gplOperands skipwhite
+syntax match ti99gplMacroUse contained /\%(\a[0-9A-Za-z_]\{,30}\|\\\a[0-9A-Za-z_]*\)\ze\%([ \t]\|$\)/ nextgroup=ti99gplOperands skipwhite
 syntax keyword ti99gplOperation contained nextgroup=ti99gplOperands skipwhite
       \ ABS ADD ALL AND B BACK BR BS CALL CASE CEQ CGE CGT CH CHE CLOG CLR CZ DABS DADD DAND DCASE DCEQ DCGE DCGT DCH
       \ DCHE DCLOG DCLR DCZ DDEC DDECT DDIV DEC DECT DEX DINC DINCT DINV DIV DMUL DNEG DOR DSLL DSRA DSRC DSRL DST
@@ -26,7 +31,11 @@ syntax keyword ti99gplOperation contained nextgroup=ti99gplOperands skipwhite
 syntax keyword ti99gplBare contained nextgroup=ti99gplRemark
       \ CARRY EXIT GT H OVF RTN RTNC
 syntax keyword ti99gplDirective contained nextgroup=ti99gplOperands skipwhite
-      \ AORG BSS BYTE DATA END EQU GROM TEXT
+      \ AORG BSS BYTE CELL CELLS DATA END EQU GROM IF IFDEF MACRO TEXT
+syntax keyword ti99gplBareDirective contained nextgroup=ti99gplRemark
+      \ ELSE ENDIF ENDM
+syntax keyword ti99gplFileDirective contained nextgroup=ti99gplFile skipwhite
+      \ BIN COPY
 
 syntax match ti99gplOperands contained /\%([^ \t']\|'[^']*\%('\|$\)\)\+/ contains=@ti99gplOperand
       \ nextgroup=ti99gplRemark
@@ -35,7 +44,7 @@ syntax match ti99gplRemark contained /[ \t].*/
 
 syntax cluster ti99gplOperand contains=ti99gplBadSign,ti99gplName,ti99gplLongName,
       \ti99gplRegister,ti99gplNumber,ti99gplHere,ti99gplOperator,ti99gplPrefix,
-      \ti99gplOpenText,ti99gplText
+      \ti99gplOpenText,ti99gplText,ti99gplLocal,ti99gplParameter
 syntax match ti99gplBadSign contained /[^-+*\/ \t0-9A-Za-z>$@,()']/
 syntax match ti99gplName contained /\a[0-9A-Za-z]*/
 syntax match ti99gplLongName contained /\a[0-9A-Za-z]\{6,}/
@@ -44,6 +53,8 @@ syntax match ti99gplNumber contained /\d\+\|>\x\+/
 syntax match ti99gplHere contained /\$/
 syntax match ti99gplOperator contained /[-+*\/]/
 syntax match ti99gplPrefix contained /[, \t(]\@1<=\%([VGR]\=@\|V\=\*\)/
+syntax match ti99gplLocal contained /\.[0-9A-Za-z_]\{1,31}/
+syntax match ti99gplParameter contained /\\\%(LEN([0-9A-Za-z_]\+)\|\a[0-9A-Za-z_]*\)/
 syntax match ti99gplOpenText contained /'[^']*$/
 syntax match ti99gplText contained /'\%([^']\|''\)*'/
 
@@ -55,6 +66,12 @@ highlight default link ti99gplBare Statement
 highlight default link ti99gplDirective PreProc
 highlight default link ti99gplBareDirective PreProc
 highlight default link ti99gplFileDirective PreProc
+highlight default link ti99gplMacro Macro
+highlight default link ti99gplMacroLine PreProc
+highlight default link ti99gplMacroUse Macro
+highlight default link ti99gplParameters Identifier
+highlight default link ti99gplParameter Special
+highlight default link ti99gplLocal Function
 highlight default link ti99gplName Identifier
 highlight default link ti99gplRegister Type
 highlight default link ti99gplNumber Number
