@@ -60,7 +60,7 @@ fn all_rows(
 ) -> Result<Vec<Vec<u8>>, AllocError>
     ensures { IfOk result (λ rows. texts_in rows.items ≡ all_rows lines.now ending.now) }
 {
-    let mut rows = Vec::new(alloc);
+    let mut rows = Vec::with_capacity(alloc, lines.len())?;
     match ending {
         ListedEnding::Whole(names) => {
             let lister = Lister {

@@ -51,7 +51,9 @@ pub(crate) fn first_row(
     append_number(&mut front, line.line);
     front.push(b' ');
     append_placed(&mut front, at, text);
-    let mut row = Vec::from_slice(alloc, front.as_slice())?;
+    let size = front.len().saturating_add(line.text.len());
+    let mut row = Vec::with_capacity(alloc, size.saturating_add(1))?;
+    row.extend_from_slice(front.as_slice())?;
     row.extend_from_slice(line.text.as_slice())?;
     row.push(b'\n')?;
     Ok(row)

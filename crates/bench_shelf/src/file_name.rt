@@ -20,7 +20,7 @@ const LONGEST_FILE_NAME: usize = 60;
 pub struct FileName {
     bytes: [u8; LONGEST_FILE_NAME],
     // The bytes after these are 0.
-    len: usize,
+    len: u8,
 }
 
 impl Model for FileName {
@@ -49,7 +49,7 @@ impl FileName {
         }
         Some(FileName {
             bytes: padded(bytes),
-            len: bytes.len(),
+            len: bytes.len() as u8,
         })
     }
 
@@ -58,7 +58,7 @@ impl FileName {
         ensures value { result.now ≡ self.now }
         ensures name { IsTrue (is_file_name self.now) }
     {
-        &self.bytes[..self.len]
+        &self.bytes[..usize::from(self.len)]
     }
 }
 

@@ -30,7 +30,7 @@ unfolding checked
 nothing_said known here text none fits = rw (none, fits) refl
 
 module _ (lines : List Line) (builder new : GplLines) (is : IsAfter lines builder) where
-  nothing_comes : Answers lines builder is nothing_checked None
+  nothing_comes : Answers builder nothing_checked None
   unfolding outcome
   nothing_comes = λ later grows. refl
 
@@ -44,7 +44,7 @@ module _ (lines : List Line) (builder new : GplLines) (is : IsAfter lines builde
       let here : builder.location.number + 0 ≡ builder.location.number = omega arith in (
         line_of (location lines) (length lines + 1) nothing_checked,
         ap (λ answer. answer >>= λ found. Ok (line_of (location lines) (length lines + 1) found)) (nothing_said (names lines) (location lines) text none there),
-        is_after lines builder is nothing_checked None new nothing_comes tt refl (reaches builder.location Nothing builder.placed fits) (record {
+        is_after lines builder is nothing_checked None new nothing_comes refl (record {
           waiting = counts.lists.waiting ∙ sym (append-nil builder.waiting.items);
           names = counts.lists.names;
           location = counts.location ∙ ap (λ number. record { grom = builder.location.grom; number = number }) (sym here);

@@ -20,7 +20,8 @@ use Rattle.gpl_source_defs.proofs.Sizes.{outcome_size}
 use Rattle.gpl_source_defs.proofs.CheckLaws.{is_let_through, leads}
 use Rattle.gpl_asm.specs.declared.pending.Rest.{Rest}
 use Rattle.gpl_asm.specs.declared.lines.GplLines.{GplLines}
-use Rattle.gpl_asm.specs.Replay.{Built, put, answer, replay, nothing, HasRoom, WaitsForSome}
+use Rattle.gpl_asm.specs.Replay.{Built, put, answer, replay, nothing, WaitsForSome}
+use Rattle.gpl_asm.specs.Room.{HasRoom, AllHaveRoom}
 use Rattle.gpl_asm.specs.Keeping.{pending_of}
 use Rattle.gpl_asm.specs.Building.{IsAfter, whole}
 use Rattle.gpl_asm.proofs.LineLaws.{location_more, place_is, whole_more, kept_more}
@@ -36,21 +37,50 @@ pub label_grows : (known : Names) (label : Option (List ℕ)) (number : ℕ) →
 label_grows known None number fresh = grown_not known
 label_grows known (Some name) number fresh = grown known name (Absolute number) (none_is (get known name) fresh)
 
-all_append : {A : Type 0} (P : A → Type 0) (first second : List A) → AllByRecursion P first → AllByRecursion P second → AllByRecursion P (first ++ second)
+pub all_append : {A : Type 0} (P : A → Type 0) (first second : List A) → AllByRecursion P first → AllByRecursion P second → AllByRecursion P (first ++ second)
 all_append P [] second all others = others
 all_append P (item ∷ first) second all others = (all.0, all_append P first second all.1 others)
+
+-- what is left of a line comes to what the line does
+abbrev pub AnswersBy : Names → Location → Checked → Option Rest → Type 0
+AnswersBy known at found rest =
+    (later : Names) → Grows known later → answer later at rest ≡ outcome (look_up later) at found.statement
+
+abbrev pub Answers : GplLines → Checked → Option Rest → Type 0
+Answers builder = AnswersBy builder.symbols builder.location
+
+module _ (builder : GplLines) (found : Checked) (rest : Option Rest) where
+  pub answers_here : (known : Names) (at : Location) → known ≡ builder.symbols → at ≡ builder.location → AnswersBy known at found rest
+      → Answers builder found rest
+  answers_here known at same there answers later grows =
+      ap (λ (at : Location). answer later at rest) (sym there)
+      ∙ (answers later (subst (λ (known : Names). Grows known later) (sym same) grows)
+      ∙ ap (λ (at : Location). outcome (look_up later) at found.statement) there)
+
+  -- and it ends before the addresses do
+  module _ (answers : Answers builder found rest) (le : builder.location.number + declared_size found.statement ≤ 65536) where
+    room_by : (later : Names) (left : Option Rest) → answer later builder.location left ≡ outcome (look_up later) builder.location found.statement
+        → WaitsForSome left
+        → AllByRecursion (HasRoom later) (pending_of builder left)
+    room_by later None same waits = tt
+    room_by later (Some left) same waits = (
+      record {
+        room = λ came e.
+            let fills = outcome_size (look_up later) builder.location found.statement came (sym same ∙ e) in
+            omega (arith, fills, le);
+        waits = waits;
+      },
+      tt,
+    )
+
+    pub room_of : WaitsForSome rest → AllHaveRoom builder.symbols (pending_of builder rest)
+    room_of waits later grows = room_by later rest (answers later grows) waits
 
 module _ (lines : List Line) (builder : GplLines) (is : IsAfter lines builder) (found : Checked) (rest : Option Rest) where
   abbrev pub line : Line
   line = line_of (location lines) (length lines + 1) found
 
-  -- what is left of the line comes to what the line does
-  abbrev pub Answers : Type 0
-  Answers =
-      (later : Names) → Grows builder.symbols later
-      → answer later builder.location rest ≡ outcome (look_up later) builder.location found.statement
-
-  module _ (answers : Answers) (later : Names) (grows : Grows builder.symbols later) where
+  module _ (answers : Answers builder found rest) (later : Names) (grows : Grows builder.symbols later) where
     abbrev at_place : Location → Result Built (Refusal GplCause)
     at_place at =
         whole later lines >>= λ built. at_line (length lines + 1) (outcome (look_up later) at found.statement >>= λ came. put at came built)
@@ -69,24 +99,6 @@ module _ (lines : List Line) (builder : GplLines) (is : IsAfter lines builder) (
         ∙ (ap (λ taken. of_answer (taken + 1) (answer later builder.location rest)) (sym is.taken)
         ∙ sym (kept_more later builder rest)))))
 
-    room_of : (left : Option Rest) → answer later builder.location left ≡ outcome (look_up later) builder.location found.statement → WaitsForSome left
-        → builder.location.number + declared_size found.statement ≤ 65536 → AllByRecursion (HasRoom later) (pending_of builder left)
-    room_of None same waits le = tt
-    room_of (Some left) same waits le = (
-      record {
-        room = λ came e.
-            let fills = outcome_size (look_up later) builder.location found.statement came (sym same ∙ e) in
-            omega (arith, fills, le);
-        waits = waits;
-      },
-      tt,
-    )
-
-    pub room_more : WaitsForSome rest → builder.location.number + declared_size found.statement ≤ 65536
-        → AllByRecursion (HasRoom later) (builder.waiting.items ++ pending_of builder rest)
-    room_more waits le =
-        all_append (HasRoom later) builder.waiting.items (pending_of builder rest) (is.room later grows) (room_of rest (answers later grows) waits le)
-
   -- the builder that has taken it
   pub record TakesOne (new : GplLines) : Type 0 where
     pub waiting : new.waiting.items ≡ builder.waiting.items ++ pending_of builder rest
@@ -95,9 +107,8 @@ module _ (lines : List Line) (builder : GplLines) (is : IsAfter lines builder) (
     pub taken : new.taken ≡ builder.taken + 1
     pub ended : new.ended ≡ (is_end found.statement || builder.ended)
 
-  pub is_after : (new : GplLines) → Answers → WaitsForSome rest → is_taken builder.symbols found.label ≡ false
-      → builder.location.number + declared_size found.statement ≤ 65536 → TakesOne new → IsAfter (line ∷ lines) new
-  is_after new answers waits fresh le takes =
+  pub is_after : (new : GplLines) → Answers builder found rest → is_taken builder.symbols found.label ≡ false → TakesOne new → IsAfter (line ∷ lines) new
+  is_after new answers fresh takes =
       let grows : Grows builder.symbols new.symbols =
       subst (Grows builder.symbols) (sym takes.names) (label_grows builder.symbols found.label (label_value builder.location found.statement) fresh) in
       record {
@@ -111,9 +122,6 @@ module _ (lines : List Line) (builder : GplLines) (is : IsAfter lines builder) (
         ended = takes.ended ∙ ap (λ ended. is_end found.statement || ended) is.ended;
         replays = λ later more.
             replays_more answers later (grown_on builder.symbols new.symbols later grows more) ∙ ap (replay later nothing) (sym takes.waiting);
-        room = λ later more.
-            subst (AllByRecursion (HasRoom later)) (sym takes.waiting) (room_more answers later
-            (grown_on builder.symbols new.symbols later grows more) waits le);
       }
 
 -- where the builder goes on

@@ -1,6 +1,5 @@
 -- What a builder keeps of the lines that it has taken.
 use Rattle.std.specs.Prelude.{◌≡◌, ℕ, ◌+◌, List, ◌∷◌, length, Result, Ok, Err, ◌<◌, ◌≤◌, ◌-◌, ◌^◌, IsFalse}
-use Rattle.std.specs.List.{AllByRecursion}
 use Rattle.source_defs.specs.Refusals.{Refusal, ◌>>=◌}
 use Rattle.expression_defs.specs.Symbols.{Names}
 use Rattle.expression_defs.specs.Growing.{Grows}
@@ -14,7 +13,7 @@ use Rattle.gpl_asm.specs.declared.lines.GplLines.{GplLines}
 use Rattle.gpl_asm.specs.declared.taken.TakenLine.{TakenLine}
 use Rattle.gpl_asm.specs.declared.error.GplError.{GplError}
 use Rattle.gpl_asm.specs.declared.error.GplError.TheVariants as error
-use Rattle.gpl_asm.specs.Replay.{Built, nothing, replay, HasRoom}
+use Rattle.gpl_asm.specs.Replay.{Built, nothing, replay}
 use Rattle.gpl_lines.specs.Answers.{NoMemory}
 
 abbrev pub built_of : List AssembledLine → Built
@@ -33,7 +32,6 @@ pub record IsAfter (lines : List Line) (builder : GplLines) : Type 0 where
   -- whatever names are still to come, the lines that wait come to what all lines come to
   pub replays : (later : Names) → Grows builder.symbols later
       → whole later lines ≡ replay later nothing builder.waiting.items
-  pub room : (later : Names) → Grows builder.symbols later → AllByRecursion (HasRoom later) builder.waiting.items
 
 -- what is returned of a line that was taken after others
 pub record Tells (lines : List Line) (line : Line) (known : TakenLine) : Type 0 where

@@ -10,6 +10,7 @@ pub use Rattle.gpl_source_defs.specs.SecondChecks
 pub use Rattle.gpl_source_defs.specs.Programs
 pub mod Errors
 pub mod Replay
+pub mod Room
 pub mod Keeping
 pub mod Building
 pub mod Finishing

@@ -1,6 +1,5 @@
 -- What the lines that wait come to by all names.
-use Rattle.std.specs.Prelude.{◌≡◌, ⊤, ℕ, ◌+◌, ◌≤◌, if◌then◌else◌, List, [], ◌∷◌, length, Option, Some, None, Result, Ok}
-use Rattle.std.specs.Prelude.{Err}
+use Rattle.std.specs.Prelude.{◌≡◌, ⊤, ℕ, if◌then◌else◌, List, [], ◌∷◌, Option, Some, None, Result, Ok, Err}
 use Rattle.std.specs.FinMap.{empty}
 use Rattle.source_defs.specs.Refusals.{Refusal, ◌>>=◌, at_line}
 use Rattle.expression_defs.specs.Symbols.{Names, look_up}
@@ -38,11 +37,15 @@ put at found built =
       entry = entry_by built.entry found;
     })
 
+-- what a line at a place comes to, by all names
+abbrev pub line_outcome : Names → Location → List ℕ → Result Outcome GplCause
+line_outcome later at text = parsed later at text >>= λ statement. outcome (look_up later) at statement
+
 -- what is left of a line comes to, by all names
 abbrev pub answer_by : Names → Location → Rest → Result Outcome GplCause
 answer_by later at (Resolved found) = Ok (model_of_outcome found)
 answer_by later at (Refused cause) = Err cause
-answer_by later at (Unresolved text) = parsed later at text.items >>= λ statement. outcome (look_up later) at statement
+answer_by later at (Unresolved text) = line_outcome later at text.items
 
 abbrev pub answer : Names → Location → Option Rest → Result Outcome GplCause
 answer later at None = Ok (Bytes [])
@@ -68,12 +71,6 @@ WaitsFor (Unresolved text) = ⊤
 abbrev pub WaitsForSome : Option Rest → Type 0
 WaitsForSome None = ⊤
 WaitsForSome (Some rest) = WaitsFor rest
-
--- what a line comes to ends before the addresses do
-pub record HasRoom (later : Names) (waiting : Pending) : Type 0 where
-  pub room : (found : Outcome) → answer_by later waiting.at waiting.rest ≡ Ok found
-      → waiting.at.number + length (bytes_in found) ≤ 65536
-  pub waits : WaitsFor waiting.rest
 
 -- what was put, by the calls of the code
 abbrev pub Puts : Image → Option ℕ → Location → Outcome → Result (Option ℕ) GplCause → Image → Type 0

@@ -52,7 +52,8 @@ impl GplLines {
     pub fn line(&mut self, line: &[u8]) -> Result<TakenLine, GplError>
         requires open { IsOpen self.old }
         requires count { CanCount self.old }
-        ensures texts { (texts : List (List ℕ)) → HasAccepted texts self.old → AcceptsText texts line.now result self.new }
+        ensures texts { (texts : List (List ℕ)) → HasAccepted texts self.old
+            → AcceptsText texts line.now result self.new }
         ensures lines { (lines : List Line) → IsAfter lines self.old → Takes lines line.now result self.new }
         ensures short { OnOk result (length line.now ≤ 256) }
     {
@@ -69,7 +70,8 @@ impl GplLines {
     /// Whether a line that ends the source was taken.
     pub fn is_ended(&self) -> bool
         ensures open { IsFalse result ↔ IsOpen self.now }
-        ensures ended { (texts : List (List ℕ)) → (taken : HasAccepted texts self.now) → result ≡ has_ended taken.lines }
+        ensures ended { (texts : List (List ℕ)) → (taken : HasAccepted texts self.now)
+            → result ≡ has_ended taken.lines }
     {
         self.ended
     }
@@ -90,7 +92,8 @@ impl GplLines {
     /// a lack of memory. After an error the lines are given up.
     #[tactic(auto, using(crate::proofs::EndedLines::lines_make_texts))]
     pub fn finish(self) -> Result<GplProgram, GplError>
-        ensures lines { (texts : List (List ℕ)) → HasAccepted texts self → GivesProgram result (program_of_lines texts) }
+        ensures lines { (texts : List (List ℕ)) → HasAccepted texts self
+            → GivesProgram result (program_of_lines texts) }
         ensures text { (texts : List (List ℕ)) → HasAccepted texts self → AllByRecursion IsOneLine texts →
             GivesProgram result (program_of_source (text_of texts)) }
     {

@@ -31,7 +31,7 @@ impl From<AllocError> for GplError {
 }
 
 /// The error of a line by its number.
-pub(crate) fn refusal_at(line: u32, failure: Failure) -> GplError
+pub fn refusal_at(line: u32, failure: Failure) -> GplError
     ensures { result ≡ refusal_at line failure }
 {
     match failure {

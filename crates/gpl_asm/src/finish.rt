@@ -4,7 +4,10 @@ ghost use Rattle.std.specs.Prelude.{◌≡◌, List, None};
 ghost use Rattle.std.specs.List.{AllByRecursion};
 ghost use Rattle.gpl_source_defs.specs.Locations.{Line};
 ghost use Rattle.gpl_source_defs.specs.Programs.{program_after};
-ghost use Rattle.gpl_asm.specs.Replay.{HasRoom, Replays, Resolves};
+ghost use Rattle.gpl_asm.specs.Room.{HasRoom};
+ghost use Rattle.gpl_asm.specs.Replay.{Replays, Resolves, line_outcome};
+ghost use Rattle.gpl_lines.specs.Answers.{Gives};
+ghost use Rattle.gpl_lines.specs.Defined.{model_of_outcome};
 ghost use Rattle.gpl_asm.specs.Building.{IsAfter};
 ghost use Rattle.gpl_asm.specs.Finishing.{GivesProgram};
 
@@ -14,7 +17,8 @@ use crate::pending::{Pending, Rest};
 use crate::place::put;
 use asm_text::Symbols;
 use gpl_forms::GromImage;
-use gpl_lines::{Failure, Scope};
+use gpl_lines::{Failure, Outcome, Scope};
+use gpl_source_defs::Location;
 use std::alloc::Global;
 
 /// What a GPL source is assembled to.
@@ -58,8 +62,8 @@ fn resolve_all(
     waiting: &[Pending],
     image: &mut GromImage,
 ) -> Result<Option<u16>, GplError>
-    ensures { AllByRecursion (HasRoom symbols.now) waiting.now →
-        Replays symbols.now (record { image = image.old; entry = None }) waiting.now result image.new }
+    requires { AllByRecursion (HasRoom symbols.now) waiting.now }
+    ensures { Replays symbols.now (record { image = image.old; entry = None }) waiting.now result image.new }
 {
     let mut entry = None;
     let mut rest = waiting;
@@ -81,21 +85,29 @@ fn resolve(
     image: &mut GromImage,
     entry: Option<u16>,
 ) -> Result<Option<u16>, Failure>
-    ensures { HasRoom symbols.now line.now →
-        Resolves symbols.now (record { image = image.old; entry = entry }) line.now result image.new }
+    requires { HasRoom symbols.now line.now }
+    ensures { Resolves symbols.now (record { image = image.old; entry = entry }) line.now result image.new }
 {
     match &line.rest {
         Rest::Resolved(outcome) => Ok(put(image, entry, line.at, outcome)?),
         Rest::Refused(cause) => Err(Failure::Refused(*cause)),
         Rest::Unresolved(text) => {
-            let scope = Scope {
-                alloc,
-                symbols,
-                at: line.at,
-            };
-            let statement = scope.parsed(text.as_slice())?;
-            let outcome = scope.outcome(&statement)?;
+            let outcome = line_outcome(alloc, symbols, line.at, text.as_slice())?;
             Ok(put(image, entry, line.at, &outcome)?)
         }
     }
+}
+
+/// What a line at a place comes to, by all names.
+pub fn line_outcome(
+    alloc: Global,
+    symbols: &Symbols,
+    at: Location,
+    text: &[u8],
+) -> Result<Outcome, Failure>
+    ensures { Gives model_of_outcome result (line_outcome symbols.now at text.now) }
+{
+    let scope = Scope { alloc, symbols, at };
+    let statement = scope.parsed(text)?;
+    scope.outcome(&statement)
 }

@@ -12,6 +12,7 @@ ghost use Rattle.gpl_lines.specs.Defined.{model_of_statement};
 ghost use Rattle.gpl_lines.specs.Validity.{IsValid};
 ghost use Rattle.gpl_asm.specs.Replay.{answer, WaitsForSome};
 ghost use Rattle.gpl_asm.specs.Keeping.{pending_of, StandsStill};
+ghost use Rattle.gpl_asm.specs.Room.{AllHaveRoom};
 
 use crate::lines::GplLines;
 use crate::pending::{Pending, Rest};
@@ -74,7 +75,9 @@ impl GplLines {
         label: Option<Name>,
         number: u16,
     ) -> Result<(), AllocError>
-        requires { self.old.taken < 2 ^ 32 - 1 }
+        requires taken { self.old.taken < 2 ^ 32 - 1 }
+        requires room { AllHaveRoom self.old.symbols (pending_of self.old rest) }
+        requires fresh { Grows self.old.symbols (with_names self.old.symbols (label_entry label number)) }
         ensures waiting { OnOk result (self.new.waiting.items ≡ self.old.waiting.items ++ pending_of self.old rest) }
         ensures defined { OnOk result (self.new.symbols ≡ with_names self.old.symbols (label_entry label number)) }
         ensures same { OnErr result (self.new.waiting.items ≡ self.old.waiting.items) }
@@ -83,16 +86,19 @@ impl GplLines {
     {
         let waiting = self.waiting.len();
         self.wait(rest)?;
-        let defined = define(&mut self.symbols, label, number);
-        if defined.is_err() {
-            self.waiting.truncate(waiting);
+        match define(&mut self.symbols, label, number) {
+            Ok(()) => Ok(()),
+            Err(error) => {
+                self.waiting.truncate(waiting);
+                Err(error)
+            }
         }
-        defined
     }
 
     /// Keeps what is left of the next line, where something is.
     fn wait(&mut self, rest: Option<Rest>) -> Result<(), AllocError>
-        requires { self.old.taken < 2 ^ 32 - 1 }
+        requires taken { self.old.taken < 2 ^ 32 - 1 }
+        requires room { AllHaveRoom self.old.symbols (pending_of self.old rest) }
         ensures waiting { OnOk result (self.new.waiting.items ≡ self.old.waiting.items ++ pending_of self.old rest) }
         ensures same { OnErr result (self.new.waiting.items ≡ self.old.waiting.items) }
         ensures names { self.new.symbols ≡ self.old.symbols }

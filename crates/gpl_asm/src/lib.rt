@@ -12,8 +12,8 @@ mod source;
 mod take;
 mod taken;
 
-pub use crate::error::GplError;
-pub use crate::finish::GplProgram;
+pub use crate::error::{GplError, refusal_at};
+pub use crate::finish::{GplProgram, line_outcome};
 pub use crate::lines::GplLines;
 pub use crate::place::put;
 pub use crate::source::gpl_assemble;

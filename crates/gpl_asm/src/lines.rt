@@ -3,6 +3,7 @@
 ghost use Rattle.std.specs.Prelude.{◌≡◌};
 ghost use Rattle.std.specs.FinMap.{empty};
 ghost use Rattle.gpl_source_defs.specs.Locations.{IsInGrom};
+ghost use Rattle.gpl_asm.specs.Room.{AllHaveRoom, all_have_room_prop};
 
 use crate::pending::Pending;
 use asm_text::Symbols;
@@ -26,4 +27,5 @@ pub struct GplLines {
     pub(crate) ended: bool,
     ghost placed: { IsInGrom location },
     ghost blank: { image ≡ empty },
+    ghost room: { AllHaveRoom symbols waiting.items } by { all_have_room_prop symbols waiting.items },
 }

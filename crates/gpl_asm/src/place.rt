@@ -11,7 +11,8 @@ use gpl_forms::GromImage;
 use gpl_lines::Outcome;
 use gpl_source_defs::{GplCause, Location};
 
-/// Places what a line comes to, and gives the entry after it; or refuses it where a byte of it was placed before.
+/// Places what a line comes to, which ends before the addresses do, and gives the entry after it; or refuses it where a
+/// byte of it was placed before.
 ///
 /// # Errors
 /// `Overlap` comes exactly where a byte of the line stands at an address at which one was placed; then the image is as
@@ -22,8 +23,8 @@ pub fn put(
     at: Location,
     outcome: &Outcome,
 ) -> Result<Option<u16>, GplCause>
-    ensures { at.number + length (bytes_in (model_of_outcome outcome.now)) ≤ 65536 →
-        Puts image.old entry at (model_of_outcome outcome.now) result image.new }
+    requires { at.number + length (bytes_in (model_of_outcome outcome.now)) ≤ 65536 }
+    ensures { Puts image.old entry at (model_of_outcome outcome.now) result image.new }
 {
     match outcome {
         Outcome::Bytes(bytes) => {
@@ -39,7 +40,8 @@ pub fn put(
 
 /// Whether one of some bytes from an address on stands where one was placed.
 fn overlaps(image: &GromImage, at: u32, bytes: &[u8]) -> bool
-    ensures { at + length bytes.now ≤ 65536 → result ≡ overlaps image.now at bytes.now }
+    requires { at + length bytes.now ≤ 65536 }
+    ensures { result ≡ overlaps image.now at bytes.now }
 {
     let mut place = at;
     let mut rest = bytes;
@@ -47,25 +49,26 @@ fn overlaps(image: &GromImage, at: u32, bytes: &[u8]) -> bool
         if image.is_written(address(place)) {
             return true;
         }
-        place = place.wrapping_add(1);
+        place += 1;
         rest = others;
     }
     false
 }
 
-/// Puts bytes into an image, the first at an address and the next after it, where they end before the addresses do.
+/// Puts bytes into an image, the first at an address and the next after it.
 fn put_all(image: &mut GromImage, at: u32, bytes: &[u8])
-    ensures { at + length bytes.now ≤ 65536 → image.new ≡ placed image.old at bytes.now }
+    requires { at + length bytes.now ≤ 65536 }
+    ensures { image.new ≡ placed image.old at bytes.now }
 {
-    match u16::try_from(at) {
-        Ok(at) if usize::from(at) + bytes.len() <= 65536 => image.put_all(at, bytes),
-        _ => {}
+    if !bytes.is_empty() {
+        image.put_all(address(at), bytes);
     }
 }
 
 /// A place as an address.
 fn address(place: u32) -> u16
-    ensures { place ≤ 65535 → result ≡ place }
+    requires { place ≤ 65535 }
+    ensures { result ≡ place }
 {
-    (place % 0x10000) as u16
+    place as u16
 }

@@ -41,11 +41,13 @@ module _ (texts : List (ℕ × List ℕ)) (lines : List Line) (shown : List spec
       → shown ≡ spec.rows (spec.placed_bytes known) texts lines → named ≡ spec.name_rows lines
       → record { rows = shown; names = named; refused = Ok tt } ≡ assembled_listing texts lines (assembled_lines (assembled_line (names lines)) lines)
   listed_whole known found same e rows names_are =
-      let e' : assembled_lines (assembled_line (names lines)) lines ≡ Ok found = ap (λ (known : Names). assembled_lines (assembled_line known) lines) (sym same) ∙ e in
+      let e' : assembled_lines (assembled_line (names lines)) lines ≡ Ok found = ap (λ (known : Names). assembled_lines (assembled_line known) lines) (sym same)
+      ∙ e in
       let all : shown ≡ spec.rows (spec.placed_bytes (names lines)) texts lines =
       rows ∙ ap (λ (known : Names). spec.rows (spec.placed_bytes known) texts lines) same in
       ap (λ (rows : List spec.Row). record { rows = rows; names = named; refused = Ok tt }) all
-      ∙ (ap (λ (names_are : List spec.NameRow). record { rows = spec.rows (spec.placed_bytes (names lines)) texts lines; names = names_are; refused = Ok tt }) names_are
+      ∙ (ap (λ (names_are : List spec.NameRow). record { rows = spec.rows (spec.placed_bytes (names lines)) texts lines; names = names_are; refused = Ok tt })
+      names_are
       ∙ sym (ap (assembled_listing texts lines) e'))
 
   pub listed_front : (known : Names) (refused : Refusal GplCause) → known ≡ names lines → assembled_lines (assembled_line known) lines ≡ Err refused
@@ -53,9 +55,11 @@ module _ (texts : List (ℕ × List ℕ)) (lines : List Line) (shown : List spec
       → record { rows = shown; names = named; refused = Err refused } ≡ assembled_listing texts lines (assembled_lines (assembled_line (names lines)) lines)
   listed_front known refused same e rows none =
       let front = spec.lines_before refused.line lines in
-      let e' : assembled_lines (assembled_line (names lines)) lines ≡ Err refused = ap (λ (known : Names). assembled_lines (assembled_line known) lines) (sym same) ∙ e in
+      let e' : assembled_lines (assembled_line (names lines)) lines ≡ Err refused = ap (λ (known : Names). assembled_lines (assembled_line known) lines)
+      (sym same) ∙ e in
       let all : shown ≡ spec.rows (spec.placed_bytes (names lines)) texts front =
       rows ∙ ap (λ (known : Names). spec.rows (spec.placed_bytes known) texts front) same in
       ap (λ (rows : List spec.Row). record { rows = rows; names = named; refused = Err refused }) all
-      ∙ (ap (λ (names_are : List spec.NameRow). record { rows = spec.rows (spec.placed_bytes (names lines)) texts front; names = names_are; refused = Err refused }) none
+      ∙ (ap (λ (names_are : List spec.NameRow).
+      record { rows = spec.rows (spec.placed_bytes (names lines)) texts front; names = names_are; refused = Err refused }) none
       ∙ sym (ap (assembled_listing texts lines) e'))

@@ -25,7 +25,8 @@ numbered_more : (from number : ℕ) (front : List (List ℕ)) (text : List ℕ) 
 numbered_more from number [] text rest e =
     let same : from ≡ number = omega (arith, e) in
     ap (λ number. (number, text) ∷ rest) same
-numbered_more from number (first ∷ front) text rest e = ap (λ others. (from, first) ∷ others) (numbered_more (from + 1) number front text rest (omega (arith, e)))
+numbered_more from number (first ∷ front) text rest e = ap (λ others. (from, first) ∷ others)
+    (numbered_more (from + 1) number front text rest (omega (arith, e)))
 
 numbered_length : (from : ℕ) (front : List (List ℕ)) → length (numbered from front) ≡ length front
 numbered_length from [] = refl

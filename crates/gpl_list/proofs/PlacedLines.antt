@@ -8,12 +8,18 @@ use Rattle.gpl_source_defs.specs.declared.causes.GplCause.{GplCause}
 use Rattle.gpl_source_defs.specs.declared.causes.GplCause.TheVariants.{Overlap}
 use Rattle.gpl_source_defs.specs.declared.location.Location.{Location}
 use Rattle.gpl_source_defs.specs.Statements.{Statement, declared_size}
+use Rattle.gpl_source_defs.specs.FirstChecks.{parsed}
 use Rattle.gpl_source_defs.specs.SecondChecks.{Outcome, outcome}
 use Rattle.gpl_source_defs.specs.Programs.{AssembledLine, assembled_at, with_room, overlaps, image, bytes_in, entry_by}
 use Rattle.gpl_source_defs.proofs.Sizes.{outcome_size}
 use Rattle.gpl_lines.specs.declared.failure.Failure.TheVariants as failure
-use Rattle.gpl_asm.specs.Replay.{Built, put}
+use Rattle.gpl_asm.specs.Replay.{Built, put, line_outcome}
 use Rattle.gpl_list_defs.specs.Rows as spec
+
+-- what a line comes to that says something
+pub comes_to : (known : Names) (at : Location) (text : List ℕ) (statement : Statement) (answer : Result Outcome GplCause) → parsed known at text ≡ Ok statement
+    → line_outcome known at text ≡ answer → outcome (look_up known) at statement ≡ answer
+comes_to known at text statement answer said is = sym (ap (λ answer. answer >>= λ statement. outcome (look_up known) at statement) said) ∙ is
 
 module _ (known : Names) (at : Location) (statement : Statement) (earlier : List AssembledLine) (found : Outcome)
     (came : outcome (look_up known) at statement ≡ Ok found) where

@@ -34,7 +34,8 @@ module _ (texts : List (ℕ × List ℕ)) (lines : List Line) (text : List ℕ) 
       let line = line_of (location lines) (length lines + 1) found in
       let fresh = (is_let_through (names lines) (location lines) text found e).fresh in
       let grows : Grows (names lines) (names (line ∷ lines)) = label_grows (names lines) found.label (label_value (location lines) found.statement) fresh in
-      let taken' : IsTaken (length lines + 1) known.at (model_of_address known) text row = subst (λ n. IsTaken n known.at (model_of_address known) text row) is taken in
+      let taken' : IsTaken (length lines + 1) known.at (model_of_address known) text row = subst (λ n. IsTaken n known.at (model_of_address known) text row) is
+      taken in
       let there' : spec.text_of texts (length lines + 1) ≡ text = subst (λ n. spec.text_of texts n ≡ text) is there in (
         rest ++ line ∷ [],
         onto_more [] rest line ∙ ap (λ before. line ∷ before) are,

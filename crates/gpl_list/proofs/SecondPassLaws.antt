@@ -17,7 +17,7 @@ use Rattle.gpl_asm.specs.Errors.{refusal_at}
 use Rattle.gpl_list_defs.specs.Rows as spec
 use Rattle.gpl_list.specs.declared.rows.Row.{Row}
 use Rattle.gpl_list.specs.Reading.{model_of_row, RowOf, Describes, onto}
-use Rattle.gpl_list.specs.SecondPass.{AssembledAs, AssemblesRow, AssemblesRows}
+use Rattle.gpl_list.specs.SecondPass.{Fits, AssembledAs, AssemblesRow, AssemblesRows}
 
 pub none_left : (rows : List Row) → length rows ≡ 0 → rows ≡ []
 none_left [] e = refl
@@ -87,6 +87,15 @@ module _ (texts : List (ℕ × List ℕ)) (known : Names) where
     pub made_is : made ≡ image earlier
     pub rows_are : map model_of_row rows ≡ shown done
 
+  -- the next line says something by all names, and has room
+  pub next_fits : (lines : List Line) (row : Row) (next : List Row) (made : Image) (rows : List Row) → Going lines (row ∷ next) made rows
+      → Fits known row.at row.text.items
+  next_fits lines row next made rows g = by g.rest g.describes
+    where
+      by : (rest : List Line) → Describes texts known g.done rest (row ∷ next) → Fits known row.at row.text.items
+      by [] all = absurd all
+      by (line ∷ rest) all = (line.statement, all.0.parsed, all.0.room)
+
   pub going_end : {A : Type 0} (value : A) (lines : List Line) (made : Image) (rows : List Row) → Going lines [] made rows
       → AssemblesRows texts known lines (Ok value) rows
   going_end value lines made rows g = by g.rest g.are g.describes
@@ -122,7 +131,7 @@ module _ (texts : List (ℕ × List ℕ)) (known : Names) where
         → AssembledAs see known (place g.done line) line.statement g.earlier result left
     came g line result is assembles =
         subst (λ (at : Location). AssembledAs see known at line.statement g.earlier result left) is.at
-        (assembles line.statement g.earlier is.parsed is.room g.made_is)
+        (assembles line.statement g.earlier is.parsed g.made_is)
 
     pub going_more : (value : A) (new : Row) (after : List Row) → Going lines (row ∷ next) made rows → Asked (Ok value) → Given row new (see value)
         → after ≡ rows ++ new ∷ [] → Going lines next left after

@@ -1,29 +1,25 @@
 -- What lines come to by all names.
 use Rattle.std.specs.Prelude.{◌≡◌, ⊤, ℕ, ◌+◌, ◌≤◌, List, ◌∷◌, map, Result, Ok, Err}
-use Rattle.expression_defs.specs.Symbols.{Names, look_up}
+use Rattle.expression_defs.specs.Symbols.{Names}
 use Rattle.expression_defs.specs.Layout.{assembled_lines}
 use Rattle.gpl_defs.specs.Image.{Image}
 use Rattle.gpl_source_defs.specs.declared.location.Location.{Location}
 use Rattle.gpl_source_defs.specs.Statements.{Statement, declared_size}
 use Rattle.gpl_source_defs.specs.Locations.{Line}
 use Rattle.gpl_source_defs.specs.FirstChecks.{parsed}
-use Rattle.gpl_source_defs.specs.SecondChecks.{outcome}
 use Rattle.gpl_source_defs.specs.Programs.{AssembledLine, assembled_line, assembled_at, image}
-use Rattle.gpl_lines.specs.Answers.{Fails, Gives}
-use Rattle.gpl_lines.specs.Defined.{model_of_outcome}
+use Rattle.gpl_lines.specs.Answers.{Fails}
 use Rattle.gpl_lines.specs.declared.failure.Failure.{Failure}
-use Rattle.gpl_lines.specs.declared.second_checks.Outcome.{Outcome}
 use Rattle.gpl_asm.specs.declared.error.GplError.{GplError}
 use Rattle.gpl_asm.specs.declared.error.GplError.TheVariants.{At, Memory}
 use Rattle.gpl_list_defs.specs.Rows as spec
 use Rattle.gpl_list.specs.declared.rows.Row.{Row}
 use Rattle.gpl_list.specs.Reading.{model_of_row}
 
--- what a line comes to that says something by all names
-abbrev pub ComesTo : Names → Location → List ℕ → Result Outcome Failure → Type 0
-ComesTo known at text result =
-    (statement : Statement) → parsed known at text ≡ Ok statement
-    → Gives model_of_outcome result (outcome (look_up known) at statement)
+-- a line says something by all names, and ends before the addresses do
+abbrev pub Fits : Names → Location → List ℕ → Type 0
+Fits known at text =
+    (statement : Statement) × (parsed known at text ≡ Ok statement) × (at.number + declared_size statement ≤ 65536)
 
 -- a line was assembled after others, and its bytes were placed
 abbrev pub AssembledAs
@@ -39,8 +35,7 @@ abbrev pub AssemblesRow
     : {A : Type 0} → (A → List ℕ) → Names → Location → List ℕ → Image → Result A Failure → Image → Type 0
 AssemblesRow bytes known at text old result left =
     (statement : Statement) (earlier : List AssembledLine)
-    → parsed known at text ≡ Ok statement → at.number + declared_size statement ≤ 65536
-    → old ≡ image earlier
+    → parsed known at text ≡ Ok statement → old ≡ image earlier
     → AssembledAs bytes known at statement earlier result left
 
 -- the rows of lines with their bytes, or of those before the first that the second checks refuse

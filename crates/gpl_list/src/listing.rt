@@ -60,6 +60,7 @@ pub fn list_source(alloc: Global, text: &[u8]) -> Result<GplListing, AllocError>
 
 /// The listing of lines that the first checks let through.
 fn assembled_listing(read: ReadLines) -> Result<GplListing, AllocError>
+    requires { (texts : List (ℕ × List ℕ)) × (lines : List Line) × Keeps texts lines read }
     ensures { (texts : List (ℕ × List ℕ)) → (lines : List Line) → Keeps texts lines read →
         IfOk result (λ listing. model_of_listing listing
         ≡ assembled_listing texts lines (assembled_lines (assembled_line (names lines)) lines)) }

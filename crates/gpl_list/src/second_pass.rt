@@ -4,15 +4,14 @@ ghost use Rattle.std.specs.Prelude.{◌≡◌, ℕ, List, [], ◌∷◌, ◌++�
 ghost use Rattle.gpl_source_defs.specs.Locations.{Line};
 ghost use Rattle.gpl_source_defs.specs.Programs.{bytes_in};
 ghost use Rattle.gpl_lines.specs.Defined.{model_of_outcome};
-ghost use Rattle.gpl_asm.specs.Errors.{refusal_at};
 ghost use Rattle.gpl_list.specs.Reading.{Describes, onto};
-ghost use Rattle.gpl_list.specs.SecondPass.{ComesTo, AssemblesRow, AssemblesRows};
+ghost use Rattle.gpl_list.specs.SecondPass.{Fits, AssemblesRow, AssemblesRows};
 
 use crate::rows::Row;
 use asm_text::Symbols;
-use gpl_asm::{GplError, put};
+use gpl_asm::{GplError, line_outcome, put, refusal_at};
 use gpl_forms::GromImage;
-use gpl_lines::{Failure, Outcome, Scope};
+use gpl_lines::{Failure, Outcome};
 use gpl_source_defs::Location;
 use std::alloc::{AllocError, Global};
 
@@ -24,7 +23,9 @@ pub(crate) fn assemble_rows(
     rows: Vec<Row>,
     assembled_lines: &mut Vec<Row>,
 ) -> Result<(), GplError>
-    requires { assembled_lines.old.items ≡ [] }
+    requires none { assembled_lines.old.items ≡ [] }
+    requires described { (texts : List (ℕ × List ℕ)) × (rest : List Line)
+        × Describes texts names.now [] rest rows.items }
     ensures { (texts : List (ℕ × List ℕ)) → (rest : List Line) → Describes texts names.now [] rest rows.items →
         AssemblesRows texts names.now (onto rest []) result assembled_lines.new.items }
 {
@@ -71,26 +72,14 @@ fn assemble_row(
     text: &[u8],
     image: &mut GromImage,
 ) -> Result<Vec<u8>, Failure>
+    requires { Fits names.now at text.now }
     ensures { AssemblesRow (λ bytes. bytes.items) names.now at text.now image.old result image.new }
 {
-    let outcome = outcome_of(alloc, names, at, text)?;
+    let outcome = line_outcome(alloc, names, at, text)?;
     match put(image, None, at, &outcome) {
         Ok(_) => Ok(bytes_of(alloc, outcome)),
         Err(cause) => Err(Failure::Refused(cause)),
     }
-}
-
-/// What a line comes to, by all names.
-fn outcome_of(alloc: Global, names: &Symbols, at: Location, text: &[u8]) -> Result<Outcome, Failure>
-    ensures { ComesTo names.now at text.now result }
-{
-    let scope = Scope {
-        alloc,
-        symbols: names,
-        at,
-    };
-    let statement = scope.parsed(text)?;
-    scope.outcome(&statement)
 }
 
 /// The bytes that a line places.
@@ -100,15 +89,5 @@ fn bytes_of(alloc: Global, outcome: Outcome) -> Vec<u8>
     match outcome {
         Outcome::Bytes(bytes) => bytes,
         Outcome::Entry(_) => Vec::new(alloc),
-    }
-}
-
-/// The refusal of a line by its number.
-fn refusal_at(line: u32, failure: Failure) -> GplError
-    ensures { result ≡ refusal_at line failure }
-{
-    match failure {
-        Failure::Refused(cause) => GplError::At { line, cause },
-        Failure::Memory => GplError::Memory,
     }
 }

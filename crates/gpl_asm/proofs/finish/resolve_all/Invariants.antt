@@ -1,13 +1,13 @@
 use Rattle.std.proofs.Common.{◌≡◌, None, length}
 use Rattle.std.specs.List.{AllByRecursion}
-use Rattle.gpl_asm.specs.Replay.{HasRoom, replay}
+use Rattle.gpl_asm.specs.Replay.{replay}
+use Rattle.gpl_asm.specs.Room.{HasRoom}
 use Rattle.gpl_asm.proofs.finish.resolve_all.Given as goal
 
--- where all have room, the lines that are left go on to what all come to
+-- the lines that are left go on to what all come to
 abbrev pub invariant-loop-rest : goal.invariant-loop-rest
 invariant-loop-rest l =
-    AllByRecursion (HasRoom l.symbols) l.waiting
-    → (replay l.symbols (record { image = l.image; entry = l.entry }) l.rest
+    (replay l.symbols (record { image = l.image; entry = l.entry }) l.rest
     ≡ replay l.symbols (record { image = l.fn.image; entry = None }) l.waiting) × AllByRecursion (HasRoom l.symbols) l.rest
 
 abbrev pub decreases-loop-rest : goal.decreases-loop-rest

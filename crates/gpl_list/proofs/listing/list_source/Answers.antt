@@ -13,6 +13,11 @@ use Rattle.gpl_list.specs.Reading.{model_of_name, ReadsLines}
 use Rattle.gpl_list.proofs.ListingLaws.{unplaced}
 use Rattle.gpl_list.proofs.listing.list_source.Goals as goal
 
+pub assembled_listing-requires : goal.assembled_listing-requires
+assembled_listing-requires c =
+    let r = c.in-Ok.ensures {u = tt} in
+    (line_texts c.args.text.now, r.0, r.2)
+
 pub returns-in-Err-At : goal.returns-in-Err-At
 returns-in-Err-At c =
     let texts = line_texts c.args.text.now in
@@ -21,6 +26,10 @@ returns-in-Err-At c =
     let rows = unplaced texts r.1 c.read.new.self.rows.items r.3.rows
     ∙ ap (λ (answer : Result (List Line) (Refusal GplCause)). spec.rows spec.no_bytes texts (let_through answer)) (sym r.2) in
     ap (λ (rows : List spec.Row). record { rows = rows; names = map model_of_name c.new-in-Err-At.result.items; refused = Err refused }) rows
-    ∙ (ap (λ (names : List spec.NameRow). record { rows = spec.rows spec.no_bytes texts (let_through (laid check (take (c.in-Err-At.line - 1) texts))); names = names; refused = Err refused })
+    ∙ (ap (λ (names : List spec.NameRow). record {
+      rows = spec.rows spec.no_bytes texts (let_through (laid check (take (c.in-Err-At.line - 1) texts)));
+      names = names;
+      refused = Err refused;
+    })
     (ap (map model_of_name) c.new-in-Err-At.ensures.items)
     ∙ sym (ap (laid_listing texts) r.0))

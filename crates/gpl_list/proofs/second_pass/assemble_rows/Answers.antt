@@ -1,8 +1,19 @@
 use Rattle.std.proofs.Common.{ℕ, Vec, Global, List, [], ◌∷◌, sym, subst, ◌∙◌}
 use Rattle.gpl_list.specs.declared.rows.Row.{Row}
 use Rattle.gpl_list.specs.Reading.{onto}
-use Rattle.gpl_list.proofs.SecondPassLaws.{Going, Given, none_left, going_more, going_refused, going_end}
+use Rattle.gpl_list.proofs.SecondPassLaws.{Going, Given, next_fits, none_left, going_more, going_refused, going_end}
 use Rattle.gpl_list.proofs.second_pass.assemble_rows.Goals as goal
+
+pub assemble_row-requires : goal.assemble_row-requires
+assemble_row-requires c =
+    let known = c.args.names.now in
+    let given = c.requires.described in
+    let lines = onto given.1 [] in
+    let row = c.in-Some.row in
+    let next = c.next.new.self.rest.items in
+    let going = subst (λ (left : List Row). Going given.0 known lines left c.loop-row.image c.loop-row.assembled_lines.items) c.in-Some.ensures.steps.0
+    (c.loop-row.invariant given.0 given.1 given.2) in
+    rw c.as_slice.ensures.value (next_fits given.0 known lines row next c.loop-row.image c.loop-row.assembled_lines.items going)
 
 pub loop-row-preserved : goal.loop-row-preserved
 loop-row-preserved c = λ texts rest describes.
@@ -32,7 +43,8 @@ returns-in-Err c = λ texts rest describes.
     (c.loop-row.invariant texts rest describes) in
     let asked = rw c.as_slice.ensures.value at c.in-Err.ensures in
     rw c.refusal_at.ensures
-    (going_refused texts known {A = Vec ℕ Global} (λ bytes. bytes.items) lines row next c.loop-row.image c.assemble_row.new.image c.loop-row.assembled_lines.items (Unit {0}) c.in-Err.failure going asked)
+    (going_refused texts known {A = Vec ℕ Global} (λ bytes. bytes.items) lines row next c.loop-row.image c.assemble_row.new.image
+    c.loop-row.assembled_lines.items (Unit {0}) c.in-Err.failure going asked)
 
 pub returns : goal.returns
 returns c = λ texts rest describes.
