@@ -1,5 +1,5 @@
 -- A trace is the run of its program.
-use Rattle.std.proofs.Common.{◌≡◌, ◌≤◌, ℕ, List, ◌++◌, length, Option, Ok, refl, sym, ap, ◌∙◌, subst, inl, inr}
+use Rattle.std.proofs.Common.{◌≡◌, ◌≤◌, ℕ, List, ◌++◌, length, Option, Ok, ◌+◌, arith, refl, sym, ap, ◌∙◌, subst, inl, inr}
 use Rattle.std.proofs.Common.{Bool, true, false, Result, Err}
 use Rattle.std.specs.Prelude.{is_err}
 use Rattle.console_defs.specs.Grom.{GromState}
@@ -9,8 +9,9 @@ use Rattle.console_defs.specs.Memory.{IsMemory}
 use Rattle.bench_io.specs.Stream.{SourceState, SinkState}
 use Rattle.bench_io.specs.Written.{Wrote}
 use Rattle.bench_io.proofs.Writes.{wrote_more, missed_more}
+use Rattle.gpl_counts.specs.Counts.{ShowsStep, changes_alone, lines_by}
 use Rattle.trace_dump.specs.Plays.{Plays}
-use Rattle.trace_dump.proofs.ShownPrograms.{breaks_front}
+use Rattle.trace_dump.proofs.ShownPrograms.{breaks_lines, front_of_all, lines_alone}
 use Rattle.reports.specs.declared.report.Report.TheVariants as made
 use Rattle.gpl_step_defs.specs.State.{GplState, start}
 use Rattle.gpl_step_defs.specs.Run.{run}
@@ -42,7 +43,7 @@ use Rattle.bench_commands.proofs.LoadedSources.{of_program}
 use Rattle.bench_commands.proofs.Programs.{ends_alike}
 
 -- the state before the first step is the start of the program
-began : (image : Image) (entry : Option ℕ) (loaded : LoadedProgram) (l : LoadsEntered image entry loaded) (t : SessionState) (s : Started loaded.machine t) → gpl_state_of t ≡ start l.bytes l.address
+pub began : (image : Image) (entry : Option ℕ) (loaded : LoadedProgram) (l : LoadsEntered image entry loaded) (t : SessionState) (s : Started loaded.machine t) → gpl_state_of t ≡ start l.bytes l.address
 began image entry loaded l t s =
     let x = loaded.machine in
     let shown : gpl_state_of t ≡ start (image_of x) (entry_of x) = ap (λ (e : Option _). gpl_state_of (record { machine = t.machine; ended = e })) s.running ∙ s.matches.shows in
@@ -63,7 +64,7 @@ module _ (shows : ShowsChanges) (input : List ℕ) (trace : Trace) (t : TracesSo
   abbrev front_from : GplState → spec.Report
   front_from s = spec.Whole status.Done (step_lines shows s (run trace.limit s).done)
 
-  whole_reported : (o : Outputs) (st : Status) (w : TracesWhole shows o trace st)
+  whole_reported : (o : Outputs) (st : Status) (w : TracesWhole (changes_alone shows) o trace st)
       → spec.ProgramReport (spec.ReportsProgram (spec.shown_lines shows) trace.limit) (program_of_source input) (whole_from (gpl_state_of trace.session) w.left)
   whole_reported o st w =
       let s : GplState = start l.bytes l.address in
@@ -92,17 +93,22 @@ module _ (shows : ShowsChanges) (input : List ℕ) (trace : Trace) (t : TracesSo
       → p.Accepted command input report)
       (front : (report : spec.Report) → (length input ≤ spec.largest_input) × spec.ProgramReport (spec.ShowsSteps shows trace.limit) (program_of_source input) report
       → p.PrefixOn command input report) where
-    pub by_trace : (st : Status) → EndsTrace shows o trace st
+    pub by_trace : (st : Status) → EndsTrace (changes_alone shows) o trace st
         → EndsBy (input_program p) (run_of p no_usage command before after o) st
     by_trace st (inl w) =
         let accepted = whole (whole_from (gpl_state_of trace.session) w.left) (whole_reported o st w) in
-        by_answer p no_usage command before after o input takes (Ok (whole_from (gpl_state_of trace.session) w.left)) st accepted w.ends
+        let s = gpl_state_of trace.session in
+        let tail = program_lines w.left.ended (gpl_state_of w.left) w.left.machine in
+        let ends = subst (λ (l : List (List ℕ)). EndsWith o (spec.Whole (program_status w.left.ended) (l ++ tail)) st)
+        (lines_alone shows s w.runs.machine (run trace.limit s).done) w.ends in
+        by_answer p no_usage command before after o input takes (Ok (whole_from (gpl_state_of trace.session) w.left)) st accepted ends
     by_trace st (inr b) =
+        let s = gpl_state_of trace.session in
         let shown = front_from (gpl_state_of trace.session) in
         let le = within p no_usage command before after o input takes in
         let on : p.PrefixOn command input shown = front shown (le, front_reported) in
         subst (EndsBy (input_program p) (run_of p no_usage command before after o)) (sym b.is)
-        (by_front p no_usage command before after o shown (input, reading p no_usage command before after o input takes, on) (b.missed, b.silent))
+        (by_front p no_usage command before after o shown (input, reading p no_usage command before after o input takes, on) (front_of_all shows s b.runs.machine b.made (run trace.limit s).done o.out o.out' b.within b.missed, b.silent))
 
 -- a run of `bench` ends as what its command made
 module _ (command : Command) (before after : SourceState) (o : Outputs) (bytes : List ℕ) (takes : TakesWhole (reads command) before after bytes) where
@@ -129,25 +135,36 @@ not_both : (b : Bool) → b ≡ true → b ≡ false → ⊥
 not_both b e f = cc
 
 -- the steps were shown, and then the end of the program
-pub traces_whole : {E : Type 0} (shows : ShowsChanges) (o : Outputs) (trace : Trace) (left : SessionState) (middle : SinkState) (before after : ℕ) (r : Result ℕ E) (st : Status) →
+pub traces_whole : {E : Type 0} (shows : ShowsStep) (o : Outputs) (trace : Trace) (left : SessionState) (middle : SinkState) (before after : ℕ) (r : Result ℕ E) (st : Status) →
     Plays shows trace.limit trace.session left before after o.out middle r → is_err r ≡ false → IsMemory left.machine.cpu.memory →
     EndsWith (record o { out = middle }) (model_of_report (made.Program left)) st → EndsTrace shows o trace st
 traces_whole shows o trace left middle before after (Ok done) st p none memory ends =
     let s = gpl_state_of trace.session in
-    let wrote = subst (λ (n : ℕ). Wrote o.out middle (step_lines shows s n)) p.runs.done_is p.wrote in
+    let wrote = subst (λ (n : ℕ). Wrote o.out middle (lines_by shows s p.runs.runs.machine n)) p.runs.done_is p.wrote in
     inl (record {
       left = left;
       memory = memory;
       count = p.runs.count;
       runs = p.runs.runs;
       ended = p.runs.stop_is;
-      ends = ends_after o middle (step_lines shows s (run trace.limit s).done) (program_lines left.ended (gpl_state_of left) left.machine) (program_status left.ended) st wrote ends;
+      ends = ends_after o middle (lines_by shows s p.runs.runs.machine (run trace.limit s).done) (program_lines left.ended (gpl_state_of left) left.machine) (program_status left.ended) st wrote ends;
     })
 traces_whole shows o trace left middle before after (Err error) st p none memory ends = absurd (not_both true refl none)
 
 -- the line of a step could not be written
-pub breaks_off : {E : Type 0} (shows : ShowsChanges) (o : Outputs) (trace : Trace) (left : SessionState) (before after : ℕ) (r : Result ℕ E) →
+pub breaks_off : {E : Type 0} (shows : ShowsStep) (o : Outputs) (trace : Trace) (left : SessionState) (before after : ℕ) (r : Result ℕ E) →
     Plays shows trace.limit trace.session left before after o.out o.out' r → is_err r ≡ true → o.err' ≡ o.err → EndsTrace shows o trace status.WriteFault
 breaks_off shows o trace left before after (Ok done) p failed silent = absurd (cc)
 breaks_off shows o trace left before after (Err error) p failed silent =
-    inr (record { is = refl; missed = breaks_front shows trace.limit trace.session left before after o.out o.out' p; silent = silent })
+    let less = p.within in
+    inr (record {
+      is = refl;
+      made = p.shown + 1;
+      within = omega arith;
+      whole = sym p.runs.done_is;
+      left = left.machine;
+      count = p.runs.count;
+      runs = p.runs.runs;
+      missed = breaks_lines shows trace.limit trace.session left before after o.out o.out' p;
+      silent = silent;
+    })

@@ -14,10 +14,10 @@ use Rattle.report_defs.specs.declared.command.Command.{Command}
 use Rattle.report_defs.specs.declared.command.Command.TheVariants as asked
 use Rattle.report_defs.specs.declared.status.Status.{Status}
 use Rattle.report_defs.specs.declared.status.Status.TheVariants.{WriteFault}
-use Rattle.report_defs.specs.Commands.{most_steps}
 use Rattle.report_defs.specs.Program.{program_lines, program_status}
-use Rattle.report_defs.specs.Trace.{ShowsChanges, seen_state, step_lines, changes_text}
+use Rattle.report_defs.specs.Trace.{seen_state, changes_text}
 use Rattle.report_defs.specs.Report.{Whole, AcceptedReport, ProgramReport}
+use Rattle.gpl_counts.specs.Counts.{ShowsStep, changes_alone, lines_by, most_shown_steps}
 use Rattle.bench_commands.specs.declared.commands.program.LoadedProgram.{LoadedProgram}
 use Rattle.bench_commands.specs.declared.prepared.Prepared.{Prepared}
 use Rattle.bench_commands.specs.declared.prepared.Prepared.TheVariants as prepared
@@ -41,7 +41,7 @@ pub record Started (new : MachineState) (session : SessionState) : Type 0 where
 pub record CanTrace (trace : Trace) : Type 0 where
   pub running : trace.session.ended ≡ None
   pub kept : trace.seen ≡ seen_state (gpl_state_of trace.session)
-  pub limit : trace.limit ≤ most_steps
+  pub limit : trace.limit ≤ most_shown_steps
 
 -- a trace of the program of a source
 pub record TracesSource (input : List ℕ) (trace : Trace) : Type 0 where
@@ -64,24 +64,30 @@ Prepares command input (Err command_error) =
     Reported (AcceptedReport command input) WantsMemory (error_answer command_error)
 
 -- The program was run, and its report was written, or a front of it.
-pub record TracesWhole (shows : ShowsChanges) (o : Outputs) (trace : Trace) (status : Status) : Type 0 where
+pub record TracesWhole (shows : ShowsStep) (o : Outputs) (trace : Trace) (status : Status) : Type 0 where
   pub left : SessionState
   pub memory : IsMemory left.machine.cpu.memory
   pub count : ℕ
   pub runs : RunsSteps (gpl_state_of trace.session) trace.limit count trace.session.machine left.machine
   pub ended : left.ended ≡ (run trace.limit (gpl_state_of trace.session)).stop
   pub ends : let s = gpl_state_of trace.session in
-      let steps = step_lines shows s (run trace.limit s).done in
+      let steps = lines_by shows s runs.machine (run trace.limit s).done in
       let lines = steps ++ program_lines left.ended (gpl_state_of left) left.machine in
       EndsWith o (Whole (program_status left.ended) lines) status
 
--- The line of a step could not be written.
-pub record BreaksOff (shows : ShowsChanges) (o : Outputs) (trace : Trace) (status : Status) : Type 0 where
+-- The line of a step could not be written: of the lines of the steps that were made a front was.
+pub record BreaksOff (shows : ShowsStep) (o : Outputs) (trace : Trace) (status : Status) : Type 0 where
   pub is : status ≡ WriteFault
-  pub missed : let s = gpl_state_of trace.session in Missed o.out o.out' (step_lines shows s (run trace.limit s).done)
+  pub made : ℕ
+  pub within : made ≤ (run trace.limit (gpl_state_of trace.session)).done
+  pub whole : (run made (gpl_state_of trace.session)).done ≡ made
+  pub left : MachineState
+  pub count : ℕ
+  pub runs : RunsSteps (gpl_state_of trace.session) made count trace.session.machine left
+  pub missed : Missed o.out o.out' (lines_by shows (gpl_state_of trace.session) runs.machine made)
   pub silent : o.err' ≡ o.err
 
-abbrev pub EndsTrace : ShowsChanges → Outputs → Trace → Status → Type 0
+abbrev pub EndsTrace : ShowsStep → Outputs → Trace → Status → Type 0
 EndsTrace shows o trace status = TracesWhole shows o trace status ⊎ BreaksOff shows o trace status
 
 abbrev pub CanFinish : Prepared → Type 0
@@ -91,4 +97,4 @@ CanFinish (prepared.Trace trace) = CanTrace trace
 -- how what was made ends
 abbrev pub Finishes : Outputs → Prepared → Status → Type 0
 Finishes o (prepared.Report report) status = EndsWith o (model_of_report report) status
-Finishes o (prepared.Trace trace) status = EndsTrace changes_text o trace status
+Finishes o (prepared.Trace trace) status = EndsTrace (changes_alone changes_text) o trace status

@@ -9,7 +9,7 @@ mod gdis;
 mod interp;
 mod link;
 pub(crate) mod program;
-mod run;
+pub(crate) mod run;
 pub(crate) mod trace;
 
 ghost use Rattle.std.specs.Prelude.{◌≤◌, vec_len};

@@ -3,7 +3,7 @@
 ghost use Rattle.std.specs.Prelude.{◌≡◌, ◌<◌, ◌≤◌, ℕ, None};
 ghost use Rattle.gpl_run.specs.Sessions as sessions;
 ghost use Rattle.report_defs.specs.Trace.{seen_state};
-ghost use Rattle.report_defs.specs.Commands.{most_steps};
+ghost use Rattle.gpl_counts.specs.Counts.{most_shown_steps};
 ghost use Rattle.trace_dump.specs.Plays.{Plays};
 ghost use Rattle.bench_commands.specs.Traced.{CanTrace, EndsTrace};
 
@@ -69,7 +69,7 @@ fn play_session<T: StepLine, O: Sink, L: Ledger>(
     requires some { 0 < L.parts }
     requires running { session.old.ended ≡ None }
     requires kept { seen.old ≡ seen_state (sessions.gpl_state_of session.old) }
-    requires limit { limit ≤ most_steps }
+    requires limit { limit ≤ most_shown_steps }
     ensures { (before : ℕ) × (after : ℕ)
         × Plays T.shows limit session.old session.new before after (O.state out.old) (O.state out.new) result }
 {

@@ -15,7 +15,7 @@ use Rattle.reports.specs.Outputs.{Outputs}
 use Rattle.reports.specs.Answers.{WantsMemory}
 use Rattle.reports.specs.Run.{Program, EndsBy}
 use Rattle.reports.proofs.Answers.{reported_as}
-use Rattle.reports.proofs.NoUsage.{IsNoUsage, same_no_usage, large_no_usage}
+use Rattle.reports.proofs.NoUsage.{IsNoUsage, same_no_usage, program_no_usage, large_no_usage, source_no_usage}
 use Rattle.bench_commands.specs.InputRun.{input_program}
 use Rattle.bench_commands.specs.Loaded.{RunsNone}
 use Rattle.bench_commands.proofs.NoUsage as shown
@@ -23,9 +23,12 @@ use Rattle.bench_commands.proofs.LoadedSources.{program_none}
 use Rattle.bench_commands.proofs.Ends.{HasNoUsage, run_of, by_answer, by_front, reading, within}
 use Rattle.bench_commands.proofs.Traces.{by_trace}
 use Rattle.debug_report_defs.specs.declared.command.DebugCommand.{DebugCommand}
-use Rattle.debug_report_defs.specs.declared.command.DebugCommand.TheVariants.{Glist, Gsteps, Steps}
+use Rattle.debug_report_defs.specs.declared.command.DebugCommand.TheVariants.{Gcounts, Glist, Grun, Gsteps, Steps}
 use Rattle.debug_report_defs.specs.declared.command.DebugCommand.TheVariants as command
 use Rattle.debug_report_defs.specs.Reports.{InputReport}
+use Rattle.gpl_counts.specs.Counts.{ReportsCounts}
+use Rattle.gpl_step_defs.specs.State.{start}
+use Rattle.gpl_step_defs.specs.Run.{run}
 use Rattle.machine_change_defs.specs.Reports.{StepsReport}
 use Rattle.steps_command.specs.Ends.{EndsInstructions}
 use Rattle.gpl_list_defs.specs.Text.{listing_lines}
@@ -49,7 +52,12 @@ accepted_no_usage Glist input report is =
     same_no_usage report (listing_report (listing_of input)) is
     (listing_no_usage (listing_lines (listing_of input).rows (listing_of input).names) (listing_of input).refused)
 accepted_no_usage command.List input report none = absurd none
+accepted_no_usage (Grun limit) input report on = shown.program_none spec.run_lines limit input report on
 accepted_no_usage (Gsteps limit) input report on = shown.program_none (spec.shown_lines all_changes_text) limit input report on
+accepted_no_usage (Gcounts limit) input report on =
+    source_no_usage (ReportsCounts limit)
+    (λ image entry report on. same_no_usage report _ on.is (program_no_usage (run limit (start on.bytes entry)).stop))
+    (program_of_source input) report on
 accepted_no_usage (Steps limit) input report on = steps_no_usage limit (linked_input input) report on
 
 pub no_usage : HasNoUsage debug_input

@@ -15,14 +15,15 @@ use Rattle.bench_commands.proofs.Laws.{on_all}
 use Rattle.gpl_list_defs.proofs.RowLaws.{listings_give_programs}
 use Rattle.asm_list_defs.proofs.ModuleLaws.{listings_show_modules}
 use Rattle.machine_change_defs.proofs.MemoryLead.{changes_give_memory}
+use Rattle.gpl_counts.proofs.Bounds.{counts_are_bounded, counts_are_instructions}
 use Rattle.debug_report_defs.specs.declared.command.DebugCommand.{DebugCommand}
 use Rattle.debug_report_defs.specs.declared.command.DebugCommand.TheVariants as command
 use Rattle.debug_report_defs.specs.Listings.{rows_report, list_report}
 use Rattle.debug_report_defs.specs.Reports.{AcceptedReport, ReportOn}
 use Rattle.debug_report_defs.proofs.GplLines.{lines_give_states}
 use Rattle.debug_report_defs.proofs.MachineLines.{machine_lines_give_states}
-use Rattle.debug_report_defs.proofs.ReportLaws.{one_debug_report, debug_fronts_begin_reports}
-use Rattle.debug_report_defs.proofs.RefusalLaws.{list_refuses_as_asm}
+use Rattle.debug_report_defs.proofs.ReportLaws.{one_debug_report, debug_fronts_begin_reports, grun_reports_as_run}
+use Rattle.debug_report_defs.proofs.SiblingLaws.{siblings_report_alike}
 use Rattle.debug_commands.specs.Listed.{ListReported}
 use Rattle.file_commands.specs.Inputs.{Inputs, ShownInputs, FaultRose}
 use Rattle.debug_commands.specs.Debug.{debug_input, ListOn, Reports, ReadFails, Shows, debug_program}
@@ -73,9 +74,12 @@ laws =
       fronts = debug_fronts_begin_reports;
       listings = listings_give_programs;
       modules = listings_show_modules;
-      refusals = list_refuses_as_asm;
+      siblings = siblings_report_alike;
       states = lines_give_states;
       memory = changes_give_memory;
       instructions = machine_lines_give_states;
+      plain = grun_reports_as_run;
+      counts = counts_are_instructions;
+      bounds = counts_are_bounded;
       interpreter = source_gives_words;
     }

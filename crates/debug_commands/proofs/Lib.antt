@@ -4,3 +4,4 @@ mod Ends
 mod Shelved
 mod ShelfUse
 pub mod Laws
+pub mod CountEnds

@@ -1,8 +1,8 @@
 //! `gsteps`: a GPL program, run by the interpreter, each of its steps with a line of all that it changed.
 
 ghost use Rattle.std.specs.Prelude.{◌≤◌, length};
-ghost use Rattle.report_defs.specs.Commands.{most_steps};
 ghost use Rattle.report_defs.specs.Report.{largest_input};
+ghost use Rattle.gpl_counts.specs.Counts.{most_shown_steps};
 ghost use Rattle.debug_commands.specs.Gsteps.{EndsSteps};
 
 use bench_commands::start_trace;
@@ -23,7 +23,7 @@ pub(crate) fn gsteps<O: Sink, E: Sink>(
     err: &mut E,
 ) -> Status
     requires size { length input.now ≤ largest_input }
-    requires limit { limit ≤ most_steps }
+    requires limit { limit ≤ most_shown_steps }
     ensures { EndsSteps limit input.now (record {
       out = O.state out.old;
       out' = O.state out.new;

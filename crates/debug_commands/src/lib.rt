@@ -1,7 +1,9 @@
 //! `ti_debug`: its commands, over an input, a shelf of files and two outputs.
 #![tactic(auto)]
 
+mod gcounts;
 mod glist;
+mod grun;
 mod gsteps;
 mod list;
 mod running;

@@ -7,7 +7,9 @@ ghost use Rattle.reports.specs.Run.{EndsBy};
 ghost use Rattle.debug_commands.specs.Debug.{TakesOfShelf, debug_program};
 ghost use Rattle.debug_commands.specs.Laws.{LawsOfDebugRuns};
 
+use crate::gcounts::gcounts;
 use crate::glist::glist;
+use crate::grun::grun;
 use crate::gsteps::gsteps;
 use crate::list::list;
 use crate::words::{read_debug_command, usage};
@@ -29,13 +31,15 @@ use steps_command::steps;
 /// is one report on it, which was written whole, and the status is its own, or out of memory; how many bytes are taken
 /// of the shelf at most; that the words which the machine holds are the linked memory of the interpreter's source, and
 /// that for each i up to the last step of a program that is run the machine after the first i turns matches its state
-/// after i steps; that the changes which are read from the lines of the first i steps alone, made in the first state,
-/// give the state after i steps, and the front of each line its number, its address and its instruction's text; that
-/// the bytes of the rows of a listing of a GPL source, at their addresses, are the image of its source, and its names
-/// are the names of the source; that the listing of an assembler source which is accepted shows its module, and that
-/// one which is refused has the fault line of `asm`; and that the changes which are read from the lines of the first i
-/// instructions alone, made in the first memory, give the memory after i instructions, and the front of each line its
-/// number, the processor before it and its text.
+/// after i steps, and its count, which the line of `gcounts` shows, is the number of instructions that lead to it,
+/// within a bound by the number of steps; that `grun` reports as `run`; that the changes which are read from the lines
+/// of the first i steps alone, made in the first state, give the state after i steps, and the front of each line its
+/// number, its address and its instruction's text; that the bytes of the rows of a listing of a GPL source, at their
+/// addresses, are the image of its source, and its names are the names of the source; that the listing of an assembler
+/// source which is accepted shows its module; that what is refused by `glist` and `list` is what `gasm` and `asm`
+/// refuse, by the same fault line, and that `gsteps` and `steps` write lines and then what `run` and `exec` write; and
+/// that the changes which are read from the lines of the first i instructions alone, made in the first memory, give the
+/// memory after i instructions, and the front of each line its number, the processor before it and its text.
 #[tactic(auto, using(crate::proofs::Laws::laws))]
 pub fn debug<S: Source, F: Shelf, O: Sink, E: Sink>(
     alloc: Global,
@@ -97,7 +101,9 @@ fn run_debug_command<S: Source, F: Shelf, O: Sink, E: Sink>(
     match command {
         DebugCommand::Glist => glist(alloc, input, out, err),
         DebugCommand::List => list(alloc, shelf, input, out, err),
+        DebugCommand::Grun { limit } => grun(alloc, limit, input, out, err),
         DebugCommand::Gsteps { limit } => gsteps(alloc, limit, input, out, err),
+        DebugCommand::Gcounts { limit } => gcounts(alloc, limit, input, out, err),
         DebugCommand::Steps { limit } => steps(alloc, limit, input, out, err),
     }
 }

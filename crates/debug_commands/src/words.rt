@@ -1,14 +1,16 @@
 //! Which command the words say, and how the program is called.
 
-ghost use Rattle.std.specs.Prelude.{◌≡◌, map, option_map, IfSome};
+ghost use Rattle.std.specs.Prelude.{◌≡◌, ◌≤◌, map, option_map, IfSome};
 ghost use Rattle.report_defs.specs.Commands as words;
-ghost use Rattle.debug_report_defs.specs.declared.command.DebugCommand.TheVariants.{Gsteps, Steps};
+ghost use Rattle.debug_report_defs.specs.declared.command.DebugCommand.TheVariants.{Gcounts, Grun, Gsteps, Steps};
+ghost use Rattle.gpl_counts.specs.Counts.{most_shown_steps};
 ghost use Rattle.debug_report_defs.specs.Words as spec;
 ghost use Rattle.debug_report_defs.specs.Words.{KeepsLimit};
 
 use command_words::{Words, name_in, number_word};
 use debug_report_defs::{COMMANDS, DebugCommand, DebugName};
-use report_defs::{MOST_INSTRUCTIONS, MOST_STEPS};
+use gpl_counts::MOST_SHOWN_STEPS;
+use report_defs::MOST_INSTRUCTIONS;
 
 /// The command that the words say, or `None` if they are in no shape of one.
 pub(crate) fn read_debug_command(words: &Words) -> Option<DebugCommand>
@@ -27,19 +29,47 @@ fn command_on(name: DebugName, words: &[Vec<u8>]) -> Option<DebugCommand>
     match (name, words) {
         (DebugName::Glist, []) => Some(DebugCommand::Glist),
         (DebugName::List, []) => Some(DebugCommand::List),
+        (DebugName::Grun, [word]) => grun_command(word.as_slice()),
         (DebugName::Gsteps, [word]) => gsteps_command(word.as_slice()),
+        (DebugName::Gcounts, [word]) => gcounts_command(word.as_slice()),
         (DebugName::Steps, [word]) => steps_command(word.as_slice()),
         _ => None,
     }
 }
 
-/// `gsteps` with its number.
-fn gsteps_command(word: &[u8]) -> Option<DebugCommand>
-    ensures command { result ≡ option_map Gsteps (words.number_word words.most_steps word.now) }
+/// `grun` with its number.
+fn grun_command(word: &[u8]) -> Option<DebugCommand>
+    ensures command { result ≡ option_map Grun (words.number_word most_shown_steps word.now) }
     ensures limit { IfSome result KeepsLimit }
 {
-    let limit = number_word(word, MOST_STEPS)?;
+    let limit = shown_steps(word)?;
+    Some(DebugCommand::Grun { limit })
+}
+
+/// `gsteps` with its number.
+fn gsteps_command(word: &[u8]) -> Option<DebugCommand>
+    ensures command { result ≡ option_map Gsteps (words.number_word most_shown_steps word.now) }
+    ensures limit { IfSome result KeepsLimit }
+{
+    let limit = shown_steps(word)?;
     Some(DebugCommand::Gsteps { limit })
+}
+
+/// `gcounts` with its number.
+fn gcounts_command(word: &[u8]) -> Option<DebugCommand>
+    ensures command { result ≡ option_map Gcounts (words.number_word most_shown_steps word.now) }
+    ensures limit { IfSome result KeepsLimit }
+{
+    let limit = shown_steps(word)?;
+    Some(DebugCommand::Gcounts { limit })
+}
+
+/// The number of steps that a word spells, of which the interpreter may make so many.
+fn shown_steps(word: &[u8]) -> Option<u32>
+    ensures number { result ≡ words.number_word most_shown_steps word.now }
+    ensures limit { IfSome result (λ limit. limit ≤ most_shown_steps) }
+{
+    number_word(word, MOST_SHOWN_STEPS)
 }
 
 /// `steps` with its number.
@@ -56,5 +86,5 @@ fn steps_command(word: &[u8]) -> Option<DebugCommand>
 pub(crate) fn usage() -> &'static [u8]
     ensures { result.now ≡ spec.debug_usage }
 {
-    b"usage: ti_debug glist|list|gsteps N|steps N\n"
+    b"usage: ti_debug glist|list|grun N|gsteps N|gcounts N|steps N\n"
 }

@@ -1,6 +1,11 @@
 -- The lines of steps give the states of a program.
 use Rattle.std.proofs.Common.{◌≡◌, ℕ, zero, suc, ◌+◌, ◌^◌, ◌<◌, List, map, refl, sym, ap, ◌∙◌, subst, arith}
 use Rattle.std.specs.List.{range_with_len}
+use Rattle.tms_defs.specs.Bytes.{HoldsBytes, word_in}
+use Rattle.console_defs.specs.Grom.{GromState}
+use Rattle.console_defs.specs.Machine.{MachineState}
+use Rattle.interp_defs.specs.Boot.{entry_cell}
+use Rattle.interp_defs.specs.Programs.{RunsProgram}
 use Rattle.gpl_step_defs.specs.State.{GplState, IsState, start}
 use Rattle.gpl_step_defs.specs.Run.{run}
 use Rattle.gpl_step_defs.proofs.KeptSteps.{steps_keep_states}
@@ -53,6 +58,18 @@ module _ (s : GplState) (is : IsState s) where
   unfolding step_lines
   states_are made = state_from 0 made ∙ ap (state_by_changes s) (omega arith) ∙ run_changes_lead s is made
 
+-- a program that the interpreter runs has bytes, and its entry is a word
+runs_start : (image : List ℕ) (entry limit : ℕ) (left : MachineState) → RunsProgram image entry limit left → HoldsBytes 65536 image × (entry < 65536)
+runs_start image entry limit left r =
+    let memory = r.boot.cpu.memory in
+    let pad = r.is_machine.memory.scratchpad in
+    let first = pad.fits entry_cell in
+    let second = pad.fits (entry_cell + 1) in
+    let word : word_in memory.scratchpad entry_cell < 65536 = omega (arith, first, second) in (
+      subst (λ (grom : GromState). HoldsBytes 65536 grom.image) r.is_boot.grom r.is_machine.memory.grom.image,
+      subst (λ (number : ℕ). number < 65536) r.is_boot.scratchpad.word word,
+    )
+
 pub lines_give_states : LinesGiveStates
 unfolding step_lines
 lines_give_states =
@@ -62,4 +79,5 @@ lines_give_states =
       fronts = fronts_are;
       changes = changes_are;
       states = λ image entry bytes below. states_are (start image entry) (steps_keep_states.begins image entry bytes below);
+      starts = runs_start;
     }

@@ -1,5 +1,5 @@
 pub mod ReportLaws
-pub mod RefusalLaws
+pub mod SiblingLaws
 pub mod Digits
 pub mod LineSplit
 pub mod FrontRead

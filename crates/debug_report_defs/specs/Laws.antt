@@ -1,18 +1,19 @@
 -- What holds of all reports of `ti_debug`.
-use Rattle.std.specs.Prelude.{◌≡◌, ℕ, ◌+◌, ◌^◌, ◌<◌, List, [], ◌∷◌, ◌++◌, codes, map, Option, Some, None}
+use Rattle.std.specs.Prelude.{◌≡◌, ℕ, ◌+◌, ◌^◌, ◌<◌, List, [], ◌∷◌, ◌++◌, codes, map}
 use Rattle.std.specs.List.{range_with_len}
 use Rattle.tms_defs.specs.Bytes.{HoldsBytes}
+use Rattle.console_defs.specs.Machine.{MachineState}
 use Rattle.gpl_defs.specs.Reading.{reading}
 use Rattle.gpl_step_defs.specs.State.{GplState, IsState, start}
 use Rattle.gpl_step_defs.specs.Run.{run}
 use Rattle.gpl_listing_defs.specs.Texts.{read_text}
+use Rattle.interp_defs.specs.Programs.{RunsProgram}
 use Rattle.shelf_defs.specs.Files.{Files}
 use Rattle.report_defs.specs.Trace.{SeenState, seen_state, step_front, step_lines}
-use Rattle.report_defs.specs.FaultLine.{fault_line}
-use Rattle.report_defs.specs.Report.{Report, Whole, Faulty, Rejected, RejectedAfter, status_of}
-use Rattle.report_defs.specs.ProgramCommands.{AsmFiles, OverFiles}
-use Rattle.report_defs.specs.FileReports.{ReportWith}
-use Rattle.report_defs.specs.Laws.{Begins}
+use Rattle.report_defs.specs.Report.{Report}
+use Rattle.report_defs.specs.Report as bench
+use Rattle.report_defs.specs.declared.command.Command.TheVariants.{Run}
+use Rattle.report_defs.specs.Laws.{IsFrontOf}
 use Rattle.change_defs.specs.Steps.{state_applied, changes_after}
 use Rattle.change_defs.specs.Text.{step_text, all_changes_text}
 use Rattle.debug_report_defs.specs.declared.command.DebugCommand.{DebugCommand}
@@ -32,22 +33,14 @@ OneDebugReport =
 abbrev pub DebugFrontsBeginReports : Type 0
 DebugFrontsBeginReports =
     (command : DebugCommand) (files : Files) (input : List ℕ) (front report : Report)
-    → PrefixOn command input front → ReportOn command files input report → Begins front report
+    → PrefixOn command input front → ReportOn command files input report → IsFrontOf front report
 
--- what standard error gets of a report
-abbrev pub error_line_of : Report → Option (List ℕ)
-error_line_of (Whole status pieces) = None
-error_line_of (Faulty fault) = Some (fault_line fault)
-error_line_of (Rejected line) = Some line
-error_line_of (RejectedAfter pieces line) = Some line
-
--- the law, which is proved: `list` refuses a source with the files that it copies exactly where `asm` of `ti_bench`
--- does, and by the same fault line
-abbrev pub ListRefusesAsAsm : Type 0
-ListRefusesAsAsm =
-    (files : Files) (input : List ℕ) (listed assembled : Report)
-    → ReportOn command.List files input listed → ReportWith (OverFiles AsmFiles) input files assembled
-    → (status_of listed ≡ status_of assembled) × (error_line_of listed ≡ error_line_of assembled)
+-- the law, which is proved: `grun` has the reports of `run` of `ti_bench`, and no others
+abbrev pub GrunReportsAsRun : Type 0
+GrunReportsAsRun =
+    (limit : ℕ) (files : Files) (input : List ℕ) (report : Report)
+    → (ReportOn (command.Grun limit) files input report → bench.ReportOn (Run limit) input report)
+    × (bench.ReportOn (Run limit) input report → ReportOn (command.Grun limit) files input report)
 
 -- what the line of the next step after this number of steps has after its front
 abbrev pub text_after : GplState → ℕ → List ℕ
@@ -72,7 +65,7 @@ state_of_lines (line ∷ lines) s = state_of_lines lines (state_applied (changes
 -- and from the line alone are read: the number of the step, the address of its instruction, the instruction's text, and
 -- the changes. The changes of the lines of the first steps of a program, made in its first state one line after the
 -- other, give the state after these steps, but for the address of the next instruction, which the front of the next
--- line has.
+-- line has. The bytes and the entry of each program that the interpreter runs are those of such a first state.
 pub record LinesGiveStates : Type 0 where
   pub lines : (s : GplState) (count : ℕ)
       → step_lines all_changes_text s count ≡ map (line_after s) (range_with_len 0 count)
@@ -86,3 +79,5 @@ pub record LinesGiveStates : Type 0 where
   pub states : (image : List ℕ) (entry : ℕ) → HoldsBytes 65536 image → entry < 65536 → (made : ℕ)
       → state_of_lines (step_lines all_changes_text (start image entry) made) (seen_state (start image entry))
       ≡ seen_state (run made (start image entry)).last
+  pub starts : (image : List ℕ) (entry limit : ℕ) (left : MachineState) → RunsProgram image entry limit left
+      → HoldsBytes 65536 image × (entry < 65536)

@@ -5,5 +5,6 @@ pub mod LineParts
 pub mod LineFronts
 pub mod Reader
 pub mod Laws
+pub mod SiblingLaws
 pub mod MachineReader
 pub mod MachineLaws

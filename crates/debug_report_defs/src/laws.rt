@@ -1,8 +1,9 @@
 //! Laws of the definitions. Each function does nothing, and its contract is the law.
 
-ghost use Rattle.debug_report_defs.specs.Laws.{DebugFrontsBeginReports, LinesGiveStates, ListRefusesAsAsm};
+ghost use Rattle.debug_report_defs.specs.Laws.{DebugFrontsBeginReports, GrunReportsAsRun, LinesGiveStates};
 ghost use Rattle.debug_report_defs.specs.Laws.{OneDebugReport};
 ghost use Rattle.debug_report_defs.specs.MachineLaws.{MachineLinesGiveStates};
+ghost use Rattle.debug_report_defs.specs.SiblingLaws.{SiblingsReportAlike};
 
 /// There is at most one report on each command, input and files.
 #[tactic(auto, using(crate::proofs::ReportLaws::one_debug_report))]
@@ -16,11 +17,17 @@ pub fn debug_fronts_begin_reports()
     ensures { DebugFrontsBeginReports }
 {}
 
-/// `list` refuses a source with the files that it copies exactly where `asm` of `ti_bench` does, and by the same fault
-/// line.
-#[tactic(auto, using(crate::proofs::RefusalLaws::list_refuses_as_asm))]
-pub fn list_refuses_as_asm()
-    ensures { ListRefusesAsAsm }
+/// `grun` has the reports of `run` of `ti_bench`, and no others.
+#[tactic(auto, using(crate::proofs::ReportLaws::grun_reports_as_run))]
+pub fn grun_reports_as_run()
+    ensures { GrunReportsAsRun }
+{}
+
+/// `glist` and `list` refuse what `gasm` and `asm` of `ti_bench` refuse, by the same fault line. `gsteps` and `steps`
+/// write lines and then what `run` and `exec` write.
+#[tactic(auto, using(crate::proofs::SiblingLaws::siblings_report_alike))]
+pub fn siblings_report_alike()
+    ensures { SiblingsReportAlike }
 {}
 
 /// From the lines of `gsteps` alone their fronts and changes are read, and the changes lead from the first state of a

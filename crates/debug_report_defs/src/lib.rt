@@ -6,6 +6,6 @@ mod laws;
 
 pub use command::{COMMANDS, DebugCommand, DebugName};
 pub use laws::{
-    debug_fronts_begin_reports, lines_give_states, list_refuses_as_asm, machine_lines_give_states,
-    one_debug_report,
+    debug_fronts_begin_reports, grun_reports_as_run, lines_give_states, machine_lines_give_states,
+    one_debug_report, siblings_report_alike,
 };

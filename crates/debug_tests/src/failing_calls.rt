@@ -33,6 +33,13 @@ const RUNS: &[(&[&[u8]], &[u8], &[u8], Status)] = &[
         Status::Done,
     ),
     (
+        &[b"gcounts", b"5"],
+        b"S ST @>8300,1\n ST @>8301,2\n EXIT\n END S",
+        b"",
+        Status::Done,
+    ),
+    (&[b"grun", b"5"], b"S EXIT\n END S", b"", Status::Done),
+    (
         &[b"list"],
         b" DATA 1\n COPY \"LIB\"\n",
         b" DATA 2\n",

@@ -1,5 +1,4 @@
 pub mod Dumps
 pub mod ShownPrograms
 pub mod Decimals
-pub mod Numbers
 pub mod Shown

@@ -5,6 +5,7 @@ ghost use Rattle.interp_defs.specs.Match.{shown_by};
 ghost use Rattle.report_defs.specs.Trace.{seen_state};
 ghost use Rattle.change_defs.specs.Changes.{changes};
 ghost use Rattle.change_defs.specs.Text as spec;
+ghost use Rattle.gpl_counts.specs.Counts.{changes_alone};
 ghost use Rattle.step_changes.specs.declared.line.TheConstants.{LONGEST};
 
 use crate::parts::vdp_registers;
@@ -37,7 +38,7 @@ impl AllChanges {
 }
 
 impl StepLine for AllChanges {
-    ghost shows = { spec.all_changes_text };
+    ghost shows = { changes_alone spec.all_changes_text };
 
     ghost bytes = { λ s. s.line };
 
@@ -59,7 +60,7 @@ impl StepLine for AllChanges {
 /// machine now.
 #[tactic(auto, unfolding(change_defs::specs::Text::step_text), using(std::proofs::Common::append_assoc))]
 fn append_changes(line: &mut LongLine, seen: &mut Seen, machine: &Machine)
-    requires { length line.old ≤ 77 }
+    requires { length line.old ≤ 79 }
     ensures text { line.new ≡ line.old
         ++ (spec.all_changes_text seen.old (seen_state (shown_by machine.now.cpu.memory)) ++ codes "\n") }
     ensures seen { seen.new ≡ seen_state (shown_by machine.now.cpu.memory) }

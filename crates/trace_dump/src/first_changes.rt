@@ -2,6 +2,7 @@
 
 ghost use Rattle.std.specs.Prelude.{◌≡◌, []};
 ghost use Rattle.report_defs.specs.Trace as spec;
+ghost use Rattle.gpl_counts.specs.Counts.{changes_alone};
 
 use crate::seen::{Seen, changes};
 use crate::step_line::StepLine;
@@ -26,7 +27,7 @@ impl FirstChanges {
 }
 
 impl StepLine for FirstChanges {
-    ghost shows = { spec.changes_text };
+    ghost shows = { changes_alone spec.changes_text };
 
     ghost bytes = { λ s. s.line.bytes };
 

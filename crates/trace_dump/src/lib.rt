@@ -3,6 +3,7 @@
 #![tactic(auto)]
 
 mod all_changes;
+mod counts;
 mod first_changes;
 mod line;
 mod parts;
@@ -14,6 +15,7 @@ mod steps;
 mod workspace;
 
 pub use all_changes::AllChanges;
+pub use counts::Counts;
 pub use first_changes::FirstChanges;
 pub use line::trace_line;
 pub use parts::dump;

@@ -64,6 +64,15 @@ impl Seen {
             registers: vdp_registers(machine.bus().vdp()),
         })
     }
+
+    /// Keeps what is seen of a machine now.
+    pub(crate) fn keep(&mut self, machine: &Machine)
+        ensures { self.new ≡ spec.seen_state (shown_by machine.now.cpu.memory) }
+    {
+        self.cells.copy_from_slice(visible_cells(machine));
+        self.vdp.copy_from_slice(machine.bus().vdp().memory());
+        self.registers = vdp_registers(machine.bus().vdp());
+    }
 }
 
 /// Ends the front of a step's line by what has changed since, and a line feed; and keeps what is seen of the machine
@@ -71,7 +80,7 @@ impl Seen {
 /// them, and what it is now.
 #[tactic(auto, using(std::proofs::Common::append_assoc), unfolding(report_defs::specs::Trace::changes_text))]
 pub fn changes(line: &mut ArrayString<120>, seen: &mut Seen, machine: &Machine)
-    requires { array_string_len line.old ≤ 77 }
+    requires { array_string_len line.old ≤ 79 }
     ensures text { line.new.bytes ≡ line.old.bytes
         ++ (spec.changes_text seen.old (spec.seen_state (shown_by machine.now.cpu.memory)) ++ codes "\n") }
     ensures seen { seen.new ≡ spec.seen_state (shown_by machine.now.cpu.memory) }

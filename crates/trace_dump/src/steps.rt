@@ -3,6 +3,7 @@
 ghost use Rattle.std.specs.Prelude.{◌≡◌, ◌≤◌, None};
 ghost use Rattle.gpl_run.specs.Sessions as sessions;
 ghost use Rattle.report_defs.specs.Trace.{seen_state};
+ghost use Rattle.gpl_counts.specs.Counts.{most_shown_steps};
 ghost use Rattle.trace_dump.specs.Plays.{Plays};
 
 use crate::line::trace_line;
@@ -14,7 +15,7 @@ use interp_defs::Turn;
 use std::sync::ledger::Ledger;
 use tms_step::Steps;
 
-/// Runs a program that is running up to its end, and no more than `limit` steps, which are up to 100,000, and writes
+/// Runs a program that is running up to its end, and no more than `limit` steps, which are up to 10,000,000, and writes
 /// the line of each step, by one call, once it is made. The result is how many steps were made. What is kept in `seen`
 /// is what the machine shows, before and after. No memory is taken.
 ///
@@ -31,7 +32,7 @@ pub fn play<T: StepLine, O: Sink, L: Ledger>(
 ) -> Result<u32, Failed>
     requires running { session.old.ended ≡ None }
     requires kept { seen.old ≡ seen_state (sessions.gpl_state_of session.old) }
-    requires limit { limit ≤ 100000 }
+    requires limit { limit ≤ most_shown_steps }
     ensures plays { Plays T.shows limit session.old session.new steps.old steps.new
         (O.state out.old) (O.state out.new) result }
     ensures kept { seen.new ≡ seen_state (sessions.gpl_state_of session.new) }

@@ -12,8 +12,11 @@ use std::marker::Brand;
 use std::sync::ledger::Blank;
 
 /// The report of up to `limit` steps of a GPL source from its entry, run by the interpreter; or the source's first
-/// refused line, or that it names no entry.
-pub(crate) fn run(alloc: Global, limit: u32, input: &[u8]) -> Result<Report, CommandError>
+/// refused line, or that it names no entry. Of an input of at most 1,048,576 bytes, `limit` may be any number.
+///
+/// # Errors
+/// As [`load_program`].
+pub fn run(alloc: Global, limit: u32, input: &[u8]) -> Result<Report, CommandError>
     requires { length input.now ≤ spec.largest_input }
     ensures { Reported (spec.AcceptedReport (Command.Run limit) input.now) WantsMemory (answer result) }
 {

@@ -4,6 +4,7 @@ ghost use Rattle.std.specs.Prelude.{◌≡◌, ◌<◌, ◌≤◌, length};
 ghost use Rattle.gpl_run.specs.Sessions.{IsNew};
 ghost use Rattle.report_defs.specs.Report.{largest_input};
 ghost use Rattle.report_defs.specs.Commands.{most_steps};
+ghost use Rattle.gpl_counts.specs.Counts.{most_shown_steps};
 ghost use Rattle.bench_commands.specs.Traced.{Prepares, Started, StartsTrace};
 
 use crate::commands::program::load_program;
@@ -35,7 +36,7 @@ pub(crate) fn trace(alloc: Global, limit: u32, input: &[u8]) -> Result<Prepared,
 /// As [`load_program`].
 pub fn start_trace(alloc: Global, limit: u32, input: &[u8]) -> Result<Trace, CommandError>
     requires size { length input.now ≤ largest_input }
-    requires limit { limit ≤ most_steps }
+    requires limit { limit ≤ most_shown_steps }
     ensures { StartsTrace limit input.now result }
 {
     let program = load_program(alloc, input)?;

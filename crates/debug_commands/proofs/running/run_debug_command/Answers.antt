@@ -3,14 +3,18 @@ use Rattle.reports.specs.Answers.{Ends}
 use Rattle.reports.specs.Outputs.{Outputs}
 use Rattle.reports.specs.Run.{EndsBy}
 use Rattle.debug_report_defs.specs.declared.command.DebugCommand.{DebugCommand}
-use Rattle.debug_report_defs.specs.declared.command.DebugCommand.TheVariants.{Glist, Gsteps, Steps}
+use Rattle.debug_report_defs.specs.declared.command.DebugCommand.TheVariants.{Gcounts, Glist, Grun, Gsteps, Steps}
+use Rattle.report_defs.specs.Report.{AcceptedReport}
+use Rattle.report_defs.specs.declared.command.Command.TheVariants.{Run}
 use Rattle.gpl_list_defs.specs.Listing.{listing_of, listing_report}
 use Rattle.bench_commands.proofs.Ends.{by_unread}
 use Rattle.steps_command.specs.Ends.{EndsInstructions}
 use Rattle.debug_commands.specs.Debug.{debug_input, debug_program}
-use Rattle.debug_commands.specs.Gsteps.{EndsSteps}
+use Rattle.debug_commands.specs.Answered.{EndsAnswered}
+use Rattle.debug_commands.specs.Gsteps.{EndsCounts, EndsSteps}
 use Rattle.debug_commands.specs.Listed.{EndsListed}
 use Rattle.debug_commands.proofs.Ends.{no_usage, by_answered, by_steps, by_instructions}
+use Rattle.debug_commands.proofs.CountEnds.{by_counts}
 use Rattle.debug_commands.proofs.Shelved.{at, run_at, over_input, by_listed}
 use Rattle.debug_commands.proofs.running.run_debug_command.Goals as goal
 
@@ -56,6 +60,22 @@ returns-in-List-clause-ends g c =
     subst (λ (command : DebugCommand). EndsBy debug_program (run_at command (at before shelf) (at after shelf') o) c.list.result) (sym c.in-List.is)
     (by_listed before after c.in-Ok.bytes.items c.in-Ok.ensures.ok shelf shelf' o c.list.result ends)
 
+pub returns-in-Grun-clause-ends : goal.returns-in-Grun-clause-ends
+returns-in-Grun-clause-ends g c =
+    let shelf = g.F.Shelf.shelf c.args.shelf.now in
+    let out = g.O.Sink.state in
+    let err = g.E.Sink.state in
+    let new = c.grun.new in
+    let o : Outputs = record { out = out c.args.out.now; out' = out new.out; err = err c.args.err.now; err' = err new.err } in
+    let before = g.S.Source.state c.args.input.now in
+    let after = g.S.Source.state c.read_all.new.source in
+    let bytes = c.in-Ok.bytes.items in
+    let limit = c.in-Grun.limit in
+    let ends = subst (λ (b : List ℕ). EndsAnswered (AcceptedReport (Run limit) b) o c.grun.result) c.as_slice-input.ensures.value c.grun.ensures in
+    subst (λ (command : DebugCommand). EndsBy debug_program (run_at command (at before shelf) (at after shelf) o) c.grun.result) (sym c.in-Grun.is)
+    (over_input shelf before after (Grun limit) o c.grun.result
+    (by_answered (Grun limit) before after o bytes c.in-Ok.ensures.ok (AcceptedReport (Run limit) bytes) (λ report on. on) c.grun.result ends))
+
 pub returns-in-Gsteps-clause-ends : goal.returns-in-Gsteps-clause-ends
 returns-in-Gsteps-clause-ends g c =
     let shelf = g.F.Shelf.shelf c.args.shelf.now in
@@ -69,6 +89,20 @@ returns-in-Gsteps-clause-ends g c =
     subst (λ (command : DebugCommand). EndsBy debug_program (run_at command (at before shelf) (at after shelf) o) c.gsteps.result) (sym c.in-Gsteps.is)
     (over_input shelf before after (Gsteps c.in-Gsteps.limit) o c.gsteps.result
     (by_steps c.in-Gsteps.limit before after o c.in-Ok.bytes.items c.in-Ok.ensures.ok c.gsteps.result steps))
+
+pub returns-in-Gcounts-clause-ends : goal.returns-in-Gcounts-clause-ends
+returns-in-Gcounts-clause-ends g c =
+    let shelf = g.F.Shelf.shelf c.args.shelf.now in
+    let out = g.O.Sink.state in
+    let err = g.E.Sink.state in
+    let new = c.gcounts.new in
+    let o : Outputs = record { out = out c.args.out.now; out' = out new.out; err = err c.args.err.now; err' = err new.err } in
+    let before = g.S.Source.state c.args.input.now in
+    let after = g.S.Source.state c.read_all.new.source in
+    let steps = subst (λ (bytes : List ℕ). EndsCounts c.in-Gcounts.limit bytes o c.gcounts.result) c.as_slice-input.ensures.value c.gcounts.ensures in
+    subst (λ (command : DebugCommand). EndsBy debug_program (run_at command (at before shelf) (at after shelf) o) c.gcounts.result) (sym c.in-Gcounts.is)
+    (over_input shelf before after (Gcounts c.in-Gcounts.limit) o c.gcounts.result
+    (by_counts c.in-Gcounts.limit before after o c.in-Ok.bytes.items c.in-Ok.ensures.ok c.gcounts.result steps))
 
 pub returns-clause-ends : goal.returns-clause-ends
 returns-clause-ends g c =

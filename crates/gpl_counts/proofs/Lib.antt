@@ -1,0 +1,3 @@
+pub mod Counts
+pub mod Bounds
+pub mod OneCounts
