@@ -21,7 +21,7 @@ use Rattle.asm_defs.specs.declared.causes.AsmCause.{AsmCause}
 use Rattle.asm_defs.specs.declared.causes.AsmCause.TheVariants.{Expr, DuplicateLabel, BadDirective, Overflow}
 use Rattle.asm_defs.specs.declared.location.Location.{Location}
 use Rattle.asm_defs.specs.declared.location.Part.TheVariants as part
-use Rattle.asm_defs.specs.Statements.{Statement, Nothing, Instruction, Aorg, Rorg, Dorg, Bss, Bes, Even, Equ, Data}
+use Rattle.asm_defs.specs.Statements.{Statement, Instruction, Aorg, Rorg, Dorg, Bss, Bes, Even, Equ, Data}
 use Rattle.asm_defs.specs.Statements.{Byte, Text, Def, Ref, Idt, Titl, End, statement_in, as_text}
 use Rattle.asm_defs.specs.Locations.{Line, location, reached, after, to_even, value_of, is_in_part}
 use Rattle.source_defs.specs.Names.{same_text}
@@ -112,9 +112,8 @@ non_external_number (External name) = Err BadRelocation
 
 -- Profile: EQU takes no external value.
 abbrev pub non_external : Value → Result Value ExprError
-non_external (Absolute number) = Ok (Absolute number)
-non_external (Relocatable number) = Ok (Relocatable number)
 non_external (External name) = Err BadRelocation
+non_external value = Ok value
 
 -- by the names of the lines before and the line's location
 module _ (known : Names) (here : Location) where
@@ -127,7 +126,6 @@ module _ (known : Names) (here : Location) where
   -- What a line does to the location, by the highest relocatable location reached so far. Editor/Assembler manual,
   -- "Assembler Directives".
   abbrev pub move : ℕ → Statement → Result LocationChange ExprError
-  move reached Nothing = Ok (stays_at here 0)
   move reached (Instruction size operation field) = Ok (stays_even here size)
   move reached (Aorg text) =
       absolute_in text >>= λ number. Ok (set_to (record { part = part.Absolute; number = number }))
@@ -143,11 +141,7 @@ module _ (known : Names) (here : Location) where
   move reached (Data texts) = Ok (stays_even here (2 * length texts))
   move reached (Byte texts) = Ok (stays_at here (length texts))
   move reached (Text quoted) = Ok (stays_at here (length (characters quoted)))
-  move reached (Def names) = Ok (stays_at here 0)
-  move reached (Ref names) = Ok (stays_at here 0)
-  move reached (Idt text) = Ok (stays_at here 0)
-  move reached (Titl text) = Ok (stays_at here 0)
-  move reached (End text) = Ok (stays_at here 0)
+  move reached _ = Ok (stays_at here 0)
 
 abbrev pub is_end : Statement → Bool
 is_end (End text) = true
@@ -180,7 +174,6 @@ known_of before =
       refs = refs before;
     }
 
--- the location after a line
 abbrev pub location_after : Location → LocationChange → Location
 location_after here move = after (set_or move.origin here) (move.gap + move.size)
 
@@ -263,6 +256,4 @@ line_of number checked =
 
 -- what a line comes to after others
 abbrev pub check : List Line → ℕ → List ℕ → Result Line AsmCause
-check before number text = do
-  found ← checked (known_of before) text
-  Ok (line_of number found)
+check before number text = checked (known_of before) text >>= λ found. Ok (line_of number found)

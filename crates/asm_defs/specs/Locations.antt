@@ -28,8 +28,7 @@ place before line = layout.place start after before line
 -- the value of a number in a part
 abbrev pub value_by : Part → ℕ → Value
 value_by part.Relocatable number = Relocatable number
-value_by part.Absolute number = Absolute number
-value_by part.Dummy number = Absolute number
+value_by _ number = Absolute number
 
 -- What a label stands for that has a location. Profile: one after the last place is 0.
 abbrev pub value_of : Location → Value
@@ -42,8 +41,7 @@ to_even location = location.number % 2
 -- Profile: the last location of relocatable code is 65,535, and of other code 65,536.
 abbrev pub limit : Part → ℕ
 limit part.Relocatable = 65535
-limit part.Absolute = 65536
-limit part.Dummy = 65536
+limit _ = 65536
 
 abbrev pub is_in_part : Location → Bool
 is_in_part location = nat_le location.number (limit location.part)
@@ -51,8 +49,7 @@ is_in_part location = nat_le location.number (limit location.part)
 -- a relocatable location, or 0
 abbrev pub relocatable_by : Part → ℕ → ℕ
 relocatable_by part.Relocatable number = number
-relocatable_by part.Absolute number = 0
-relocatable_by part.Dummy number = 0
+relocatable_by _ number = 0
 
 abbrev pub relocatable : Location → ℕ
 relocatable location = relocatable_by location.part location.number

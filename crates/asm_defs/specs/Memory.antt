@@ -12,7 +12,7 @@ use Rattle.asm_defs.specs.declared.content.Content.TheVariants as content
 use Rattle.asm_defs.specs.declared.location.Location.{Location}
 use Rattle.asm_defs.specs.declared.location.Part.{Part}
 use Rattle.asm_defs.specs.declared.location.Part.TheVariants as part
-use Rattle.asm_defs.specs.SecondChecks.{Outcome, Nothing, Words, Bytes, Entry}
+use Rattle.asm_defs.specs.SecondChecks.{Outcome, Words, Bytes}
 use Rattle.count_defs.specs.Counts.{one_if}
 use Rattle.source_defs.specs.Names.{same_text}
 
@@ -24,14 +24,12 @@ pub record AssembledLine : Type 0 where
 -- the spot of a number in a part
 abbrev pub spot_by : Part → ℕ → Spot
 spot_by part.Relocatable number = spot.Relocatable number
-spot_by part.Absolute number = spot.Absolute number
-spot_by part.Dummy number = spot.Absolute number
+spot_by _ number = spot.Absolute number
 
 -- Editor/Assembler manual, "Dummy Origin": nothing is placed there.
 abbrev pub is_placed_in : Part → Bool
-is_placed_in part.Relocatable = true
-is_placed_in part.Absolute = true
 is_placed_in part.Dummy = false
+is_placed_in _ = true
 
 abbrev pub same_part : Part → Part → Bool
 same_part part.Relocatable part.Relocatable = true
@@ -40,10 +38,9 @@ same_part _ _ = false
 
 -- how many bytes a line places
 abbrev pub bytes_in : Outcome → ℕ
-bytes_in Nothing = 0
 bytes_in (Words words) = 2 * length words
 bytes_in (Bytes bytes) = length bytes
-bytes_in (Entry entry) = 0
+bytes_in _ = 0
 
 -- a line places a byte at a place
 abbrev pub covers : AssembledLine → Part → ℕ → Bool
@@ -107,9 +104,8 @@ word_of references (External name) = last_use references name
 
 -- the last uses after a word at a place
 abbrev pub after_word : List Reference → Spot → Value → List Reference
-after_word references at (Absolute number) = references
-after_word references at (Relocatable number) = references
 after_word references at (External name) = with_use references name at
+after_word references at _ = references
 
 -- what words hold, of which the first stands at a place, and the last uses after them
 abbrev pub words_at : Part → List Reference → ℕ → List Value → List Spot × List Reference
@@ -119,11 +115,10 @@ words_at part uses at (word ∷ words) =
     (word_of uses word ∷ others.0, others.1)
 
 abbrev pub contents_by : Location → List Reference → Outcome → List Content
-contents_by at references Nothing = []
 contents_by at references (Words words) =
     flat_map (λ word. content.First word ∷ content.Second ∷ []) (words_at at.part references at.number words).0
 contents_by at references (Bytes bytes) = map content.Byte bytes
-contents_by at references (Entry entry) = []
+contents_by at references _ = []
 
 abbrev pub after_by : Location → List Reference → Outcome → List Reference
 after_by at references (Words words) =

@@ -15,7 +15,7 @@ use Rattle.asm_defs.specs.declared.location.Location.{Location}
 use Rattle.asm_defs.specs.Statements.{Statement, Idt}
 use Rattle.asm_defs.specs.Locations.{Line, place, reached}
 use Rattle.asm_defs.specs.FirstChecks.{check, title_in, names, refs, defs}
-use Rattle.asm_defs.specs.SecondChecks.{Outcome, Nothing, Words, Bytes, Entry, outcome}
+use Rattle.asm_defs.specs.SecondChecks.{Outcome, Entry, outcome}
 use Rattle.asm_defs.specs.Memory.{AssembledLine, word_count, overlaps, references_of, pieces}
 
 -- Whether what a line places has room after others. Profile: the 32,769th word comes first, then a byte that was
@@ -58,9 +58,7 @@ definition_in known name = record { name = name; value = spot_of (look_up known 
 -- The entry that END gives. Profile: a source whose last line is no END is a module without an entry.
 abbrev pub entry_by : Option Spot → Outcome → Option Spot
 entry_by entry (Entry found) = Some found
-entry_by entry Nothing = entry
-entry_by entry (Words words) = entry
-entry_by entry (Bytes bytes) = entry
+entry_by entry _ = entry
 
 abbrev pub entry : List AssembledLine → Option Spot
 entry [] = None
@@ -84,9 +82,7 @@ module_by lines assembled_lines =
     }
 
 abbrev pub module_after : List Line → Result Module (Refusal AsmCause)
-module_after lines = do
-  found ← assembled_lines (assembled_line (names lines)) lines
-  Ok (module_by lines found)
+module_after lines = assembled_lines (assembled_line (names lines)) lines >>= λ found. Ok (module_by lines found)
 
 -- the module of numbered lines, or the first that is refused: by the first checks, else by the second
 abbrev pub module_of : List (ℕ × List ℕ) → Result Module (Refusal AsmCause)
@@ -98,6 +94,5 @@ module_of lines = do
 abbrev pub module_of_lines : List (List ℕ) → Result Module (Refusal AsmCause)
 module_of_lines lines = module_of (numbered 1 lines)
 
--- the module of a source
 abbrev pub module_of_source : List ℕ → Result Module (Refusal AsmCause)
 module_of_source source = module_of (line_texts source)

@@ -37,8 +37,7 @@ checked_bytes = numbers_as_bytes (Form BadOperand)
 -- absolute place 0
 abbrev pub is_first_by : Part → ℕ → Bool
 is_first_by part.Absolute number = number == 0
-is_first_by part.Relocatable number = false
-is_first_by part.Dummy number = false
+is_first_by _ number = false
 
 -- Profile: no external name is used at absolute place 0, since that place ends the chain of its uses.
 abbrev pub used_at : Location → Value → Result Value ExprError
@@ -55,8 +54,7 @@ entry_at (External name) = Err BadRelocation
 -- Profile: DEF defines no name of REF.
 abbrev pub defined_here : Value → Result Value AsmCause
 defined_here (External name) = Err BadDirective
-defined_here (Absolute number) = Ok (Absolute number)
-defined_here (Relocatable number) = Ok (Relocatable number)
+defined_here value = Ok value
 
 -- by what each name stands for, and the place of the line
 module _ (look : List ℕ → Option Value) (at : Location) where
@@ -78,7 +76,6 @@ module _ (look : List ℕ → Option Value) (at : Location) where
   abbrev pub absolute_in : List ℕ → Result ℕ ExprError
   absolute_in text = value text >>= absolute
 
-  -- the values of BYTE
   abbrev pub byte_values : List (List ℕ) → Result (List ℕ) ExprError
   byte_values [] = Ok []
   byte_values (text ∷ texts) = do
@@ -97,7 +94,6 @@ module _ (look : List ℕ → Option Value) (at : Location) where
   abbrev pub entry_in : List ℕ → Result Spot ExprError
   entry_in text = value text >>= entry_at
 
-  -- the words of an instruction
   abbrev pub instruction_outcome : List ℕ → List ℕ → Result Outcome AsmCause
   instruction_outcome operation field = do
     words ← as_form (first_checks operation field >>= λ skeleton. second_checks look (value_of at) skeleton)
@@ -106,16 +102,12 @@ module _ (look : List ℕ → Option Value) (at : Location) where
   -- what a line comes to, or why the second checks refuse it
   unfoldable pub outcome : Statement → Result Outcome AsmCause
   outcome (Instruction size operation field) = instruction_outcome operation field
-  outcome (Data texts) = do
-    words ← as_expr (data_values at texts)
-    Ok (Words words)
+  outcome (Data texts) = as_expr (data_values at texts) >>= λ words. Ok (Words words)
   outcome (Byte texts) = do
     numbers ← as_expr (byte_values texts)
     bytes ← checked_bytes numbers
     Ok (Bytes bytes)
   outcome (Text quoted) = Ok (Bytes (characters quoted))
   outcome (Def names) = defs_known names
-  outcome (End (Some text)) = do
-    entry ← as_expr (entry_in text)
-    Ok (Entry entry)
+  outcome (End (Some text)) = as_expr (entry_in text) >>= λ entry. Ok (Entry entry)
   outcome _ = Ok Nothing

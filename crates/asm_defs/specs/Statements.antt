@@ -51,7 +51,6 @@ as_form (Err error) = Err (cause.Form error)
 abbrev pub all_names : List (List ℕ) → Bool
 all_names texts = list_all is_name texts
 
--- names in upper case
 abbrev pub upper_names : List (List ℕ) → List (List ℕ)
 upper_names texts = map (λ text. map upper_case text) texts
 
@@ -86,9 +85,7 @@ directive_statement named.Quiet texts = Ok Nothing
 directive_statement named.End texts = optional_operand texts >>= λ text. Ok (End text)
 
 abbrev pub instruction_statement : List ℕ → List ℕ → Result Statement FormError
-instruction_statement operation field = do
-  size ← line_size operation field
-  Ok (Instruction size operation field)
+instruction_statement operation field = line_size operation field >>= λ size. Ok (Instruction size operation field)
 
 -- the statement of an operation and its operand field: of a directive, if the operation is one, else of an instruction
 abbrev pub statement_by : Option Directive → List ℕ → List ℕ → Result Statement FormError

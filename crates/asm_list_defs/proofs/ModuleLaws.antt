@@ -165,6 +165,7 @@ of_copied copied m contents source same e =
       lines = a.0;
       laid = ap laid_copied (sym same) ∙ a.1;
       assembled_lines = b.0;
+      come = b.1;
       is = cc b.2;
       shows = ap (λ listing. listing.lines) found
           ∙ (ap (paired copied.lines) is.shows ∙ ap (λ (copied : Copied). paired copied.lines (shown_in_order a.0 b.0)) same);

@@ -1,8 +1,10 @@
 -- What holds of the listings of all sources.
 use Rattle.std.specs.Prelude.{◌≡◌, ℕ, ◌+◌, ◌<◌, List, [], ◌∷◌, ◌++◌, map, slice_get, None, Ok, IsTrue}
 use Rattle.object_defs.specs.Modules.{Module, Reference}
+use Rattle.expression_defs.specs.Layout as layout
 use Rattle.expression_defs.specs.Layout.{set_or}
 use Rattle.asm_defs.specs.Locations.{Line}
+use Rattle.asm_defs.specs.FirstChecks as first
 use Rattle.asm_defs.specs.FirstChecks.{refs}
 use Rattle.asm_defs.specs.Memory.{AssembledLine, bytes_in, is_placed_in, contents, content_at}
 use Rattle.asm_defs.specs.Modules as modules
@@ -34,6 +36,7 @@ pub record IsListed (module_ : Module) (contents : Contents) (source : List ℕ)
   pub lines : List Line
   pub laid : laid_copied (copied_by contents source) ≡ Ok lines
   pub assembled_lines : List AssembledLine
+  pub come : layout.assembled_lines (modules.assembled_line (first.names lines)) lines ≡ Ok assembled_lines
   pub is : module_ ≡ modules.module_by lines assembled_lines
   pub shows : found.lines ≡ paired (copied_by contents source).lines (shown_in_order lines assembled_lines)
   pub names : found.names ≡ listed_names (copied_by contents source).lines lines

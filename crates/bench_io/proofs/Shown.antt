@@ -6,7 +6,7 @@ use Rattle.std.specs.Io.KnownBytes as known
 use Rattle.std.specs.Io.KnownBytes.{Consumes, Keeps, Appends, append_known}
 use Rattle.bench_io.specs.Stream.{Gave, Grew, GrewByPrefix, AppendsPrefix, IsAtEnd}
 use Rattle.count_defs.specs.Counts.{saturating_sum, Rose}
-use Rattle.bench_io.specs.Shown.{GoesOn, Shows, Unbuffered, shown_since}
+use Rattle.bench_io.specs.Shown.{GoesOn, ShowsStream, Unbuffered, shown_since}
 
 pub shown_gave : (first old new : Option (List ℕ)) (bytes : List ℕ) → GoesOn first old → Consumes old new bytes
     → Gave (shown_since first old) (shown_since first new) bytes
@@ -38,7 +38,7 @@ pub shown_front : (first old new : Option (List ℕ)) (bytes : List ℕ) → Goe
     → GrewByPrefix (shown_since first old) (shown_since first new) bytes
 shown_front first old new bytes on (count, got) = (count, shown_grew first old new (take count bytes) on got)
 
-pub shown_now : (first now : Option (List ℕ)) → Shows (shown_since first now) now
+pub shown_now : (first now : Option (List ℕ)) → ShowsStream (shown_since first now) now
 shown_now None now = tt
 shown_now (Some x) None = tt
 shown_now (Some x) (Some y) = refl
@@ -53,7 +53,7 @@ shown_same : (a : Option (List ℕ)) → shown_since a a ≡ a
 shown_same None = refl
 shown_same (Some x) = refl
 
-shows_kept : (first now new : Option (List ℕ)) → Keeps now new → Shows (shown_since first now) new
+shows_kept : (first now new : Option (List ℕ)) → Keeps now new → ShowsStream (shown_since first now) new
 shows_kept None now new keeps = tt
 shows_kept (Some f) None new keeps = tt
 shows_kept (Some f) (Some y) None keeps = absurd keeps

@@ -19,14 +19,14 @@ shown_since None now = None
 shown_since (Some bytes) now = now
 
 -- what an adapter shows is what its stream has
-abbrev pub Shows : Option (List ℕ) → Option (List ℕ) → Type 0
-Shows shown now = IfSome shown (λ bytes. now ≡ Some bytes)
+abbrev pub ShowsStream : Option (List ℕ) → Option (List ℕ) → Type 0
+ShowsStream shown now = IfSome shown (λ bytes. now ≡ Some bytes)
 
 -- A sink over a buffered writer, and the sink over the writer alone after the buffer was written out: all of it was, and
 -- the counts are the same; or a rest was not, and the count of faults rose.
 abbrev pub Unbuffered : SinkState → SinkState → Bool → Type 0
 Unbuffered before after true =
-    Shows before.held after.held × (after.puts ≡ before.puts) × (after.faults ≡ before.faults)
+    ShowsStream before.held after.held × (after.puts ≡ before.puts) × (after.faults ≡ before.faults)
 Unbuffered before after false =
-    (rest : List ℕ) × Shows before.held (append_known after.held rest) × (after.puts ≡ before.puts)
+    (rest : List ℕ) × ShowsStream before.held (append_known after.held rest) × (after.puts ≡ before.puts)
     × Rose before.faults after.faults

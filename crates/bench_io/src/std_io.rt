@@ -3,7 +3,7 @@
 ghost use Rattle.std.specs.Prelude.{◌≡◌, ◌<◌, ◌≤◌, length, take, IfOk, OnOk, OnErr};
 ghost use Rattle.count_defs.specs.Counts.{saturating_sum, Rose};
 ghost use Rattle.bench_io.specs.Stream.{AppendsPrefix, Gave, Grew, GrewByPrefix, IsAtEnd, opened_once, empty_calls};
-ghost use Rattle.bench_io.specs.Shown.{Shows, Unbuffered};
+ghost use Rattle.bench_io.specs.Shown.{ShowsStream, Unbuffered};
 ghost use Rattle.std.specs.Io.KnownBytes.{Appends};
 
 use crate::{Failed, Sink, Source};
@@ -55,7 +55,7 @@ impl<R: Read + Drop> StdSource<R> {
     /// The reader. What the source shows is what the reader has left.
     #[tactic(auto, using(crate::proofs::Shown::shown_now))]
     pub fn into_inner(self) -> R
-        ensures { Shows self.left (R.remaining result) }
+        ensures { ShowsStream self.left (R.remaining result) }
     {
         self.reader
     }
@@ -160,7 +160,7 @@ impl<W: Write + Drop> StdSink<W> {
     /// The writer. What the sink shows is what the writer holds.
     #[tactic(auto, using(crate::proofs::Shown::shown_now))]
     pub fn into_inner(self) -> W
-        ensures { Shows self.held (W.contents result) }
+        ensures { ShowsStream self.held (W.contents result) }
     {
         self.writer
     }

@@ -35,8 +35,7 @@ new_machine memory wp pc =
 -- Profile: the count after a step. An instruction that was executed raises it by one.
 abbrev pub counted : StepEnd → ℕ → ℕ
 counted (Done word) count = saturating_sum count 1
-counted (Refused address) count = count
-counted (Port address) count = count
+counted _ count = count
 
 -- One step of the machine: how the step of its processor ends, and the machine after it.
 abbrev pub machine_step : MachineState → StepEnd × MachineState

@@ -68,7 +68,6 @@ abbrev pub port_among : List (ℕ × Port) → ℕ → Option Port
 port_among [] address = None
 port_among (port ∷ others) address = if address == port.0 then Some port.1 else port_among others address
 
--- The port at an address.
 abbrev pub port_at : ℕ → Option Port
 port_at address = port_among ports address
 

@@ -24,8 +24,7 @@ pub data Value : Type 0 where
 -- Profile: a value that is not absolute is refused where an absolute one is needed.
 abbrev pub absolute : Value → Result ℕ ExprError
 absolute (Absolute number) = Ok number
-absolute (Relocatable number) = Err BadRelocation
-absolute (External name) = Err BadRelocation
+absolute _ = Err BadRelocation
 
 -- Profile: results keep 16 bits.
 abbrev pub to_word : ℕ → ℕ
@@ -86,8 +85,7 @@ joined operator a b =
 -- Editor/Assembler manual, "Expressions": a value after a minus sign is absolute.
 abbrev pub minus : Value → Result Value ExprError
 minus (Absolute number) = Ok (Absolute (negated number))
-minus (Relocatable number) = Err BadRelocation
-minus (External name) = Err BadRelocation
+minus _ = Err BadRelocation
 
 -- Editor/Assembler manual, "Constants": the characters between the quotes of a text, in which two quotes are one.
 abbrev pub characters_after : (quote_before : Bool) → List ℕ → List ℕ
@@ -108,8 +106,7 @@ characters quoted = characters_after false (between_quotes quoted)
 abbrev pub characters_value : List ℕ → Result Value ExprError
 characters_value (low ∷ []) = Ok (Absolute low)
 characters_value (high ∷ low ∷ []) = Ok (Absolute (high * 256 + low))
-characters_value [] = Err BadToken
-characters_value (first ∷ second ∷ third ∷ others) = Err BadToken
+characters_value _ = Err BadToken
 
 -- Editor/Assembler manual, "Symbols": the value of a name, which must have one.
 abbrev pub known_value : Option Value → Result Value ExprError

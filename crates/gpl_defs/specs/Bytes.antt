@@ -135,13 +135,11 @@ is_counted (counted.Immediate count) = true
 -- GPL Programmer's Guide, the statements with one operand, with two operands, BR and BS.
 -- Profile: MOVE with an immediate length has the second of its two.
 abbrev pub variant_of : GplInstr → ℕ
-variant_of (Plain op) = 0
-variant_of (Byte op value) = 0
-variant_of (Jump op to) = 0
 variant_of (Branch on offset) = high offset
 variant_of (One op word at) = one_if word
 variant_of (Two op word dst src) = one_if (is_immediate src) * 2 + one_if word
 variant_of (Move length target source) = one_if (is_counted length)
+variant_of _ = 0
 
 abbrev pub code_of : GplInstr → ℕ
 code_of instr = (row_of (operation_of instr)).code + variant_of instr

@@ -38,8 +38,7 @@ prefix Vdp true = codes "V*"
 -- an offset from >8300.
 abbrev pub shown_address : Space → Bool → ℕ → ℕ
 shown_address Vdp false address = address
-shown_address Vdp true address = (address + SCRATCHPAD) % 0x10000
-shown_address Cpu indirect address = (address + SCRATCHPAD) % 0x10000
+shown_address _ indirect address = (address + SCRATCHPAD) % 0x10000
 
 abbrev pub index_text : Option ℕ → List ℕ
 index_text None = []
@@ -72,7 +71,6 @@ from_text (from.At operand) = operand_text operand
 from_text (from.Grom address) = codes "G@" ++ hex_word address
 from_text (from.GromIndexed address index) = codes "G@" ++ (hex_word address ++ index_text (Some index))
 
--- what an instruction is called
 abbrev pub mnemonic_of : GplInstr → Mnemonic
 mnemonic_of (Plain op) = named.Plain op
 mnemonic_of (Byte op value) = named.Byte op
@@ -95,7 +93,6 @@ operands_text (Two op word dst src) at = Some (two_texts (operand_text dst) (sou
 operands_text (Move length to source) at =
     Some (two_texts (length_text length) (two_texts (target_text to) (from_text source)))
 
--- the text of an instruction at an address
 unfoldable pub instr_text : GplInstr → ℕ → List ℕ
 instr_text instr at = with_operands (name_of (mnemonic_of instr)) (operands_text instr at)
 

@@ -12,7 +12,7 @@ use Rattle.source_defs.specs.declared.causes.TextError.{TextError}
 use Rattle.expression_defs.specs.Expression.{Value, Absolute}
 use Rattle.source_defs.specs.Fields.{fields}
 use Rattle.expression_defs.specs.Symbols.{Names, look_up, predefined}
-use Rattle.expression_defs.specs.Layout.{names_of}
+use Rattle.expression_defs.specs.Layout.{set_or, names_of}
 use Rattle.gpl_source_defs.specs.declared.causes.GplCause.{GplCause}
 use Rattle.gpl_source_defs.specs.declared.causes.GplCause.TheVariants as cause
 use Rattle.gpl_source_defs.specs.declared.causes.GplCause.TheVariants.{DuplicateLabel, GromFull, BadDirective}
@@ -37,13 +37,9 @@ is_taken known (Some name) = is_some (get known name)
 
 -- What a label stands for: the location of its line, or that which the line sets, or the number of EQU.
 -- Editor/Assembler manual, "Define Assembly-Time Constant".
-abbrev pub label_by : Location → Option Location → ℕ
-label_by here None = address_of here
-label_by here (Some origin) = address_of origin
-
 abbrev pub label_value : Location → Statement → ℕ
 label_value here (Equ number) = number
-label_value here statement = label_by here (origin_of here statement)
+label_value here statement = address_of (set_or (origin_of here statement) here)
 
 abbrev pub label_entry : Option (List ℕ) → ℕ → List (List ℕ × Value)
 label_entry None number = []

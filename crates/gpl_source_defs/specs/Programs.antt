@@ -70,9 +70,7 @@ program_by lines assembled_lines =
 
 -- the program of lines that the first checks let through
 abbrev pub program_after : List Line → Result Program (Refusal GplCause)
-program_after lines = do
-  found ← assembled_lines (assembled_line (names lines)) lines
-  Ok (program_by lines found)
+program_after lines = assembled_lines (assembled_line (names lines)) lines >>= λ found. Ok (program_by lines found)
 
 -- the program of numbered lines, or the first that is refused: by the first checks, else by the second
 abbrev pub program_of : List (ℕ × List ℕ) → Result Program (Refusal GplCause)
@@ -84,6 +82,5 @@ program_of lines = do
 abbrev pub program_of_lines : List (List ℕ) → Result Program (Refusal GplCause)
 program_of_lines lines = program_of (numbered 1 lines)
 
--- the program of a source
 abbrev pub program_of_source : List ℕ → Result Program (Refusal GplCause)
 program_of_source source = program_of (line_texts source)

@@ -52,9 +52,7 @@ module _ (look : List ℕ → Option Value) (at : Location) where
 
   abbrev pub length_value : Source → Result MoveLength GplCause
   length_value (At operand) = Ok (counted.At operand)
-  length_value (Immediate text) = do
-    number ← value text
-    Ok (counted.Immediate number)
+  length_value (Immediate text) = value text >>= λ number. Ok (counted.Immediate number)
 
   -- where MOVE copies to and from, after its length
   abbrev pub moved : MoveLength → Route → Result GplInstr GplCause
@@ -80,9 +78,7 @@ module _ (look : List ℕ → Option Value) (at : Location) where
     number ← value text
     byte ← checked_byte number
     Ok (instr.Byte op byte)
-  instruction (Jump op text) = do
-    address ← value text
-    Ok (instr.Jump op address)
+  instruction (Jump op text) = value text >>= λ address. Ok (instr.Jump op address)
   instruction (Branch on text) = do
     address ← value text
     offset ← branch_offset at address
@@ -98,18 +94,12 @@ module _ (look : List ℕ → Option Value) (at : Location) where
   -- What a line comes to, or why the second checks refuse it. Profile: BSS places nothing.
   -- Editor/Assembler manual, "Initialize Word", "Initialize Byte", "Initialize Text", "Program End".
   unfoldable pub outcome : Statement → Result Outcome GplCause
-  outcome (Instruction skeleton) = do
-    found ← instruction skeleton
-    Ok (Bytes (gpl.bytes_of found))
-  outcome (Data texts) = do
-    words ← numbers look (address_of at) texts
-    Ok (Bytes (flat_map gpl.word_bytes words))
+  outcome (Instruction skeleton) = instruction skeleton >>= λ found. Ok (Bytes (gpl.bytes_of found))
+  outcome (Data texts) = numbers look (address_of at) texts >>= λ words. Ok (Bytes (flat_map gpl.word_bytes words))
   outcome (Byte texts) = do
     numbers ← numbers look (address_of at) texts
     bytes ← checked_bytes numbers
     Ok (Bytes bytes)
   outcome (Text quoted) = Ok (Bytes (characters quoted))
-  outcome (End (Some text)) = do
-    address ← value text
-    Ok (Entry address)
+  outcome (End (Some text)) = value text >>= λ address. Ok (Entry address)
   outcome _ = Ok (Bytes [])

@@ -62,15 +62,10 @@ as_operand (Err error) = Err (operand_cause error)
 
 -- the form of an operand that is not empty
 abbrev pub written_form : List ℕ → Result Form GplCause
-written_form text = do
-  text ← as_operand (written text)
-  Ok (form_of text)
+written_form text = as_operand (written text) >>= λ text. Ok (form_of text)
 
--- the form of the one operand
 abbrev pub one_form : List (List ℕ) → Result Form GplCause
-one_form texts = do
-  text ← as_operand (one_operand texts)
-  Ok (form_of text)
+one_form texts = as_operand (one_operand texts) >>= λ text. Ok (form_of text)
 
 -- the forms of two operands, and of three
 abbrev pub two_forms : List (List ℕ) → Result (Form × Form) GplCause
@@ -117,9 +112,7 @@ module _ (look : List ℕ → Option Value) (here : ℕ) where
 
   abbrev pub source_in : Form → Result Source GplCause
   source_in (Alone text) = Ok (Immediate text)
-  source_in form = do
-    operand ← operand_in form
-    Ok (At operand)
+  source_in form = operand_in form >>= λ operand. Ok (At operand)
 
   abbrev pub route_in : Form → Form → Result Route GplCause
   route_in (InMemory to) (InMemory from) = do

@@ -1,12 +1,12 @@
 -- The values of expressions in a GPL source.
-use Rattle.std.specs.Prelude.{ℕ, ◌+◌, ◌-◌, ◌%◌, ◌&&◌, Bool, true, false, nat_le, if◌then◌else◌, List, [], ◌∷◌, Option}
+use Rattle.std.specs.Prelude.{ℕ, ◌+◌, ◌-◌, ◌%◌, ◌&&◌, Bool, false, nat_le, if◌then◌else◌, List, [], ◌∷◌, Option}
 use Rattle.std.specs.Prelude.{Some, None, Result, Ok, Err}
 use Rattle.expression_defs.specs.declared.causes.ExprError.{ExprError}
 use Rattle.source_defs.specs.Refusals.{◌>>=◌}
 use Rattle.source_defs.specs.ByteValues.{number_as_byte, numbers_as_bytes}
 use Rattle.expression_defs.specs.Expression.{Value, Absolute, absolute, expression}
 use Rattle.gpl_defs.specs.declared.instruction.Space.{Space}
-use Rattle.gpl_defs.specs.declared.instruction.Space.TheVariants.{Cpu, Vdp}
+use Rattle.gpl_defs.specs.declared.instruction.Space.TheVariants.{Vdp}
 use Rattle.gpl_defs.specs.declared.instruction.GplOperand.{GplOperand}
 use Rattle.gpl_source_defs.specs.declared.causes.GplCause.{GplCause}
 use Rattle.gpl_source_defs.specs.declared.causes.GplCause.TheVariants.{Expr, BadOperand}
@@ -22,8 +22,7 @@ as_expr (Err error) = Err (Expr error)
 -- pointer.
 abbrev pub held_address : Space → Bool → ℕ → ℕ
 held_address Vdp false number = number
-held_address Vdp true number = (number + 0x10000 - SCRATCHPAD) % 0x10000
-held_address Cpu indirect number = (number + 0x10000 - SCRATCHPAD) % 0x10000
+held_address _ indirect number = (number + 0x10000 - SCRATCHPAD) % 0x10000
 
 -- Profile: the word that is added lies from >8300 to >83FF.
 abbrev pub index_of : ℕ → Result ℕ GplCause

@@ -76,9 +76,7 @@ with_byte_from address top at c =
 -- FETCH takes the byte of GROM at the address on the stack, which goes on. GPL Programmer's Guide, FETCH.
 -- Profile: the address is stored first, then the byte at the operand.
 abbrev pub fetched : Place → Changes → Result Changes Reason
-fetched at c = do
-  top ← on_stack 2 (top_of RETURN_STACK c.state)
-  Ok (with_byte_from (word_at c.state top) top at c)
+fetched at c = on_stack 2 (top_of RETURN_STACK c.state) >>= λ top. Ok (with_byte_from (word_at c.state top) top at c)
 
 -- RAND makes the next seed, and of it a number up to a limit. GPL Programmer's Guide, RAND.
 abbrev pub next_seed : ℕ → ℕ

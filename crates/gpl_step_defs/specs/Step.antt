@@ -142,9 +142,7 @@ changes_of (Move length target source) at c = moved length target source c
 
 -- the state after an instruction that stands at the state's pc, or why it stops
 unfoldable pub after : GplInstr → ℕ → GplState → Result GplState Reason
-after instr next s = do
-  c ← changes_of instr s.pc (unchanged (record s { pc = next }))
-  Ok (finished c)
+after instr next s = changes_of instr s.pc (unchanged (record s { pc = next })) >>= λ c. Ok (finished c)
 
 abbrev pub executed : GplRead → GplState → Result GplState Reason
 executed (Refused code) s = Err Opcode

@@ -14,7 +14,7 @@ use Rattle.instruction_defs.specs.declared.operand_kind.OperandKind.{OperandKind
 use Rattle.instruction_defs.specs.declared.operand_kind.OperandKind.TheVariants.{General, Immediate}
 use Rattle.instruction_defs.specs.Operations.{mnemonic}
 use Rattle.instruction_defs.specs.Operands.{kinds_of}
-use Rattle.instruction_defs.specs.Forms.{Form, Plain, Indirect, Increment, Symbolic, Indexed, form_of}
+use Rattle.instruction_defs.specs.Forms.{Form, Plain, Symbolic, Indexed, form_of}
 
 -- What the first checks leave of a line: a word that has a name of its own, or an operation with the forms of its
 -- operands.
@@ -41,12 +41,11 @@ form_in kind (byte ∷ bytes) = form_by kind (byte ∷ bytes)
 -- the forms of the operands of these kinds, one form a kind, from the left
 abbrev pub forms_in : List OperandKind → List (List ℕ) → Result (List Form) FormError
 forms_in [] [] = Ok []
-forms_in [] (text ∷ texts) = Err OperandCount
-forms_in (kind ∷ kinds) [] = Err OperandCount
 forms_in (kind ∷ kinds) (text ∷ texts) = do
   form ← form_in kind text
   forms ← forms_in kinds texts
   Ok (form ∷ forms)
+forms_in _ _ = Err OperandCount
 
 abbrev pub operand_forms : List OperandKind → List (List ℕ) → Result (List Form) FormError
 operand_forms kinds texts = if length texts == length kinds then forms_in kinds texts else Err OperandCount
@@ -70,11 +69,9 @@ first_checks operation field = skeleton_of (mnemonic operation) field
 
 -- how many words follow for an operand
 abbrev pub form_words : Form → ℕ
-form_words (Plain text) = 0
-form_words (Indirect text) = 0
-form_words (Increment text) = 0
 form_words (Symbolic text) = 1
 form_words (Indexed text index) = 1
+form_words _ = 0
 
 abbrev pub words_after : OperandKind → Form → ℕ
 words_after General form = form_words form
@@ -82,9 +79,8 @@ words_after Immediate form = 1
 words_after _ form = 0
 
 abbrev pub all_words_after : List OperandKind → List Form → ℕ
-all_words_after [] forms = 0
-all_words_after (kind ∷ kinds) [] = 0
 all_words_after (kind ∷ kinds) (form ∷ forms) = words_after kind form + all_words_after kinds forms
+all_words_after _ _ = 0
 
 -- how many bytes the words of a line take
 abbrev pub size_of : Skeleton → ℕ
@@ -93,6 +89,4 @@ size_of (Instruction operation forms) = 2 * (1 + all_words_after (kinds_of opera
 
 -- the size of an instruction line, or why the first checks refuse it
 abbrev pub line_size : List ℕ → List ℕ → Result ℕ FormError
-line_size operation field = do
-  skeleton ← first_checks operation field
-  Ok (size_of skeleton)
+line_size operation field = first_checks operation field >>= λ skeleton. Ok (size_of skeleton)

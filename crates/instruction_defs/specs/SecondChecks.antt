@@ -66,18 +66,10 @@ module _ (look : List ℕ → Option Value) (here : Value) where
 
   -- The values of an operand in any mode, from the left. Editor/Assembler manual, "Addressing Modes".
   abbrev pub placed : Form → Result Operand FormError
-  placed (Plain text) = do
-    register ← number_of text
-    Ok (InRegister register)
-  placed (Indirect text) = do
-    register ← number_of text
-    Ok (ByRegister register)
-  placed (Increment text) = do
-    register ← number_of text
-    Ok (AutoIncrement register)
-  placed (Symbolic text) = do
-    address ← value_of text
-    Ok (AtAddress address)
+  placed (Plain text) = number_of text >>= λ register. Ok (InRegister register)
+  placed (Indirect text) = number_of text >>= λ register. Ok (ByRegister register)
+  placed (Increment text) = number_of text >>= λ register. Ok (AutoIncrement register)
+  placed (Symbolic text) = value_of text >>= λ address. Ok (AtAddress address)
   placed (Indexed text index) = do
     address ← value_of text
     register ← number_of index
@@ -85,30 +77,21 @@ module _ (look : List ℕ → Option Value) (here : Value) where
 
   abbrev pub valued : OperandKind → Form → Result Operand FormError
   valued General form = placed form
-  valued Register form = do
-    number ← number_of (text_in form)
-    Ok (Number number)
-  valued Count form = do
-    number ← number_of (text_in form)
-    Ok (Number number)
-  valued Displacement form = do
-    number ← number_of (text_in form)
-    Ok (Bit number)
-  valued Immediate form = do
-    value ← value_of (text_in form)
-    Ok (Following value)
+  valued Register form = number_of (text_in form) >>= λ number. Ok (Number number)
+  valued Count form = number_of (text_in form) >>= λ number. Ok (Number number)
+  valued Displacement form = number_of (text_in form) >>= λ number. Ok (Bit number)
+  valued Immediate form = value_of (text_in form) >>= λ value. Ok (Following value)
   valued Target form = do
     value ← value_of (text_in form)
     target ← as_form_error (target_in here value)
     Ok (To target)
 
   abbrev pub all_valued : List OperandKind → List Form → Result (List Operand) FormError
-  all_valued [] forms = Ok []
-  all_valued (kind ∷ kinds) [] = Ok []
   all_valued (kind ∷ kinds) (form ∷ forms) = do
     operand ← valued kind form
     operands ← all_valued kinds forms
     Ok (operand ∷ operands)
+  all_valued _ _ = Ok []
 
 -- a value's number, without its kind
 abbrev pub place_number : Value → ℕ
@@ -171,9 +154,7 @@ ranged here (ByRegister number) = by_register 1 number
 ranged here (AutoIncrement number) = by_register 3 number
 ranged here (AtAddress value) = Ok (Located (record { mode = 2; reg = 0 }) (Some value))
 ranged here (AtIndexed value number) = indexed value number
-ranged here (Number number) = do
-  count ← below_sixteen number
-  Ok (Counted count)
+ranged here (Number number) = below_sixteen number >>= λ count. Ok (Counted count)
 ranged here (Bit number) = bit number
 ranged here (To target) = displaced (displacement_to (place_number here + 2) target)
 ranged here (Following value) = Ok (Followed value)
@@ -188,21 +169,15 @@ all_ranged here (operand ∷ operands) = do
 -- the parts of an instruction, by its operands in their order
 abbrev pub place_in : EncodedOperand → Place
 place_in (Located place following) = place
-place_in (Counted number) = record { mode = 0; reg = 0 }
-place_in (Displaced disp) = record { mode = 0; reg = 0 }
-place_in (Followed value) = record { mode = 0; reg = 0 }
+place_in _ = record { mode = 0; reg = 0 }
 
 abbrev pub count_in : EncodedOperand → ℕ
-count_in (Located place following) = 0
 count_in (Counted number) = number
-count_in (Displaced disp) = 0
-count_in (Followed value) = 0
+count_in _ = 0
 
 abbrev pub displacement_in : EncodedOperand → ℤ
-displacement_in (Located place following) = pos 0
-displacement_in (Counted number) = pos 0
 displacement_in (Displaced disp) = disp
-displacement_in (Followed value) = pos 0
+displacement_in _ = pos 0
 
 abbrev pub first_of : List EncodedOperand → EncodedOperand
 first_of [] = Counted 0
@@ -225,11 +200,9 @@ instruction_of (Bare op) readies = instr.Bare op
 
 -- the words that follow, in the order of the operands
 abbrev pub following_in : EncodedOperand → List Value
-following_in (Located place None) = []
 following_in (Located place (Some value)) = value ∷ []
-following_in (Counted number) = []
-following_in (Displaced disp) = []
 following_in (Followed value) = value ∷ []
+following_in _ = []
 
 abbrev pub all_following : List EncodedOperand → List Value
 all_following [] = []

@@ -2,7 +2,7 @@
 use Rattle.std.specs.Prelude.{ℕ, suc, ◌+◌, List, [], ◌∷◌, ◌++◌, codes, map}
 use Rattle.std.specs.List.{range_with_len}
 use Rattle.source_defs.specs.Digits.{word_digits, hex_word, right_in}
-use Rattle.tms_defs.specs.Accesses.{Answer, Gives, AtPort, NoInstruction}
+use Rattle.tms_defs.specs.Accesses.{Answer, Gives}
 use Rattle.tms_defs.specs.Operand.{Cpu}
 use Rattle.tms_defs.specs.Status.{status_word}
 use Rattle.tms_defs.specs.Words.{plus}
@@ -18,8 +18,7 @@ use Rattle.machine_change_defs.specs.Text.{changes_text}
 -- a word that is read; none of an instruction that is executed stands at a port
 abbrev pub read_word : Answer ℕ → ℕ
 read_word (Gives word) = word
-read_word (AtPort address) = 0
-read_word NoInstruction = 0
+read_word _ = 0
 
 -- the words from an address on, of which an instruction has three at most
 abbrev pub code_words : Memory → ℕ → List ℕ

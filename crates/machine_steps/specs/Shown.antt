@@ -20,6 +20,6 @@ pub record BreaksOff (limit : ℕ) (x y : MachineState) (out out' : SinkState) :
   pub missed : Missed out out' (step_lines x made)
 
 -- a run of up to a number of instructions, by the answer
-abbrev pub Shows : {E : Type 0} → ℕ → MachineState → MachineState → SinkState → SinkState → Result RunEnd E → Type 0
-Shows limit x y out out' (Ok ending) = ShowsWhole limit x y out out' ending
-Shows limit x y out out' (Err error) = BreaksOff limit x y out out'
+abbrev pub ShowsRun : {E : Type 0} → ℕ → MachineState → MachineState → SinkState → SinkState → Result RunEnd E → Type 0
+ShowsRun limit x y out out' (Ok ending) = ShowsWhole limit x y out out' ending
+ShowsRun limit x y out out' (Err error) = BreaksOff limit x y out out'

@@ -2,7 +2,7 @@
 
 ghost use Rattle.std.specs.Prelude.{◌≡◌, ◌≤◌};
 ghost use Rattle.machine_change_defs.specs.Seen.{seen_memory};
-ghost use Rattle.machine_steps.specs.Shown.{Shows};
+ghost use Rattle.machine_steps.specs.Shown.{ShowsRun};
 
 use crate::changes::append_changes;
 use crate::front::step_front;
@@ -31,7 +31,7 @@ pub fn show_run<O: Sink>(
     out: &mut O,
 ) -> Result<RunEnd, Failed>
     requires kept { seen.old ≡ seen_memory machine.old.cpu.memory }
-    ensures shows { Shows limit machine.old machine.new (O.state out.old) (O.state out.new) result }
+    ensures shows { ShowsRun limit machine.old machine.new (O.state out.old) (O.state out.new) result }
     ensures kept { seen.new ≡ seen_memory machine.new.cpu.memory }
 {
     for made in 0..limit {

@@ -107,7 +107,7 @@ pub one_by : (test : Bool) (fault first second : Report) (Other : Report → Typ
 one_by true fault first second Other one p q = p ∙ sym q
 one_by false fault first second Other one p q = one first second p q
 
-one_exec : (limit : ℕ) (linked : Result LinkedMemory (List ℕ)) (first second : Report) → ExecReport limit linked first → ExecReport limit linked second → first ≡ second
+pub one_exec : (limit : ℕ) (linked : Result LinkedMemory (List ℕ)) (first second : Report) → ExecReport limit linked first → ExecReport limit linked second → first ≡ second
 one_exec limit (Ok linked) first second p q = one_execution_report limit linked first second p q
 one_exec limit (Err line) first second p q = p ∙ sym q
 

@@ -3,7 +3,7 @@ use Rattle.std.specs.Prelude.{ℕ, ◌*◌, if◌then◌else◌, List, [], ◌�
 use Rattle.std.specs.List.{flat_map, range_with_len}
 use Rattle.std.specs.Fmt.{decimal}
 use Rattle.tms_defs.specs.Words.{plus}
-use Rattle.tms_defs.specs.Accesses.{Answer, Gives, AtPort, NoInstruction}
+use Rattle.tms_defs.specs.Accesses.{Answer, Gives}
 use Rattle.console_defs.specs.Vdp.{VdpState}
 use Rattle.console_defs.specs.Grom.{GromState}
 use Rattle.console_defs.specs.Memory.{Memory, word_read}
@@ -42,8 +42,7 @@ count_line machine =
 
 abbrev pub shown_word : Answer ℕ → List ℕ
 shown_word (Gives word) = 0x20 ∷ hex_word word
-shown_word (AtPort address) = []
-shown_word NoInstruction = []
+shown_word _ = []
 
 -- the workspace register with a number, after a blank
 abbrev pub register_text : Cpu Memory → ℕ → List ℕ

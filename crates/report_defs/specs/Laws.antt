@@ -25,20 +25,20 @@ use Rattle.report_defs.specs.Report.{largest_input, ReportOn, PrefixOn}
 use Rattle.report_defs.specs.ProgramCommands.{AsmFiles, OverFiles, Plain}
 use Rattle.report_defs.specs.FileReports.{ReportWith}
 
--- One report begins another: its pieces are the first of the other's. The report of an input that is refused begins
--- itself alone.
-abbrev pub Begins : Report → Report → Type 0
-Begins (Whole status shown) report =
+-- One report is a front of another: its pieces are the first of the other's. The report of an input that is refused is
+-- a front of itself alone.
+abbrev pub IsFrontOf : Report → Report → Type 0
+IsFrontOf (Whole status shown) report =
     (end : Status) × (others : List (List ℕ)) × (report ≡ Whole end (shown ++ others))
-Begins (Faulty fault) report = report ≡ Faulty fault
-Begins (Rejected line) report = report ≡ Rejected line
-Begins (RejectedAfter pieces line) report = report ≡ RejectedAfter pieces line
+IsFrontOf (Faulty fault) report = report ≡ Faulty fault
+IsFrontOf (Rejected line) report = report ≡ Rejected line
+IsFrontOf (RejectedAfter pieces line) report = report ≡ RejectedAfter pieces line
 
 -- the law, which is proved: what is written before the end of a report is known begins the report
 abbrev pub PrefixesBeginReports : Type 0
 PrefixesBeginReports =
     (command : Command) (input : List ℕ) (front report : Report)
-    → PrefixOn command input front → ReportOn command input report → Begins front report
+    → PrefixOn command input front → ReportOn command input report → IsFrontOf front report
 
 -- the text that gdis lists of bytes from an address on
 abbrev pub listed_text : ℕ → List ℕ → List ℕ

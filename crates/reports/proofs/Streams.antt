@@ -2,7 +2,7 @@
 use Rattle.std.proofs.Common.{◌≡◌, ℕ, List, [], ◌++◌, Option, Some, Bool, true, false, sym, ap, ◌∙◌, subst, append-nil}
 use Rattle.std.specs.Prelude.{if◌then◌else◌, IfSome}
 use Rattle.bench_io.specs.Stream.{SourceState, SinkState}
-use Rattle.bench_io.specs.Shown.{Shows, Unbuffered}
+use Rattle.bench_io.specs.Shown.{ShowsStream, Unbuffered}
 use Rattle.report_defs.specs.declared.status.Status.{Status}
 use Rattle.report_defs.specs.declared.status.Status.TheVariants as status
 use Rattle.report_defs.specs.FaultLine.{fault_line}
@@ -89,7 +89,7 @@ module _ {C W X : Type 0} (p : Program C W X) (one_report : OneReport p) (shown 
       holds source out err status.Stopped report on same wrote
 
   -- what came through a buffer that was written out
-  came_through : (wrote out err : SinkState) (end last : Status) → last ≡ end → Shows wrote.held out.held
+  came_through : (wrote out err : SinkState) (end last : Status) → last ≡ end → ShowsStream wrote.held out.held
       → StreamsHoldTheReport (p.ReportOn command read) out_before err_before wrote err end
       → StreamsHoldTheReport (p.ReportOn command read) out_before err_before out err last
   came_through wrote out err end last same shown had = record {
@@ -128,7 +128,7 @@ pub vectors_hold_the_report : {C W X : Type 0} (p : Program C W X) → StreamsGe
     → (enter leave : SourceState → W) (said : Option C) (bytes out_bytes err_bytes : List ℕ) (held : Option (List ℕ))
     (source : SourceState) (out err : SinkState) (end : Status) → held ≡ Some [] → IsWhole end
     → EndsThrough (said_ending p said enter leave) (record { left = Some bytes; out = held; err = Some [] }) source out err end
-    → Shows out.held (Some out_bytes) → Shows err.held (Some err_bytes)
+    → ShowsStream out.held (Some out_bytes) → ShowsStream err.held (Some err_bytes)
     → (command : C) (read : X) → said ≡ Some command → p.Shows command (enter (new_source (Some bytes))) read
     → StreamsHoldTheReport (p.ReportOn command read) [] [] (new_sink (Some out_bytes)) (new_sink (Some err_bytes)) end
 vectors_hold_the_report {C} p get enter leave said bytes out_bytes err_bytes held source out err end none whole ends shown

@@ -67,6 +67,5 @@ EndsSaid p (Some command) run WriteFault = EndsByFault p command run
 EndsSaid p (Some command) run Memory = WroteNothing p command run
 EndsSaid p (Some command) run end = EndsByReport p command run end
 
--- how a run ends
 abbrev pub EndsBy : {C W X : Type 0} → Program C W X → Run C W → Status → Type 0
 EndsBy p run end = EndsSaid p run.said run end

@@ -3,7 +3,7 @@ use Rattle.std.proofs.Common.{ℕ, ◌<◌, ◌||◌, ◌∙◌, ◌≡◌, ap, 
 use Rattle.sim_rows.proofs.Common.{comes, comes_then, Exits, from, GBOOT, given, Gives, Goes, goes_in, GSTEP, just, MachineState, matches, Runs, SEEK, ShowsState}
 use Rattle.sim_rows.proofs.Common.{set_is, Stands, steps, View, view}
 use Rattle.sim_rows.specs.sim_operands.Pieces as operands
-use Rattle.sim_steps.specs.Starting.{Begins, booted}
+use Rattle.sim_steps.specs.Starting.{StartsProgram, booted}
 use Rattle.sim_steps.specs.Pieces as pieces
 
 left_is : (a b : Bool) → (a || b) ≡ false → a ≡ false
@@ -25,7 +25,7 @@ module _ (x a y : MachineState) (t u v : ℕ) (stands : Stands x GBOOT) (held : 
   after_seek =
       goes_in (omega arith) (record { cells = refl; vdp = refl; registers = refl; held = held; grom = set_is (view x).grom (view x).r.r0 idle fits })
 
-  pub begins : Exits x a t u (pieces.boot (view x)) → Exits a y u v (operands.seek (view a)) → Begins (booted (view x)) 10 x y t v
+  pub begins : Exits x a t u (pieces.boot (view x)) → Exits a y u v (operands.seek (view a)) → StartsProgram (booted (view x)) 10 x y t v
   begins e1 e2 =
       let c1 = comes e1 (just (pieces.boot (view x)) 7 SEEK (omega arith) refl) in
       let c = comes_then 7 3 c1 e2 (from operands.seek c1.holds after_seek) refl in

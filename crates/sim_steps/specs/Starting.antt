@@ -11,7 +11,7 @@ booted w =
 
 -- From boot the machine comes to the first step, which it matches. It takes at most a given number of
 -- instructions, which the counter shows.
-pub record Begins (s : GplState) (most : ℕ) (x y : MachineState) (before after : ℕ) : Type 0 where
+pub record StartsProgram (s : GplState) (most : ℕ) (x y : MachineState) (before after : ℕ) : Type 0 where
   pub count : ℕ
   pub within : count ≤ most
   pub counted : after ≡ before + count

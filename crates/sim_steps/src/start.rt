@@ -2,7 +2,7 @@
 
 ghost use Rattle.sim_rows.specs.Prelude.{Exits, PortsAreIdle, Stands, view};
 ghost use Rattle.sim_rows.specs.native_interp.declared.addresses.TheConstants as address;
-ghost use Rattle.sim_steps.specs.Starting.{Begins, booted};
+ghost use Rattle.sim_steps.specs.Starting.{StartsProgram, booted};
 ghost use Rattle.sim_steps.specs.Pieces as piece;
 
 use sim_rows::labels::SEEK;
@@ -24,7 +24,7 @@ pub fn boot<L: Ledger>(machine: &mut Machine, steps: &mut Steps<L>)
 pub fn start_program<L: Ledger>(machine: &mut Machine, steps: &mut Steps<L>)
     requires stands { Stands machine.old address.GBOOT }
     requires idle { PortsAreIdle machine.old.cpu.memory }
-    ensures { Begins (booted (view machine.old)) 10 machine.old machine.new steps.old steps.new }
+    ensures { StartsProgram (booted (view machine.old)) 10 machine.old machine.new steps.old steps.new }
 {
     boot(machine, steps);
     seek_address(machine, steps);

@@ -15,19 +15,15 @@ abbrev pub written : List ℕ → Result (List ℕ) OperandError
 written [] = Err Form
 written (byte ∷ bytes) = Ok (byte ∷ bytes)
 
--- the one operand
 abbrev pub one_operand : List (List ℕ) → Result (List ℕ) OperandError
-one_operand [] = Err Count
 one_operand (text ∷ []) = written text
-one_operand (first ∷ second ∷ others) = Err Count
+one_operand _ = Err Count
 
 -- the operand, where there is one
 abbrev pub optional_operand : List (List ℕ) → Result (Option (List ℕ)) OperandError
 optional_operand [] = Ok None
-optional_operand (text ∷ []) = do
-  text ← written text
-  Ok (Some text)
-optional_operand (first ∷ second ∷ others) = Err Count
+optional_operand (text ∷ []) = written text >>= λ text. Ok (Some text)
+optional_operand _ = Err Count
 
 abbrev pub none_empty : List (List ℕ) → Bool
 none_empty texts = list_all (λ text. not (is_empty text)) texts

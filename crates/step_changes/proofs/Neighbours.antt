@@ -10,7 +10,7 @@ use Rattle.std.proofs.lemmas.List.{get_or-drop, drop_more, take_all}
 use Rattle.std.proofs.lemmas.List.Sums.{prefix_len-drop_yes, prefix_len-drop_no, prefix_len-drop_all}
 use Rattle.std.proofs.lemmas.Slice.Zip.{get_or-zip, length-zip}
 use Rattle.change_defs.specs.Changes.{Change, joined, changes_from}
-use Rattle.step_changes.specs.Scan.{left_from, is_made, Begins}
+use Rattle.step_changes.specs.Scan.{left_from, is_made, IsNextChange}
 
 abbrev pub change : ℕ → ℕ → ℕ → Change
 change at byte count = record { at = at; byte = byte; count = count }
@@ -173,7 +173,7 @@ module _ (before now : List ℕ) (same : length before ≡ length now) where
     shows : (l : List ℕ) → p < length (drop at l) → slice_get (drop at l) p ≡ Some (get_or l from 0)
     shows l less = slice_get-get_or (drop at l) p 0 less ∙ ap Some (get_or-drop at l p 0 ∙ ap (λ k. get_or l k 0) (sym e))
 
-    pub begins : Begins before now at from
+    pub begins : IsNextChange before now at from
     begins = record {
       from_on = omega arith;
       within = omega (arith, length-drop at before);

@@ -12,7 +12,7 @@ abbrev pub is_made : ℕ → ℕ × ℕ → Bool
 is_made byte place = (place.1 == byte) && not (place.0 == byte)
 
 -- the next change begins at a place
-pub record Begins (before after : List ℕ) (at from : ℕ) : Type 0 where
+pub record IsNextChange (before after : List ℕ) (at from : ℕ) : Type 0 where
   pub from_on : at ≤ from
   pub within : from < length after
   pub skips : left_from before after at ≡ left_from before after from
@@ -21,4 +21,4 @@ pub record Begins (before after : List ℕ) (at from : ℕ) : Type 0 where
 -- the place at which the next change begins, if there is one
 abbrev pub IsNext : List ℕ → List ℕ → ℕ → Option ℕ → Type 0
 IsNext before after at None = left_from before after at ≡ []
-IsNext before after at (Some from) = Begins before after at from
+IsNext before after at (Some from) = IsNextChange before after at from

@@ -23,7 +23,6 @@ status_word status =
     + bit_of status.op 0x0400
     + status.rest
 
--- A bit of a word is set.
 abbrev pub is_set : ℕ → ℕ → Bool
 is_set word weight = word / weight % 2 == 1
 

@@ -77,14 +77,11 @@ module _ {M : Type 0} where
   jump op disp x = jump_where (condition op x.status) disp x
 
 module _ (M : Type 0) (access : Accesses M) where
-  -- The word at an address.
   abbrev pub word_at : ℕ → Cpu M → Answer ℕ
   word_at address x = access.word x.memory address
 
   abbrev pub with_word : Cpu M → ℕ → ℕ → Answer (Cpu M)
-  with_word x address word = do
-    memory ← access.with_word x.memory address word
-    Gives (record x { memory = memory })
+  with_word x address word = access.with_word x.memory address word >>= λ memory. Gives (record x { memory = memory })
 
   -- Words are written in a row; of each pair the first is the address.
   abbrev pub with_words : Cpu M → List (ℕ × ℕ) → Answer (Cpu M)
@@ -95,9 +92,7 @@ module _ (M : Type 0) (access : Accesses M) where
 
   -- The word at the program counter, which goes on by two.
   abbrev pub next_word : Cpu M → Answer (ℕ × Cpu M)
-  next_word x = do
-    word ← word_at x.pc x
-    Gives (word, record x { pc = plus x.pc 2 })
+  next_word x = word_at x.pc x >>= λ word. Gives (word, record x { pc = plus x.pc 2 })
 
   -- Register 0 is no index. TMS9900 data manual, "Indexed addressing".
   abbrev pub index_of : Cpu M → ℕ → Answer ℕ
@@ -109,9 +104,7 @@ module _ (M : Type 0) (access : Accesses M) where
   -- Profile: the following word is read before the index register.
   abbrev pub operand : Mode → Width → ℕ → Cpu M → Answer (ℕ × Cpu M)
   operand Register width number x = Gives (register number x, x)
-  operand Indirect width number x = do
-    address ← word_at (register number x) x
-    Gives (address, x)
+  operand Indirect width number x = word_at (register number x) x >>= λ address. Gives (address, x)
   operand Symbolic width number x = do
     (base, next) ← next_word x
     index ← index_of next number
@@ -127,9 +120,7 @@ module _ (M : Type 0) (access : Accesses M) where
   value_at Byte address x = do
     (byte, memory) ← access.byte x.memory address
     Gives (byte, record x { memory = memory })
-  value_at Word address x = do
-    word ← word_at address x
-    Gives (word, x)
+  value_at Word address x = word_at address x >>= λ word. Gives (word, x)
 
   abbrev pub with_value : Width → ℕ → ℕ → Cpu M → Answer (Cpu M)
   with_value Byte address number x = do
@@ -311,9 +302,7 @@ module _ (M : Type 0) (access : Accesses M) where
     stored Word address (difference_of Word found 2) (difference_flags Word found 2) x
   -- Branch and link: as a branch; the address of the next instruction goes to register 11.
   -- Profile: the address itself is taken, its lowest bit cleared, and no value is read.
-  one BL address x = do
-    linked ← with_word x (register 11 x) x.pc
-    Gives (record linked { pc = even address })
+  one BL address x = with_word x (register 11 x) x.pc >>= λ linked. Gives (record linked { pc = even address })
   -- Swap bytes: no status bit is set.
   one SWPB address x = do
     found ← word_at address x

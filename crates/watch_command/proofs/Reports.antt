@@ -9,7 +9,7 @@ use Rattle.interp_defs.specs.Match.{shown_by}
 use Rattle.interp_defs.specs.Programs.{EndsAs, RunsSteps, most_of_boot}
 use Rattle.interp_defs.proofs.Machines.{runs_program}
 use Rattle.sim_steps.specs.Running.{RunsTurns}
-use Rattle.sim_steps.specs.Starting.{Begins}
+use Rattle.sim_steps.specs.Starting.{StartsProgram}
 use Rattle.gpl_run.specs.Sessions.{SessionState, IsNew, gpl_state_of, address_in, image_of, entry_of}
 use Rattle.trace_dump.proofs.Shown.{seen_by, same_pc, same_state}
 use Rattle.watch_defs.specs.declared.item.Item.{Item}
@@ -56,7 +56,7 @@ runs_of result.None limit x y before after w = ((run limit (gpl_state_of x)).don
 
 -- The interpreter has booted on a new machine, and the program was watched.
 module _ (new : MachineState) (machine : IsMachine new) (is_new : IsNew new) (first : SessionState) (begun booted : ℕ)
-    (begins : Begins (start (image_of new) (entry_of new)) most_of_boot new first.machine begun booted)
+    (begins : StartsProgram (start (image_of new) (entry_of new)) most_of_boot new first.machine begun booted)
     (running : first.ended ≡ None) where
   abbrev s : GplState
   s = start (image_of new) (entry_of new)
