@@ -1,0 +1,1 @@
+"""Comparing the programs with MAME: its processor, its disassembler, its ports and its console."""
