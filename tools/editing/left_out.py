@@ -15,7 +15,8 @@ import typing
 from expanding.names import FORMS, WORDS
 from lib import notes
 from lib.languages import OF_COMMAND
-from lib.refusals import PLACE, file_shown, lines
+from lib.program import Run
+from lib.refusals import PLACE, file_shown
 from lib.sources import copied, text_copied
 
 MOST = 20
@@ -54,10 +55,17 @@ class Texts:
         self.assembler, self.kind, self.folder = assembler, kind, os.path.dirname(file) or None
         paths = [pathlib.Path(it) for it in (copied(file, source) if kind == 'asm' else [])]
         self.texts = {None: source, **{it.name: text_copied(it) for it in paths if not it.is_symlink()}}
+        self.parted: typing.Dict[typing.Optional[str], list] = {}
 
     def line(self, file, number):
         """A line of one of them, or None if it is not there."""
-        return next(iter(lines(self.texts.get(file, b''))[number - 1:number]), None)
+        if file not in self.parted:
+            self.parted[file] = self.texts.get(file, b'').split(b'\n')
+        found = self.parted[file]
+        if not 0 < number <= len(found):
+            return None
+        text = found[number - 1].decode('latin-1')
+        return text.removesuffix('\r') if number < len(found) else text
 
     def without(self, file, left_out):
         """One of the texts, in which each of the lines that are left out is its label, or empty."""
@@ -79,41 +87,57 @@ class Texts:
             return self.assembler.run(self.kind, given=source, folder=folder)
 
 
-def doubt(file, place, text, language, left_out):
-    """The note of a refusal that may come of a line that was left out, or none."""
-    name, number, cause = place.groups()
+def doubt(file, name, cause, text, language, left_out):
+    """What a refusal in a file of a source may come of, a line that was left out; or None."""
     names, operation = set(notes.names_in(text, language)), notes.fields(text).operation.upper()
     of_names = [line for line in left_out if (cause == 'unknown name' and line.may_define(names)) or (
         cause == 'unknown operation' and line.may_name(operation))]
     found = of_names[:1] or (left_out[-1:] if cause in BY_PLACE else [])
     for line in found:
-        where = b'' if line.file == name else b' of ' + file_shown(line.file or os.path.basename(file))
-        path = os.path.join(os.path.dirname(file), name) if name else file
-        return [b'%s:%s: note: this may come of line %d%s, which is left out' % (
-            file_shown(path), number.encode(), line.number, where)]
-    return []
+        where = '' if line.file == name else f' of {os.fsdecode(file_shown(line.file or os.path.basename(file)))}'
+        return f'this may come of line {line.number}{where}, which is left out'
+    return None
+
+
+class Refusal(typing.NamedTuple):
+    """A refusal: how the run ended, the copied file and the line that it names, or None and 0, the cause, the text of
+    the line, and what the refusal may come of, or None."""
+    ended: Run
+    file: typing.Optional[str]
+    number: int
+    cause: str
+    text: typing.Optional[str]
+    doubt: typing.Optional[str]
+
+    def rows(self, file):
+        """The rows for standard error of the doubt, if a file is the source."""
+        if not self.doubt:
+            return []
+        path = os.path.join(os.path.dirname(file), self.file) if self.file else file
+        return [b'%s:%d: note: %s' % (file_shown(path), self.number, os.fsencode(self.doubt))]
 
 
 def refusals_of(assembler, kind, file, source, ended, before=(), most=MOST):
-    """The refusals of a source, of which the first is given, up to so many: how each run ended, and notes. Lines that
-    are left out before are given by their numbers and texts. A refusal that names no line of the source or of a file
-    that it copies is the last."""
+    """The refusals of a source, of which the first is given, up to so many. Lines that are left out before are given by
+    their numbers and texts. A refusal that names no line of the source or of a file that it copies is the last."""
     left_out: typing.Dict[tuple, Line] = {}
     plain = WORDS[OF_COMMAND[kind]].known - FORMS
     for number, text in before:
-        left_out[None, str(number)] = Line(None, number, text, notes.fields(text).operation.upper() not in plain)
+        left_out[None, number] = Line(None, number, text, notes.fields(text).operation.upper() not in plain)
     texts = Texts(assembler, kind, file, source)
     most += len(left_out)
     while len(left_out) < most:
         place = PLACE.fullmatch(ended.fault)
-        text = texts.line(place[1], int(place[2])) if place else None
+        name, number, cause = (place[1], int(place[2]), place[3]) if place else (None, 0, ended.fault)
+        text = texts.line(name, number) if place else None
         if text is None:
-            yield ended, []
+            yield Refusal(ended, name, number, cause, None, None)
             return
-        line = left_out.get((place[1], place[2]))
+        line = left_out.get((name, number))
         if line is None:
-            yield ended, doubt(file, place, text, OF_COMMAND[kind], [*left_out.values()])
-            left_out[place[1], place[2]] = Line(place[1], int(place[2]), text)
+            said = doubt(file, name, cause, text, OF_COMMAND[kind], [*left_out.values()])
+            yield Refusal(ended, name, number, cause, text, said)
+            left_out[name, number] = Line(name, number, text)
         elif line.is_kept:
             # its label alone is refused too
             line.is_kept = False

@@ -1,25 +1,15 @@
 """The names of operations and directives of both languages, by which a note says that a line is of the other one."""
+from lib.operations import ASSEMBLER, GPL, TABLE
 from lib.other_operations import NAMES
 
-GPL, ASSEMBLER = 'gpl', 'asm'
 # the language of a source, by the command of ti_bench or ti_debug that takes it
 OF_COMMAND = {'gasm': GPL, 'glist': GPL, 'gsteps': GPL, 'asm': ASSEMBLER, 'list': ASSEMBLER}
 KINDS = {GPL: 'a GPL source', ASSEMBLER: 'an assembler source'}
 OWNERS = {GPL: 'GPL', ASSEMBLER: 'the TMS9900'}
 
-OPERATIONS = {
-    GPL: set('ABS ADD ALL AND B BACK BR BS CALL CARRY CASE CEQ CGE CGT CH CHE CLOG CLR CZ DABS DADD DAND DCASE DCEQ '
-             'DCGE DCGT DCH DCHE DCLOG DCLR DCZ DDEC DDECT DDIV DEC DECT DEX DINC DINCT DINV DIV DMUL DNEG DOR DSLL DSRA '
-             'DSRC DSRL DST DSUB DXOR EX EXIT FETCH GT H INC INCT INV MOVE MUL NEG OR OVF PUSH RAND RTN RTNC SLL SRA '
-             'SRC SRL ST SUB XOR'.split()),
-    ASSEMBLER: set('A AB ABS AI ANDI B BL BLWP C CB CI CKOF CKON CLR COC CZC DEC DECT DIV IDLE INC INCT INV JEQ JGT JH '
-                   'JHE JL JLE JLT JMP JNC JNE JNO JOC JOP LDCR LI LIMI LREX LWPI MOV MOVB MPY NEG NOP ORI RSET RT '
-                   'RTWP S SB SBO SBZ SETO SLA SOC SOCB SRA SRC SRL STCR STST STWP SWPB SZC SZCB TB X XOP XOR'.split()),
-}
-DIRECTIVES = {
-    GPL: set('AORG BSS BYTE DATA END EQU GROM TEXT'.split()),
-    ASSEMBLER: set('AORG BES BSS BYTE COPY DATA DEF DORG END EQU EVEN IDT LIST PAGE REF RORG TEXT TITL UNL'.split()),
-}
+OPERATIONS = {language: {name for name, it in rows.items() if not it.is_directive} for language, rows in TABLE.items()}
+DIRECTIVES = {language: {name for name, it in rows.items() if it.is_directive and not it.is_form}
+              for language, rows in TABLE.items()}
 # the operations of GPL that the assembler does not have
 LEFT_OUT = NAMES
 
