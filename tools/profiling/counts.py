@@ -24,8 +24,8 @@ class Branch(typing.NamedTuple):
 
 class LineCount(typing.NamedTuple):
     """What was counted of a line that places bytes: the line, whether it is an instruction, the steps that were made at
-    its first byte and at its other bytes, how often the program ended there, the ways of a branch, and the number of
-    ways that a CASE went."""
+    its first byte and at its other bytes, how often the program ended there, the ways of a branch, the number of ways
+    that a CASE went, and the instructions of the processor, if they are counted."""
     line: typing.Any
     is_code: bool
     steps: int
@@ -33,6 +33,7 @@ class LineCount(typing.NamedTuple):
     ends: int
     branch: typing.Optional[Branch]
     ways: int
+    cost: int
 
     @property
     def reached(self):
@@ -50,7 +51,7 @@ class Counts:
 
     def __init__(self, listing, language=GPL):
         self.listing, self.language = listing, language
-        self.pairs, self.ends, self.begins = (collections.Counter() for _ in range(3))
+        self.pairs, self.ends, self.begins, self.costs = (collections.Counter() for _ in range(4))
 
     def add(self, steps, last):
         """Counts the steps of a run, of which the last leads to an address."""
@@ -98,7 +99,8 @@ class Counts:
             branch = Branch(steps - passed, passed)
         wild = sum(sum(by_address.get(at, {}).values()) + self.ends[at] for at in inside)
         return LineCount(line, operation in OPERATIONS[self.language], steps, wild, self.ends[line.address],
-                         branch, len(ways) if operation in CASES.get(self.language, ()) else 0)
+                         branch, len(ways) if operation in CASES.get(self.language, ()) else 0,
+                         sum(self.costs[at] for at in [line.address, *inside]))
 
     def routines(self):
         """The addresses of routines, each with how often it was begun: where runs begin, what the calls of the source

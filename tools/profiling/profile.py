@@ -34,21 +34,33 @@ class Deepest:
 
 class Profile(typing.NamedTuple):
     """A profile: how many steps were made, how the run ended, as a sentence; the counts, the calls, the deepest stacks,
-    if there are any, and the author of the lines."""
+    if there are any, and the author of the lines; and the instructions of the processor before the first step, if those
+    of the steps were counted."""
     steps: int
     end: str
     counts: Counts
     calls: Calls
     deepest: typing.Optional[Deepest]
     author: Author
+    boot: typing.Optional[int] = None
 
 
-def of_gpl(stream, listing, author):
-    """The profile of a GPL program."""
+def of_gpl(stream, listing, author, costs=None):
+    """The profile of a GPL program, with what its steps cost, if that is given."""
     counts, calls, deepest = Counts(listing, GPL), GplCalls(), Deepest()
     for step in counted(stream, counts, calls):
         deepest.take(step)
-    return Profile(stream.count, stream.end, counts, calls, deepest, author)
+        if costs:
+            add_cost(step.address, costs.of(step), counts, calls)
+    if costs and calls.root:
+        add_cost(stream.last, costs.rest(), counts, calls)
+    return Profile(stream.count, stream.end, counts, calls, deepest, author, costs and costs.first)
+
+
+def add_cost(address, cost, counts, calls):
+    """Adds instructions to a line and to the routine that goes on."""
+    counts.costs[address] += cost
+    calls.stack[-1][0].instructions += cost
 
 
 def of_processor(stream, listing, author):

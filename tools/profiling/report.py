@@ -17,14 +17,16 @@ def row_of(author, it):
     return f'{author.where(it.line.number)}: {author.text(it.line.number).strip()}'
 
 
-def report(profile, instructions=None):
-    """The rows of the report; with the instructions of the processor before the first step, if they were measured."""
+def report(profile):
+    """The rows of the report."""
     lines = list(profile.counts.lines())
     yield profile.end
     yield from covered_rows(lines)
     yield from wild_rows(profile, lines)
-    yield from routine_rows(profile, instructions)
+    yield from routine_rows(profile)
     yield from hottest_rows(profile, lines)
+    if profile.boot is not None:
+        yield from dearest_rows(profile, lines)
     yield from never_rows(profile, lines)
     if profile.deepest:
         yield from stack_rows(profile)
@@ -50,10 +52,10 @@ def wild_rows(profile, lines):
         yield f'{times:9,}  >{address:04X}, where no line has a byte'
 
 
-def routine_rows(profile, instructions):
+def routine_rows(profile):
     """The routines, by their own steps."""
     found, total = routines(profile.calls), profile.steps
-    measured = instructions is not None
+    measured = profile.boot is not None
     yield 'routines, by their own steps:'
     yield '      own      %     whole    calls' + '  instructions     whole' * measured + '  routine'
     places = {line.address: line.number for line in profile.counts.listing.lines if line.data}
@@ -64,7 +66,7 @@ def routine_rows(profile, instructions):
         yield (f'{it.steps:9,}  {percent(it.steps, total)} {it.whole:9,}{it.calls:9,}{costs}  '
                f'{profile.author.name(it.address)}{where}')
     if measured:
-        yield f'{"":34}{instructions:14,}  before the first step'
+        yield f'{"":34}{profile.boot:14,}  before the first step'
 
 
 def hottest_rows(profile, lines):
@@ -74,6 +76,17 @@ def hottest_rows(profile, lines):
         yield 'lines with the most steps:'
     for it in hottest:
         yield f'{it.steps:9,}  {percent(it.steps, profile.steps)}  {row_of(profile.author, it)}'
+
+
+def dearest_rows(profile, lines):
+    """The lines with the most instructions of the processor, with how many a step took."""
+    total = sum(it.cost for it in lines)
+    dearest = sorted((it for it in lines if it.cost), key=lambda it: -it.cost)[:HOTTEST]
+    if dearest:
+        yield 'lines with the most instructions, and how many for a step:'
+    for it in dearest:
+        each = f'{it.cost / (it.reached + it.inside):,.1f}'
+        yield f'{it.cost:14,}  {percent(it.cost, total)} {each:>10}  {row_of(profile.author, it)}'
 
 
 def never_rows(profile, lines):
@@ -105,8 +118,10 @@ def listing_rows(profile):
     places = [author.where(line.number) for line in lines]
     width = max(map(len, places), default=0)
     for line, place in zip(lines, places):
-        mark, times, ways = columns(counted.get(line.number))
-        yield f'{mark:1}{times:>9} {ways:>11}  {place:{width}} {author.text(line.number)}'.rstrip()
+        it = counted.get(line.number)
+        mark, times, ways = columns(it)
+        cost = '' if profile.boot is None else f'{it.cost:>14,}' if it and times else f'{"":14}'
+        yield f'{mark:1}{times:>9}{cost} {ways:>11}  {place:{width}} {author.text(line.number)}'.rstrip()
 
 
 def columns(it):
@@ -123,10 +138,10 @@ def columns(it):
     return NEVER if it.branch and 0 in it.branch else '', f'{it.reached:,}', ways
 
 
-def folded_rows(profile, is_measured):
+def folded_rows(profile):
     """A row for each stack of routines: their names, and its steps or the instructions that they took."""
     if profile.calls.root:
         for node in nodes(profile.calls.root):
-            weight = node.instructions if is_measured else node.steps
+            weight = node.steps if profile.boot is None else node.instructions
             if weight:
                 yield ';'.join(map(profile.author.name, node.path())) + f' {weight}'

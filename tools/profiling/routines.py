@@ -39,14 +39,12 @@ class Routine:
 
 
 class Calls:
-    """The stack of calls while steps are taken. Segments are the numbers of the steps that were made before another
-    node went on, each with that node."""
+    """The stack of calls while steps are taken."""
 
     def __init__(self):
         self.root = None
         # of each frame the node, and what is known of its return
-        self.stack, self.segments, self.count = [], [], 0
-        self.call = None
+        self.stack, self.call = [], None
 
     def take(self, step):
         """Counts a step for the routine that makes it."""
@@ -63,17 +61,13 @@ class Calls:
             self.leave(step)
         self.call = step if self.is_call(step) else None
         self.stack[-1][0].steps += 1
-        self.count += 1
 
     def enter(self, node, known):
         self.stack.append((node, known))
-        self.segments.append((self.count, node))
 
     def drop(self, kept):
         """Takes frames off the stack, so that so many stay."""
-        if kept < len(self.stack):
-            del self.stack[kept:]
-            self.segments.append((self.count, self.stack[-1][0]))
+        del self.stack[kept:]
 
     def address(self, step):
         """The address of the instruction of a step."""

@@ -6,7 +6,9 @@ VIDEO on, the registers of the video processor are from REGISTERS on, and what t
 import re
 
 VIDEO, REGISTERS = 0x10000, 0x14000
-CELLS, CELLS_END = 0x8300, 0x83C2
+CELLS, CELLS_END, PAD_END = 0x8300, 0x83C2, 0x8400
+# the cells of GPL's own that hold the pointers of both stacks, and the status
+DATA_STACK, RETURN_STACK, STATUS = 0x8372, 0x8373, 0x837C
 # what a port holds: its place, and how many bytes; of VH the first says whether a byte is held
 LATCHES = {'VA': (REGISTERS + 8, 2), 'VF': (REGISTERS + 10, 1), 'VH': (REGISTERS + 11, 2), 'GA': (REGISTERS + 13, 2),
            'GF': (REGISTERS + 15, 1), 'GH': (REGISTERS + 16, 1)}

@@ -36,8 +36,8 @@ class Step(typing.NamedTuple):
 
 class Run(typing.NamedTuple):
     """A run: its steps, the registers of the processor after the last, the memory before the first as changes of a
-    memory of 0, the names of the linked memory, how it ended as a sentence, whether with an error, and why steps are
-    left out, if any are."""
+    memory of 0, the names of the linked memory, how it ended as a sentence, whether with an error, why steps are left
+    out, if any are; how many steps come before these, and their calls with those before, if they were taken."""
     steps: list
     last: State
     first: list
@@ -45,6 +45,8 @@ class Run(typing.NamedTuple):
     end: str
     stopped: bool
     cut: str
+    begin: int = 0
+    calls: typing.Any = None
 
 
 def changes_in(part, wp):
@@ -99,7 +101,7 @@ def state_shown(rest, steps, memory):
 
 def ending(report, limit):
     """How a run ended, as a sentence; and whether with an error."""
-    steps = len(report.steps)
+    steps = report.made
     made = counted(steps, 'instruction')
     if report.cut:
         return only(steps, report.cut, 'instruction'), False
@@ -126,16 +128,21 @@ def names_in(listed):
     return [(name, int(value, 16)) for name, value in NAME.findall(listed)]
 
 
-def run_of(debugger, objects, listed, limit):
+def run_of(debugger, objects, listed, limit, window=None):
     """The run of object text that the program accepts and whose linked memory is listed, up to a number of
-    instructions."""
-    report = reported(debugger, ['steps', str(limit)], objects, step_of)
+    instructions; all of it, or what a window keeps."""
+    report = reported(debugger, ['steps', str(limit)], objects, step_of, window)
     first = first_memory(listed)
-    steps, memory = replayed(first, report.steps)
+    steps, memory = (window.steps, window.memory) if window else replayed(first, report.steps)
     end, stopped = ending(report, limit)
     shown = report.rest
     if report.cut:
         # the same instructions once more, for the state after them
-        again = debugger.run('steps', str(len(steps)), given=objects).out.decode('latin-1')
+        again = debugger.run('steps', str(report.made), given=objects).out.decode('latin-1')
         shown = again[again.rfind('\nend ') + 1:]
-    return Run(steps, state_shown(shown, len(steps), memory), first, names_in(listed), end, stopped, report.cut)
+    last = state_shown(shown, report.made, memory)
+    made = Run(list(steps), last, first, names_in(listed), end, stopped, report.cut)
+    if not window:
+        return made
+    window.end(report.cut, *last)
+    return made._replace(first=window.first, end=window.said(end), begin=window.begin, calls=window.calls)

@@ -7,7 +7,8 @@ import re
 import typing
 
 from lib.dump import dump
-from stepping.places import CELLS, CELLS_END, END, REGISTERS, VIDEO, changes_of
+from stepping.places import (CELLS, CELLS_END, DATA_STACK, END, REGISTERS, RETURN_STACK, STATUS, VIDEO,
+                             changes_of)
 from stepping.reports import counted, no_report, not_led_to, only, replayed, reported
 
 BYTES = r'[0-9A-F]{2}(?:\*[0-9]{1,5})?'
@@ -17,7 +18,7 @@ STEP = re.compile(rf' *([0-9]+) >([0-9A-F]{{4}}) {BEFORE} ([^=\n]*?)((?: {CHANGE
 STATE = re.compile(rf'^gpl >([0-9A-F]{{4}}) {BEFORE}$', re.M)
 END_LINE = re.compile(r'^(exit|stop ([1-5])) at >([0-9A-F]{4})$', re.M)
 # the cells that a line shows before its step: the status, and the pointers of both stacks
-SHOWN_BEFORE = (0x837C, 0x8372, 0x8373)
+SHOWN_BEFORE = (STATUS, DATA_STACK, RETURN_STACK)
 REASONS = {
     1: 'the code byte there is no instruction’s',
     2: 'a pointer, an index or the bytes of an operand are not visible: they are outside >8300 to >83C1, or a pointer '
@@ -40,8 +41,9 @@ class Step(typing.NamedTuple):
 
 class Run(typing.NamedTuple):
     """A run: its steps, the address after the last, the state before the first as changes of a memory of 0, how it
-    ended as a sentence, whether the program stopped with an error, why steps are left out, if any are, and the reason
-    of its end: 0 for EXIT, and None if it has not ended."""
+    ended as a sentence, whether the program stopped with an error, why steps are left out, if any are, the reason of
+    its end: 0 for EXIT, and None if it has not ended; how many steps come before these, and their calls with those
+    before, if they were taken."""
     steps: list
     last: int
     first: list
@@ -49,11 +51,13 @@ class Run(typing.NamedTuple):
     stopped: bool
     cut: str
     reason: typing.Optional[int]
+    begin: int = 0
+    calls: typing.Any = None
 
 
 def first_state():
     """The state that each GPL program begins with: the pointers of both stacks."""
-    return [(0x8372, '9F7E', 1)]
+    return [(DATA_STACK, '9F7E', 1)]
 
 
 def step_of(line):
@@ -85,7 +89,7 @@ def state_shown(rest):
 
 def ending(report, limit):
     """How a run ended, as a sentence; and by which reason, None if it has not ended."""
-    steps = len(report.steps)
+    steps = report.made
     if report.cut:
         return only(steps, report.cut), None
     found = END_LINE.match(report.rest)
@@ -101,15 +105,19 @@ def ending(report, limit):
     return f'Ended by EXIT at >{found[3]} after {counted(steps)}.', 0
 
 
-def run_of(bench, debugger, source, limit):
-    """The run of a GPL source that the program accepts, up to a number of steps."""
-    report, first = reported(debugger, ['gsteps', str(limit)], source, step_of), first_state()
-    steps, memory = replayed(first, report.steps, is_before)
+def run_of(bench, debugger, source, limit, window=None):
+    """The run of a GPL source that the program accepts, up to a number of steps; all of it, or what a window keeps."""
+    report, first = reported(debugger, ['gsteps', str(limit)], source, step_of, window), first_state()
+    steps, memory = (window.steps, window.memory) if window else replayed(first, report.steps, is_before)
     end, reason = ending(report, limit)
     rest = report.rest
     if report.cut:
-        rest = bench.run('run', str(len(steps)), given=source).out.decode('latin-1')
+        rest = bench.run('run', str(report.made), given=source).out.decode('latin-1')
     last, shown = state_shown(rest)
     if memory != shown:
         raise not_led_to()
-    return Run(steps, last, first, end, bool(reason), report.cut, reason)
+    made = Run(list(steps), last, first, end, bool(reason), report.cut, reason)
+    if not window:
+        return made
+    window.end(report.cut, last)
+    return made._replace(first=window.first, end=window.said(end), begin=window.begin, calls=window.calls)

@@ -12,6 +12,7 @@ from stepping import processor, run
 from stepping.places import END, make
 from stepping.reports import Report, checked, no_report, not_led_to
 
+# how long a run may take, if nobody says it
 SECONDS = 600
 
 
@@ -20,8 +21,8 @@ class Stream:
     taken: where it goes on; what has ended the program there, if an instruction has that is no step, as `exit` or
     `stop 2`; and how the run ended, as a sentence."""
 
-    def __init__(self, debugger, words, given, first):
-        self.debugger, self.words, self.given = debugger, words, given
+    def __init__(self, debugger, words, given, first, seconds=SECONDS):
+        self.debugger, self.words, self.given, self.seconds = debugger, words, given, seconds
         self.memory, self.count = bytearray(END), 0
         make(self.memory, first)
         self.last = self.how = self.end = None
@@ -33,19 +34,19 @@ class Stream:
 
     def __iter__(self):
         rest, status = yield from self.taken()
-        self.finish(Report([None] * self.count, rest.decode('latin-1'), '', status))
+        self.finish(Report([], self.count, rest.decode('latin-1'), '', status))
 
     def taken(self):
         """The steps; and then the rest of the report, and the status of the program."""
         running = started(self.debugger, self.words)
-        alarm = threading.Timer(SECONDS, running.kill)
+        alarm = threading.Timer(self.seconds, running.kill)
         alarm.daemon = True
         alarm.start()
         ended = []
         try:
             with running:
                 give(running, self.given)
-                for step in checked(self.memory, self.read(running.stdout, ended), self.is_before):
+                for step in self.fitting(self.read(running.stdout, ended)):
                     self.count += 1
                     yield step
                 status = running.wait()
@@ -53,7 +54,7 @@ class Stream:
             alarm.cancel()
             running.kill()
         if status == -signal.SIGKILL:
-            raise command.Stopped(f'the run takes longer than {SECONDS} seconds; give fewer steps')
+            raise command.Stopped(f'the run takes longer than {self.seconds:.0f} seconds; give fewer steps')
         if status not in (0, 7):
             raise command.Stopped(f'{self.debugger} {" ".join(self.words)}: ended with status {status}')
         return b''.join(ended), status
@@ -66,6 +67,10 @@ class Stream:
                 ended.extend([line, lines.read()])
                 return
             yield step
+
+    def fitting(self, steps):
+        """The steps, each with the bytes that it changed, if they fit together."""
+        return checked(self.memory, steps, self.is_before)
 
     def step_of(self, line):
         """The step that a line shows, or None."""
@@ -85,8 +90,8 @@ class GplStream(Stream):
     is_before = staticmethod(run.is_before)
     step_of = staticmethod(run.step_of)
 
-    def __init__(self, debugger, source, limit):
-        super().__init__(debugger, ['gsteps', str(limit)], source, run.first_state())
+    def __init__(self, debugger, source, limit, seconds=SECONDS):
+        super().__init__(debugger, ['gsteps', str(limit)], source, run.first_state(), seconds)
         self.limit = limit
 
     def finish(self, report):

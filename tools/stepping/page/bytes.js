@@ -17,16 +17,17 @@ function buildBytes(table, count) {
     row.append(make('td', ''))
     table.append(row)
   }
+  oneStop(table)
   return buttons
 }
 
 function drawByte(button, at) {
-  const value = memory[at], isChanged = changed.has(at)
+  const value = memory[at], isNew = changed.has(at)
   const meaning = MEANINGS.get(at), text = byte(value)
   const title = `${placeName(at)}${meaning ? `, ${meaning}` : ''}: ${text}` +
-    (isChanged ? `, was ${byte(before[at])}` : '')
-  const name = [value ? '' : 'zero', at < VIDEO && namesOf.has(at) ? 'named' : meaning ? 'own' : '',
-    isChanged ? 'changed' : '', isChosen(at) ? 'chosen' : ''].join(' ')
+    (isNew ? `, was ${byte(before[at])}` : '')
+  const name = [value ? '' : 'zero', namesOf.has(at) ? 'named' : meaning ? 'own' : '',
+    isNew ? 'changed' : '', isChosen(at) ? 'chosen' : ''].join(' ')
   // an element that stays as it is costs the browser nothing
   if (button.title !== title) {
     button.title = button.ariaLabel = title
@@ -36,10 +37,17 @@ function drawByte(button, at) {
   if (button.className !== name) button.className = name
 }
 
+// Draws a part of the page now and after each step, if it is not folded.
+function whenOpen(id, draw) {
+  const part = find(id)
+  part.addEventListener('toggle', () => { if (part.open) draw() })
+  views.push(() => { if (part.open) draw() })
+}
+
 const cellButtons = buildBytes(find('cells'), CELLS_END - CELLS)
 for (let row = 1; row < find('cells').rows.length; row++)
   find('cells').rows[row].cells[0].textContent = hex(CELLS + 16 * (row - 1))
-views.push(() => cellButtons.forEach((button, i) => drawByte(button, CELLS + i)))
+whenOpen('cells-part', () => cellButtons.forEach((button, i) => drawByte(button, CELLS + i)))
 
 const ROWS = 12
 
@@ -66,7 +74,7 @@ function partTable(id, first, size) {
     }
     writeFrom()
   }
-  views.push(() => {
+  part.draw = () => {
     followChanges()
     if (document.activeElement !== from) writeFrom()
     buttons.forEach((button, i) => drawByte(button, placeAt(part.from + i)))
@@ -75,7 +83,7 @@ function partTable(id, first, size) {
       cells[0].textContent = hex(start % size)
       cells[17].textContent = Array.from({length: 16}, (_, i) => character(memory[placeAt(start + i)])).join('')
     }
-  })
+  }
   return part
 }
 
@@ -83,17 +91,25 @@ find('memories').hidden = !ofProcessor
 if (ofProcessor) {
   const part = partTable('memory', 0, VIDEO)
   part.from = data.first.length ? data.first[0][0] & 0xFFF0 : 0xA000
+  whenOpen('memories', part.draw)
 }
 const videoPart = partTable('video', VIDEO, VIDEO_SIZE)
+whenOpen('video-part', videoPart.draw)
+
+// what the run changes is open; the rest is folded
+find('cells-part').open = isTouched(CELLS, CELLS_END)
+find('memories').open = ofProcessor && (isTouched(0, CELLS) || isTouched(CELLS_END, VIDEO))
+find('video-part').open = isTouched(VIDEO, REGISTERS)
+find('registers-part').open = isTouched(REGISTERS, REGISTERS + 8)
+find('screen-part').open = isTouched(VIDEO, REGISTERS + 8) || data.first.some(([at]) => at >= VIDEO)
 
 function chosenText() {
-  const {at, width} = choice, value = width > 1 ? memory[at] << 8 | memory[at + 1] : memory[at]
-  const count = choice.steps.length
+  const {at, width} = choice, count = choice.steps.length
   const history = count ? `changed in ${counted(count)}:` : 'never changed'
+  if (width > 2) return `${width} bytes at ${placeName(at)}; ${history}`
+  const value = numberAt(memory, at, width)
   return `${width > 1 ? 'word' : 'byte'} at ${placeName(at)} is ${hex(value, 2 * width)}, ${value}; ${history}`
 }
-
-const counted = count => `${count.toLocaleString('en')} step${count > 1 ? 's' : ''}`
 
 // of a byte that never changed, that the next one did: the place may be that of a word
 function nextByteText() {
@@ -103,13 +119,21 @@ function nextByteText() {
   return count ? `. The byte after it, ${placeName(next)}, changed in ${counted(count)}; w chooses both` : ''
 }
 
+function historyButton(number) {
+  const button = make('button', `${shownNumber(number)}`, {className: number === now ? 'now' : ''})
+  button.dataset.key = `change ${number}`
+  button.onclick = () => go(number)
+  return button
+}
+
+const history_ = make('li')
+oneStop(find('chosen'))
 views.push(() => {
-  find('word').checked = choice.width > 1
+  find('word').checked = choice.width === 2
   if (choice.at < 0) return
   const list = find('chosen'), numbers = choice.steps
   const from = Math.max(0, numbers.findLastIndex(number => number <= now) - 20)
-  list.replaceChildren(make('div', chosenText() + nextByteText()))
-  for (const number of numbers.slice(from, from + 40))
-    list.append(make('button', `${number}`, {className: number === now ? 'now' : '', onclick: () => go(number)}))
-  if (from + 40 < numbers.length) list.append(`… ${numbers.length - from - 40} more`)
+  history_.replaceChildren(...numbers.slice(from, from + 40).map(historyButton),
+    from + 40 < numbers.length ? `… ${numbers.length - from - 40} more` : '')
+  replaceRows(list, [make('div', chosenText() + nextByteText()), history_])
 })

@@ -47,14 +47,24 @@ function setWord(isWord) {
 
 // the field of the step's number; what is no number leaves the step as it is
 function goToNumber(text) {
-  go(/^ *[0-9]+ *$/.test(text) ? +text : now)
+  go(/^ *[0-9]+ *$/.test(text) ? +text - first : now)
+}
+
+// Enter in a field looks forward, Shift+Enter back, and Escape leaves it with its text.
+function onFieldKey(event, look) {
+  if (event.key === 'Enter') look(!event.shiftKey)
+  if (event.key !== 'Escape') return
+  event.preventDefault()
+  event.target.blur()
 }
 
 const KEYS = {
   ArrowLeft: event => go(now - (event.shiftKey ? 10 : 1)), ArrowRight: event => go(now + (event.shiftKey ? 10 : 1)),
   Home: () => go(0), End: () => go(last), ' ': () => play(!playing),
-  n: () => goToChange(true), p: () => goToChange(false), w: () => setWord(choice.width === 1),
-  '/': () => find('search').focus(),
+  s: () => go(now + 1), S: () => go(now - 1), o: () => over(true), O: () => over(false), u: () => out(true),
+  U: () => out(false), c: () => goWhere(true), C: () => goWhere(false),
+  n: () => goToChange(true), p: () => goToChange(false), w: () => setWord(choice.width === 1), a: watchChosen,
+  '/': () => find('search').focus(), '?': () => find('where').focus(),
 }
 
 function onKey(event) {
@@ -68,10 +78,28 @@ function onKey(event) {
   act(event)
 }
 
+// what is kept of all pages; some browsers keep nothing of a file
+const KEPT_THEME = 'ti_bench theme'
+
+function keepTheme(theme) {
+  try {
+    localStorage.setItem(KEPT_THEME, theme)
+  } catch { /* it is not kept */ }
+}
+
+function keptTheme() {
+  try {
+    return localStorage.getItem(KEPT_THEME)
+  } catch {
+    return null
+  }
+}
+
 function changeTheme() {
   const root = document.documentElement, isDark = matchMedia('(prefers-color-scheme: dark)').matches
   const shown = root.dataset.theme ?? (isDark ? 'dark' : 'light')
   root.dataset.theme = shown === 'dark' ? 'light' : 'dark'
+  keepTheme(root.dataset.theme)
 }
 
 function listen() {
@@ -82,10 +110,20 @@ function listen() {
   find('play').onclick = () => play(!playing)
   find('slider').oninput = event => go(+event.target.value)
   find('number').onchange = event => goToNumber(event.target.value)
-  find('search').onkeydown = event => {
-    if (event.key === 'Enter') search(!event.shiftKey)
-    if (event.key === 'Escape') event.target.blur()
+  find('search').onkeydown = event => onFieldKey(event, search)
+  find('where').onkeydown = event => onFieldKey(event, goWhere)
+  find('where-back').onclick = () => goWhere(false)
+  find('where-next').onclick = () => goWhere(true)
+  find('where-watch').onclick = () => {
+    ask(find('where').value)
+    watch(find('where').value)
+    go(now)
   }
+  find('over-back').onclick = () => over(false)
+  find('over').onclick = () => over(true)
+  find('out-back').onclick = () => out(false)
+  find('out').onclick = () => out(true)
+  find('keep').onclick = watchChosen
   find('theme').onclick = changeTheme
   find('word').onchange = event => setWord(event.target.checked)
   find('previous').onclick = () => goToChange(false)
@@ -103,12 +141,16 @@ if (ofProcessor) {
   find('h-source').textContent = hasSource ? 'Source' : 'Instructions'
   find('h-state').textContent = 'Status and registers'
   find('h-cells').textContent = 'Scratchpad'
+  find('h-names').textContent = 'Named memory'
 }
 find('name').textContent = data.name
 find('end').textContent = data.end
 find('end').classList.toggle('stopped', data.stopped)
-find('slider').max = find('number').max = last
-find('of').textContent = `of ${last.toLocaleString('en')}`
+find('slider').max = last
+find('number').min = first
+find('number').max = shownNumber(last)
+find('of').textContent = `of ${first ? `${grouped(first)} to ` : ''}${grouped(shownNumber(last))}`
+if (['light', 'dark'].includes(keptTheme())) document.documentElement.dataset.theme = keptTheme()
 buildSource()
 listen()
 readFragment()

@@ -1,17 +1,23 @@
 'use strict'
-// The run that the page was given: its steps, lines and names, and the memory after each step.
+// The run that the page was given: its steps, lines and names, and the memory after each step. Where the parts of the
+// memory lie is given too.
 
 const data = JSON.parse(document.getElementById('data').textContent)
 const ofProcessor = data.kind === 'exec'
-const VIDEO = 0x10000, VIDEO_SIZE = 0x4000, REGISTERS = 0x14000, LATCHES = 0x14008, PLACES = 0x14011
-const CELLS = 0x8300, CELLS_END = ofProcessor ? 0x8400 : 0x83C2
-const DATA_STACK = 0x8372, RETURN_STACK = 0x8373, STATUS = 0x837C
-const FIRST_DATA = 0x9F, FIRST_RETURN = 0x7E
+const {video: VIDEO, registers: REGISTERS, end: PLACES, cells: CELLS, dataStack: DATA_STACK,
+  returnStack: RETURN_STACK, status: STATUS} = data.layout
+const VIDEO_SIZE = REGISTERS - VIDEO, MEMORY_SIZE = VIDEO
+const CELLS_END = ofProcessor ? data.layout.padEnd : data.layout.cellsEnd
+// what the ports hold: of each its place and how many bytes
+const LATCHES = new Map(Object.entries(data.layout.latches))
+const FIRST_LATCH = Math.min(...[...LATCHES.values()].map(([at]) => at))
 
 // an instruction of the processor comes with the workspace pointer and the status before it
 const steps = ofProcessor
   ? data.steps.map(([at, text, wp, st, ...changes]) => ({at, text: data.texts[text], wp, st, changes}))
   : data.steps.map(([at, text, ...changes]) => ({at, text: data.texts[text], changes}))
+// how many steps come before the first that the page has; the numbers of steps that are shown count them
+const first = data.from
 const last = steps.length
 // what comes after so many steps: the next address, and of the processor its workspace pointer and status
 const nextAt = number => number < last ? steps[number] : data.last
@@ -21,13 +27,13 @@ const nextAddress = number => nextAt(number).at
 // words: then an address has several texts, and is shown with the one of its moment.
 const lines = data.lines.length
   ? data.lines.map(([text, at, bytes, name], index) =>
-    ({text, at, bytes, size: bytes.length / 2, name: name ?? String(index + 1)}))
+    ({text, at, bytes, size: bytes.length / 2, name: name ?? String(index + 1), isCode: data.code[index] === '1'}))
   : [...new Map(steps.map(step => [step.at, step.text]))].sort((a, b) => a[0] - b[0])
-    .map(([at, text]) => ({text, at, bytes: '', size: 1, name: '·'}))
+    .map(([at, text]) => ({text, at, bytes: '', size: 1, name: '·', isCode: true}))
 const hasSource = data.lines.length > 0
 
 // the line whose bytes are at an address, or -1
-const lineOf = new Int32Array(0x10000).fill(-1)
+const lineOf = new Int32Array(MEMORY_SIZE).fill(-1)
 lines.forEach((line, index) => { if (line.size) lineOf.fill(index, line.at, line.at + line.size) })
 
 const stepsOfLines = new Map()
@@ -43,14 +49,8 @@ function textOfLine(index, number) {
   return hasSource ? line.text : steps[(numbers.findLast(it => it <= number) ?? numbers[0]) - 1].text
 }
 
-// The places of words that instructions of GPL name: operands of an operation of words, indexes and pointers.
-const wordStarts = new Set()
-if (!ofProcessor)
-  for (const text of data.texts) {
-    const ofWords = /^D(?!ECT? |IV )/.test(text) ? text.matchAll(/[ ,](V?)@>([0-9A-F]{4})(?!\()/g) : []
-    for (const [, space, at] of [...ofWords, ...text.matchAll(/(?<=(\(@|\*))>([0-9A-F]{4})/g)])
-      wordStarts.add(parseInt(at, 16) + (space === 'V' ? VIDEO : 0))
-  }
+// the places of words that instructions of GPL name
+const wordStarts = new Set(data.words)
 
 // whether the two bytes from a place on are a word: both in the cells, or in one other part of the memory
 const isWhole = at => at < REGISTERS - 1 && at !== VIDEO - 1 && at !== CELLS_END - 1
@@ -84,6 +84,10 @@ function memoryAt(number) {
 
 // the steps that change one of some bytes
 function stepsThatChange(at, width) {
-  const is = change => covers(change, at) || (width > 1 && covers(change, at + 1))
+  const is = change => change[0] < at + width && at < change[0] + lengthOf(change)
   return steps.flatMap((step, index) => step.changes.some(is) ? [index + 1] : [])
 }
+
+// whether a step changes a byte from a place on and before another one
+const isTouched = (from, to) => steps.some(step => step.changes.some(change =>
+  change[0] < to && from < change[0] + lengthOf(change)))

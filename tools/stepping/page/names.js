@@ -4,6 +4,11 @@ const find = id => document.getElementById(id)
 const hex = (value, digits = 4) => '>' + value.toString(16).toUpperCase().padStart(digits, '0')
 const byte = value => hex(value, 2).slice(1)
 const character = value => value >= 32 && value < 127 ? String.fromCharCode(value) : '.'
+// a number of steps as it is shown: those before the first of the page count too
+const shownNumber = number => first + number
+const NUMBERS = new Intl.NumberFormat('en')
+const grouped = count => NUMBERS.format(count)
+const counted = (count, what = 'step') => `${grouped(count)} ${what}${count === 1 ? '' : 's'}`
 
 function make(tag, text, set = {}) {
   const element = Object.assign(document.createElement(tag), set)
@@ -12,20 +17,23 @@ function make(tag, text, set = {}) {
 }
 
 // what the cells are for that GPL itself uses
-const MEANINGS = new Map(ofProcessor ? [] : [[DATA_STACK, 'data stack'], [RETURN_STACK, 'return stack'], [0x8378, 'random number'],
-  [STATUS, 'status'], [0x837D, 'character'], [0x837E, 'its row'], [0x837F, 'its column'],
-  [0x83C0, 'random seed'], [0x83C1, 'random seed']])
+const MEANINGS = new Map(ofProcessor ? [] : [[DATA_STACK, 'data stack'], [RETURN_STACK, 'return stack'],
+  [CELLS + 0x78, 'random number'], [STATUS, 'status'], [CELLS + 0x7D, 'character'], [CELLS + 0x7E, 'its row'],
+  [CELLS + 0x7F, 'its column'], [CELLS + 0xC0, 'random seed'], [CELLS + 0xC1, 'random seed']])
 
 const namesOf = new Map()
-for (const [name, value] of data.names) namesOf.set(value, [...new Set([...namesOf.get(value) ?? [], name])])
+const addName = (name, at) => namesOf.set(at, [...new Set([...namesOf.get(at) ?? [], name])])
+for (const [name, value] of data.names) addName(name, value)
+for (const [name, at] of data.places) addName(name, at)
 
-// what the ports hold, by the offsets of their bytes
-const LATCH_NAMES = ['video address', 'its low byte', 'video byte fetched', 'video byte held', 'the byte', 'GROM address',
-  'its low byte', 'GROM byte fetched', 'GROM half written']
+const LATCH_TEXTS = {VA: ['video address', 'its low byte'], VF: ['video byte fetched'],
+  VH: ['video byte held', 'the byte'], GA: ['GROM address', 'its low byte'], GF: ['GROM byte fetched'],
+  GH: ['GROM half written']}
+const latchNames = new Map([...LATCHES].flatMap(([name, [at]]) => LATCH_TEXTS[name].map((text, i) => [at + i, text])))
 
 // a place without its names: >8302, V>0021 or a register of the video processor
 function bare(at) {
-  return at >= LATCHES ? LATCH_NAMES[at - LATCHES] : at >= REGISTERS ? `VR${at - REGISTERS}`
+  return at >= FIRST_LATCH ? latchNames.get(at) : at >= REGISTERS ? `VR${at - REGISTERS}`
     : at >= VIDEO ? 'V' + hex(at - VIDEO) : hex(at)
 }
 
@@ -35,11 +43,11 @@ function registerName(at, wp) {
   return offset >= 0 && offset < 32 ? [`R${offset >> 1}`] : []
 }
 
-const placeName = at =>
-  [...(at < VIDEO ? namesOf.get(at) ?? [] : []), ...registerName(at, nextAt(now).wp), bare(at)].join(' ')
+const placeName = at => [...namesOf.get(at) ?? [], ...registerName(at, nextAt(now).wp), bare(at)].join(' ')
 
+// the line that has an address, as it is called
+const lineName = at => lineOf[at] < 0 || !hasSource ? '' : `line ${lines[lineOf[at]].name}`
 // an address of GROM with its labels and its line
-function codeName(at) {
-  const line = lineOf[at] < 0 || !hasSource ? '' : `line ${lines[lineOf[at]].name}`
-  return [hex(at), ...(namesOf.get(at) ?? []), line].filter(Boolean).join(' ')
-}
+const codeName = at => [hex(at), ...(namesOf.get(at) ?? []), lineName(at)].filter(Boolean).join(' ')
+// the name of a routine
+const routineName = at => (namesOf.get(at) ?? [])[0] ?? hex(at)

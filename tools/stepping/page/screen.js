@@ -25,9 +25,22 @@ function lacksPatterns() {
   return codes.length > 1 && !codes.some(hasPattern)
 }
 
-views.push(() => {
+// The characters whose patterns are empty, by the browser's own letters: in the colours of their groups.
+function drawLetters(context, names, patterns, colours) {
+  context.font = '8px ui-monospace, monospace'
+  context.textBaseline = 'top'
+  for (let i = 0; i < 768; i++) {
+    const code = video(names + i), colour = video(colours + (code >> 3)) >> 4
+    const isEmpty = Array.from({length: 8}, (_, line) => video(patterns + 8 * code + line)).every(it => !it)
+    if (code <= 32 || code > 126 || !isEmpty) continue
+    context.fillStyle = `rgb(${(colour ? COLOURS[colour] : [128, 128, 128]).join()})`
+    context.fillText(String.fromCharCode(code), 8 * (i % 32) + 1, 8 * (i >> 5))
+  }
+}
+
+function drawPicture() {
   const names = tableAt(2), colours = tableAt(3), patterns = tableAt(4), backdrop = register(7) % 16
-  const isOn = register(1) & 0x40 && modeName() === 'graphics mode I'
+  const isOn = register(1) & 0x40 && modeName() === 'graphics mode I', context = find('picture').getContext('2d')
   const picture = new ImageData(256, 192), points = new Uint32Array(picture.data.buffer)
   for (let y = 0, point = 0; y < 192; y++)
     for (let x = 0; x < 256; x += 8) {
@@ -36,11 +49,14 @@ views.push(() => {
       for (let bit = 7; bit >= 0; bit--)
         points[point++] = POINTS[(!isOn ? 0 : line >> bit & 1 ? pair >> 4 : pair & 15) || backdrop]
     }
-  find('picture').getContext('2d').putImageData(picture, 0, 0)
-  const without = lacksPatterns() ? ': no patterns are loaded for the characters shown, so there are colours alone' : ''
+  context.putImageData(picture, 0, 0)
+  const isEmpty = isOn && lacksPatterns()
+  if (isOn && find('font').checked) drawLetters(context, names, patterns, colours)
+  const without = isEmpty ? ': no patterns are loaded for the characters shown, so there are colours alone; a console ' +
+    'has its own characters, and a stand-in font can be drawn' : ''
   const more = isOn ? without : ': no picture is drawn'
   find('mode').textContent = register(1) & 0x40 ? modeName() + more : 'The picture is off (register 1).'
-})
+}
 
 function textRow(from, columns) {
   const parts = []
@@ -55,24 +71,13 @@ function textRow(from, columns) {
   return [...parts, plain + '\n'].filter(part => part !== '')
 }
 
-views.push(() => {
+function drawText() {
   const columns = modeName() === 'text mode' ? 40 : 32, names = tableAt(2)
   find('text').replaceChildren(...Array.from({length: 24}, (_, row) => textRow(names + columns * row, columns)).flat())
-})
-
-function registerTexts() {
-  const one = register(1), seven = register(7)
-  const flags = [one & 0x40 ? 'picture on' : 'picture off', one & 0x20 ? 'interrupt' : '',
-    one & 2 ? 'large sprites' : '', one & 1 ? 'magnified' : '']
-  return [modeName(), flags.filter(Boolean).join(', '),
-    `screen at ${hex(tableAt(2))}`, `colours at ${hex(tableAt(3))}`, `patterns at ${hex(tableAt(4))}`,
-    `sprites at ${hex(tableAt(5))}`, `sprite patterns at ${hex(tableAt(6))}`,
-    `text colour ${seven >> 4}, backdrop ${seven & 15}`]
 }
 
-views.push(() => find('registers').replaceChildren(...registerTexts().map((text, number) => {
-  const row = make('tr', undefined, {onclick: () => choose(REGISTERS + number)})
-  row.append(make('th', `VR${number}`), make('td', hex(register(number), 2),
-    {className: changed.has(REGISTERS + number) ? 'changed' : ''}), make('td', text))
-  return row
-})))
+find('font').onchange = drawPicture
+whenOpen('screen-part', () => {
+  drawPicture()
+  drawText()
+})

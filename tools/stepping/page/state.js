@@ -1,5 +1,6 @@
 // The status; of GPL both stacks, and the cells by their names; of the processor its registers.
 
+const FIRST_DATA = 0x9F, FIRST_RETURN = 0x7E
 // GPL Programmer's Guide, "Status byte"; TMS9900 data manual, "Status register"
 const BITS = ofProcessor ? [[0x8000, 'L>'], [0x4000, 'A>'], [0x2000, 'EQ'], [0x1000, 'C'], [0x0800, 'OV'],
   [0x0400, 'OP'], [0x0200, 'X']] : [[0x80, 'H'], [0x40, 'GT'], [0x20, 'COND'], [0x10, 'CARRY'], [0x08, 'OVF']]
@@ -18,8 +19,8 @@ views.push(() => {
 function stack(title, pointer, first, width, textAt) {
   const top = memory[pointer], list = make('ol')
   for (let offset = top; offset > first && CELLS + offset + width <= CELLS_END; offset -= width) {
-    const at = CELLS + offset, isChanged = changed.has(at) || (width > 1 && changed.has(at + 1))
-    list.append(make('li', textAt(at), {className: isChanged ? 'changed' : ''}))
+    const at = CELLS + offset, isNew = changed.has(at) || (width > 1 && changed.has(at + 1))
+    list.append(make('li', textAt(at), {className: isNew ? 'changed' : ''}))
   }
   if (!list.children.length) list.append(make('li', top === first ? 'empty' : 'below its beginning'))
   const part = make('div')
@@ -32,43 +33,82 @@ const drawStacks = () => find('stacks').replaceChildren(
   stack('Return addresses', RETURN_STACK, FIRST_RETURN, 2,
     at => `${hex(at)} ${codeName(memory[at] << 8 | memory[at + 1])}`))
 
-const wordAt = (held, at) => held[at % 0x10000] << 8 | held[(at + 1) % 0x10000]
+const wordAt = (held, at) => held[at % MEMORY_SIZE] << 8 | held[(at + 1) % MEMORY_SIZE]
+
+// The table of the workspace, made once, and what its buttons choose.
+const registerTable = make('table')
+registerTable.append(make('caption', 'Registers of the workspace', {className: 'unseen'}))
+for (let line = 0; ofProcessor && line < 4; line++) {
+  const row = make('tr')
+  for (let number = line; number < 16; number += 4) {
+    const cell = make('td'), button = make('button', '', {title: `Choose R${number}`})
+    button.onclick = () => choose((nextAt(now).wp + 2 * number) % MEMORY_SIZE, 2)
+    button.dataset.number = number
+    cell.append(button)
+    row.append(make('th', `R${number}`), cell)
+  }
+  registerTable.append(row)
+}
+if (ofProcessor) {
+  find('stacks').append(registerTable, make('div', '', {className: 'own'}))
+  oneStop(registerTable)
+}
 
 // The processor's own registers, those of the workspace, and what the ports hold.
 function drawProcessor() {
-  const {at: pc, wp} = nextAt(now), {wp: old} = nextAt(Math.max(0, now - 1)), table = make('table')
-  for (let first = 0; first < 4; first++) {
-    const row = make('tr')
-    for (let number = first; number < 16; number += 4) {
-      const value = wordAt(memory, wp + 2 * number), isChanged = value !== wordAt(before, old + 2 * number)
-      const at = (wp + 2 * number) % 0x10000, cell = make('td', undefined, {className: isChanged ? 'changed' : ''})
-      cell.append(make('button', hex(value), {title: `Choose R${number}`, onclick: () => choose(at, 2)}))
-      row.append(make('th', `R${number}`), cell)
-    }
-    table.append(row)
+  const {at: pc, wp} = nextAt(now), {wp: old} = nextAt(Math.max(0, now - 1))
+  for (const button of registerTable.querySelectorAll('button')) {
+    const number = +button.dataset.number, value = wordAt(memory, wp + 2 * number)
+    button.textContent = hex(value)
+    button.parentElement.className = value === wordAt(before, old + 2 * number) ? '' : 'changed'
   }
-  const latch = offset => memory[LATCHES + offset] << 8 | memory[LATCHES + offset + 1]
-  const texts = [`PC ${hex(pc)}`, `WP ${hex(wp)}`, `video address ${hex(latch(0))}`, `GROM address ${hex(latch(5))}`]
-  find('stacks').replaceChildren(table, make('div', texts.join('\n'), {className: 'own'}))
+  const latch = name => memory[LATCHES.get(name)[0]] << 8 | memory[LATCHES.get(name)[0] + 1]
+  find('stacks').lastChild.textContent = [`PC ${hex(pc)}`, `WP ${hex(wp)}`, `video address ${hex(latch('VA'))}`,
+    `GROM address ${hex(latch('GA'))}`].join('\n')
 }
 
 views.push(ofProcessor ? drawProcessor : drawStacks)
 
-function namedRow(name, at) {
-  const row = make('tr', undefined, {onclick: () => choose(at)}), cell = make('td')
-  cell.append(make('button', name, {title: `Choose ${hex(at)}`}))
-  const width = wordStarts.has(at) && isWhole(at) ? 2 : 1
-  const isChanged = changed.has(at) || (width > 1 && changed.has(at + 1))
-  row.append(cell, make('td', hex(at)),
-    make('td', valueText(memory, {at, width}), {className: isChanged ? 'changed' : ''}))
-  return row
+const SHOWN = 16
+
+// The bytes of a place with a name: a byte or a word with its number, or the first bytes of a longer part.
+function partText(held, at, size) {
+  if (size <= 2) {
+    const value = numberAt(held, at, size)
+    return `${hex(value, 2 * size).slice(1)} ${value}`
+  }
+  const shown = Array.from({length: Math.min(size, SHOWN)}, (_, i) => byte(held[moved(at, i)])).join(' ')
+  return size > SHOWN ? `${shown} …` : shown
 }
 
-find('names').hidden = ofProcessor
+// Rows are made once; what stays as it is costs the browser nothing.
+const namedRows = [...data.places.map(([name, at, size]) => ({name, at, size, isOwn: false})),
+  ...[...MEANINGS].slice(0, 8).map(([at, name]) => ({name, at, size: 1, isOwn: true}))]
 
-const cellNames = data.names.filter(([, value]) => value >= CELLS && value < CELLS_END).sort((a, b) => a[1] - b[1])
+function makeNamedRow(it) {
+  it.row = make('tr', undefined, {className: it.isOwn ? 'own' : ''})
+  const cell = make('td'), button = make('button', it.name, {title: `Choose ${bare(it.at)}`})
+  button.onclick = () => choose(it.at, it.size)
+  cell.append(button)
+  it.value = make('td')
+  it.row.append(cell, make('td', bare(it.at)), make('td', it.size > 1 ? `${it.size}` : ''), it.value)
+  return it.row
+}
 
-views.push(() => {
-  find('named').replaceChildren(...cellNames.map(([name, value]) => namedRow(name, value)))
-  find('meanings').replaceChildren(...[...MEANINGS].slice(0, 8).map(([at, name]) => namedRow(name, at)))
-})
+find('named').append(...namedRows.map(makeNamedRow))
+oneStop(find('named'))
+find('names').hidden = !namedRows.length
+
+// Draws a row anew, unless it has what it had.
+function drawNamed(it) {
+  const isNew = isChanged(it.at, it.size), isIt = choice.at === it.at && choice.width === it.size
+  const text = it.size > 2 ? partText(memory, it.at, it.size) : numberAt(memory, it.at, it.size)
+  if (text === it.text && !isNew && !it.isNew && isIt === it.isIt) return
+  Object.assign(it, {text, isNew, isIt})
+  it.value.textContent = partText(memory, it.at, it.size)
+  it.value.title = isNew ? `was ${partText(before, it.at, it.size)}` : ''
+  it.value.className = isNew ? 'changed' : ''
+  it.row.classList.toggle('chosen', isIt)
+}
+
+views.push(() => namedRows.forEach(drawNamed))

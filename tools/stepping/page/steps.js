@@ -4,15 +4,20 @@
 function unitOf(at, wp) {
   const register = registerName(at, wp)
   if (register.length) return {at: at - (at - wp) % 2, width: 2, name: register[0]}
-  if (at >= LATCHES) {
-    const word = [0, 5].map(offset => LATCHES + offset).find(start => at === start || at === start + 1)
-    return {at: word ?? at, width: word === undefined ? 1 : 2, name: bare(word ?? at)}
+  if (at >= FIRST_LATCH) {
+    const word = [...LATCHES].find(([name, [start, size]]) => size === 2 && name !== 'VH' && at >= start && at < start + 2)
+    return {at: word ? word[1][0] : at, width: word ? 2 : 1, name: bare(word ? word[1][0] : at)}
   }
-  const start = wordStarts.has(at - 1) ? at - 1 : at
-  return {at: start, width: wordStarts.has(start) && isWhole(start) ? 2 : 1, name: placeName(start)}
+  const even = ofProcessor && at < VIDEO ? at & ~1 : at, start = wordStarts.has(at - 1) ? at - 1 : even
+  const isWord = ofProcessor ? at < VIDEO && worksOnWords() : wordStarts.has(start)
+  const from = isWord ? start : at
+  return {at: from, width: isWord && isWhole(from) ? 2 : 1, name: placeName(from)}
 }
 
-const valueText = (held, {at, width}) => width > 1 ? hex(held[at] << 8 | held[at + 1]).slice(1) : byte(held[at])
+// whether the instruction of the step works on words
+const worksOnWords = () => !/^(AB|CB|MOVB|SB|SOCB|SZCB) /.test(steps[now - 1]?.text ?? '')
+
+const valueText = (held, {at, width}) => width === 2 ? hex(held[at] << 8 | held[at + 1]).slice(1) : byte(held[at])
 
 // what changed, each word once
 function changeTexts(changes, wp) {
@@ -41,23 +46,42 @@ function nextText() {
 }
 
 views.push(() => {
-  find('slider').value = find('number').value = now
-  find('slider').ariaValueText = `step ${now} of ${last}`
+  find('slider').value = now
+  find('number').value = shownNumber(now)
+  find('slider').ariaValueText = `step ${shownNumber(now)} of ${shownNumber(last)}`
   const made = find('made'), step = steps[now - 1]
   made.replaceChildren()
   if (step)
-    made.append(`${now}: `, make('b', step.text), ` at ${codeName(step.at)}`, changesText(step))
-  else made.append('Before the first step.')
+    made.append(`${shownNumber(now)}: `, make('b', step.text), ` at ${codeName(step.at)}`, changesText(step),
+      comparedText())
+  else made.append(first ? `The state after ${counted(first)}.` : 'Before the first step.')
   made.append(make('span', nextText(), {className: 'next'}))
 })
 
+const ROUND = 6
+const stepList = find('steps')
+for (let i = 0; i < ROUND; i++) {
+  const item = make('li'), button = make('button')
+  item.append(button, make('span'), make('i'))
+  item.onclick = () => go(+button.dataset.number)
+  stepList.append(item)
+}
+oneStop(stepList)
+
 views.push(() => {
-  const from = Math.max(0, Math.min(now - 4, last - 8))
-  find('steps').replaceChildren(...steps.slice(from, from + 8).map((step, i) => {
-    const number = from + i + 1, line = lineOf[step.at]
-    const item = make('li', undefined, {className: number === now ? 'made' : '', onclick: () => go(number)})
-    item.append(make('button', String(number).padStart(6), {ariaLabel: `Step ${number}`}),
-      `${hex(step.at)} ${step.text.padEnd(26)}`, make('i', line < 0 || !hasSource ? '' : `  ${lines[line].text.trim()}`))
-    return item
-  }))
+  const from = Math.max(0, Math.min(now - 3, last - ROUND))
+  ;[...stepList.children].forEach((item, i) => {
+    const number = from + i + 1, step = steps[number - 1], [button, text, source] = item.children
+    item.hidden = !step
+    if (!step) return
+    const line = lineOf[step.at]
+    item.className = number === now ? 'made' : ''
+    button.dataset.number = number
+    button.textContent = String(shownNumber(number)).padStart(6)
+    button.ariaLabel = `Step ${shownNumber(number)}`
+    text.textContent = ` ${hex(step.at)} ${step.text.padEnd(26)}`
+    source.textContent = line < 0 || !hasSource ? '' : `  ${lines[line].text.trim()}`
+  })
+  if (!stepList.contains(document.activeElement))
+    setStop(stepList, stepList.children[Math.max(0, Math.min(ROUND - 1, now - from - 1))].firstChild)
 })

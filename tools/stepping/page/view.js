@@ -20,9 +20,14 @@ function go(number) {
 
 const isChosen = at => choice.at >= 0 && at >= choice.at && at < choice.at + choice.width
 
+function isChanged(at, width) {
+  for (let i = at; i < at + width; i++) if (changed.has(i)) return true
+  return false
+}
+
 function setChoice(at, width) {
   choice.at = at
-  choice.width = isWhole(at) ? width : 1
+  choice.width = width > 2 || isWhole(at) ? width : 1
   choice.steps = at < 0 ? [] : stepsThatChange(at, choice.width)
 }
 
@@ -38,12 +43,8 @@ function choose(at, width) {
   go(now)
 }
 
-function goToChange(forward) {
-  const to = forward ? choice.steps.find(number => number > now) : choice.steps.findLast(number => number < now)
-  if (to !== undefined) go(to)
-}
-
-// The step and the choice are in the address of the page, as #step=12&at=8302 or #step=12&at=V0021&word.
+// The step, the choice, the condition and what is watched are in the address of the page, as #step=12&at=8302 or
+// #step=12&at=V0021&word or #step=12&where=P%3A2%3E5&watch=P.
 const placeWord = at => bare(at).replace('>', '')
 
 function placeOf(word) {
@@ -55,15 +56,39 @@ function placeOf(word) {
   return ofProcessor || (at >= CELLS && at < CELLS_END) ? at : -1
 }
 
+// Browsers take no more than some 200 addresses in 10 seconds: the last one of a row of steps is written.
+const FRAGMENT_REST = 70
+let fragmentTimer = 0, fragmentWritten = 0, fragment = location.hash
+
 function writeFragment() {
-  const at = choice.at < 0 ? '' : `&at=${placeWord(choice.at)}${choice.width > 1 ? '&word' : ''}`
-  try { history.replaceState(null, '', `#step=${now}${at}`) } catch { /* some browsers do not allow it for a file */ }
+  clearTimeout(fragmentTimer)
+  const rest = fragmentWritten + FRAGMENT_REST - Date.now()
+  if (rest > 0) fragmentTimer = setTimeout(placeFragment, rest)
+  else placeFragment()
+}
+
+function placeFragment() {
+  // an address that was changed by hand is read first
+  if (location.hash !== fragment) return
+  fragmentWritten = Date.now()
+  const at = choice.at < 0 || choice.at >= FIRST_LATCH ? ''
+    : `&at=${placeWord(choice.at)}${choice.width === 2 ? '&word' : choice.width > 2 ? `&size=${choice.width}` : ''}`
+  const more = [['where', asked.text], ...watched.map(it => ['watch', it.text])]
+    .map(([name, text]) => text ? `&${name}=${encodeURIComponent(text)}` : '').join('')
+  try {
+    history.replaceState(null, '', `#step=${shownNumber(now)}${at}${more}`)
+    fragment = location.hash
+  } catch { /* some browsers do not allow it for a file */ }
 }
 
 function readFragment() {
+  fragment = location.hash
   const given = new URLSearchParams(location.hash.slice(1))
-  const at = placeOf(given.get('at') ?? '')
-  if (at >= 0) setChoice(at, given.has('word') ? 2 : 1)
-  const number = given.get('step') ?? ''
-  go(/^[0-9]+$/.test(number) ? +number : now)
+  const at = placeOf(given.get('at') ?? ''), size = /^[1-9][0-9]{0,4}$/.exec(given.get('size') ?? '')
+  const room = at >= REGISTERS ? 1 : at >= VIDEO ? REGISTERS - at : CELLS_END > at ? CELLS_END - at : VIDEO - at
+  if (at >= 0) setChoice(at, given.has('word') ? 2 : size ? Math.min(+size[0], room) : 1)
+  if (given.has('where') || data.where) ask(given.get('where') ?? data.where)
+  for (const text of given.getAll('watch')) watch(text)
+  const number = given.get('step') ?? String(data.at ?? '')
+  go(/^[0-9]+$/.test(number) ? +number - first : now)
 }
