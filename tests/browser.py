@@ -40,7 +40,7 @@ class Browser:
         self.session = None
         target = next(it for it in self.ask('Target.getTargets')['targetInfos'] if it['type'] == 'page')
         self.session = self.ask('Target.attachToTarget', targetId=target['targetId'], flatten=True)['sessionId']
-        for domain in ('Page', 'Runtime', 'Log', 'Network'):
+        for domain in ('Page', 'Runtime', 'Log', 'Network', 'Performance'):
             self.ask(f'{domain}.enable')
         if dark:
             self.ask('Emulation.setEmulatedMedia', features=[{'name': 'prefers-color-scheme', 'value': 'dark'}])
@@ -111,6 +111,11 @@ class Browser:
         if 'exceptionDetails' in result:
             raise Failed(result['exceptionDetails'].get('exception', {}).get('description', script))
         return result['result'].get('value')
+
+    def processor_time(self):
+        """The seconds of processor that the page's thread has taken, whatever else the machine does."""
+        found = self.ask('Performance.getMetrics')['metrics']
+        return next(it['value'] for it in found if it['name'] == 'ThreadTime')
 
     def key(self, key, text='', shift=False):
         """Presses a key, with the text that it types."""

@@ -7,8 +7,9 @@ import shlex
 
 LARGEST = 1_048_576
 MOST = {'exec': 10_000_000, 'run': 100_000, 'trace': 100_000, 'watch': 100_000, 'demo': 500}
-# the command of ti_debug that reads what a command of ti_bench reads
-DEBUGGED = {b'asm': b'list', b'gasm': b'glist', b'exec': b'steps', b'run': b'gsteps', b'trace': b'gsteps'}
+# the commands of ti_debug that read what a command of ti_bench reads
+DEBUGGED = {b'asm': [b'list'], b'gasm': [b'glist'], b'exec': [b'steps'], b'run': [b'grun'],
+            b'trace': [b'gsteps', b'gcounts']}
 READERS = ['asm', 'dis', 'exec', 'gasm', 'gdis', 'link', 'run', 'trace', 'watch']
 
 
@@ -39,7 +40,7 @@ def load_examples():
     folder = pathlib.Path(__file__).resolve().parent.parent / 'examples'
     found = [(words.read_bytes().split(), words.with_name('input'))
              for words in sorted(folder.glob('*/words'))]
-    return [(words, data) for words, path in found if words[0] not in DEBUGGED.values() and path.exists()
+    return [(words, data) for words, path in found if words[0] not in sum(DEBUGGED.values(), []) and path.exists()
             and (data := path.read_bytes())]
 
 
@@ -314,6 +315,9 @@ def steps_limit(rng):
         limit = rng.choice((0, 9_999_999, 10_000_000, 10_000_001))
         return Run([b'exec', b'%d' % limit], b'00002        A0000B10FF20000F\n:\n')
     data = rng.choice((b'S EXIT\n END S\n', b'S BYTE >0F\n END S\n', b'S ALL 1\n EXIT\n END S\n'))
+    if rng.random() < 0.3:
+        limit = 10_000_000 + rng.choice((-1, 0, 1))
+        return Run([rng.choice((b'grun', b'gsteps', b'gcounts')), b'%d' % limit], data, program='ti_debug')
     command = rng.choice(('run', 'trace', 'watch', 'demo'))
     items = [rng.choice(ITEMS)] if command == 'watch' else []
     return Run([command.encode(), b'%d' % (MOST[command] + rng.choice((-1, 0, 1))), *items], data)
@@ -387,7 +391,8 @@ WORDS = [b'asm', b'link', b'dis', b'gdis', b'exec', b'gasm', b'interp', b'run', 
          b'vdp:0000+16385', b'vdp:0+1', b'pc:6000', b'pc:60', b'pc:>6000', b'pc:6000+1', b'ONE', b'.ONE', b'ONE/',
          b'5', b'007', b'-1', b'A000', b'a001', b'A00', b'A0000', b'>A000', b'100000', b'100001', b'10000000',
          b'10000001', b'500', b'501', b'--help', b'--version', b'-h', b'--', b'ASM', b'\xff\xfe', b'\xc3\xa9',
-         b'9' * 20, b'+1', b'glist', b'list', b'gsteps', b'steps', b' 1', b'1 ', b'0x10', b'?', b'asm\n', b'1e3']
+         b'9' * 20, b'+1', b'glist', b'list', b'grun', b'gsteps', b'gcounts', b'steps', b' 1', b'1 ', b'0x10', b'?',
+         b'asm\n', b'1e3']
 
 
 def words(rng, turn):
@@ -397,7 +402,9 @@ def words(rng, turn):
         chosen.append(bytes(rng.choices(range(1, 256), k=rng.choice((1, 10, 1000, 100_000)))))
     if rng.random() < 0.03:
         chosen = [b'word'] * 5000
-    return Run(chosen, rng.choice(EXAMPLES)[1] if rng.random() < 0.5 else b'')
+    # ten million steps of GPL that do not end take longer than a run may
+    is_long = b'10000000' in chosen
+    return Run(chosen, rng.choice(EXAMPLES)[1] if rng.random() < 0.5 and not is_long else b'')
 
 
 def unread(rng):
@@ -427,11 +434,11 @@ WEIGHTS = {noise: 8, prefixes: 1, mutations: 4, sources: 2, codes: 2, objects: 1
 KINDS = [(kind, part, weight) for kind, weight in WEIGHTS.items() for part in range(weight)]
 
 
-def debugged(run, is_any):
-    """The run with the command of ti_debug that reads the same; with any words, if it is for them."""
-    name = run.words[0] if run.words else b''
-    if name in DEBUGGED:
-        return dataclasses.replace(run, words=[DEBUGGED[name], *run.words[1:]], program='ti_debug')
+def debugged(run, turn, is_any):
+    """The run with a command of ti_debug that reads the same, by turns; with any words, if it is for them."""
+    names = DEBUGGED.get(run.words[0] if run.words else b'')
+    if names:
+        return dataclasses.replace(run, words=[names[turn % len(names)], *run.words[1:]], program='ti_debug')
     return dataclasses.replace(run, program='ti_debug') if is_any else run
 
 
@@ -440,4 +447,4 @@ def run_of(seed, number):
     kind, part, weight = KINDS[number % len(KINDS)]
     turn = number // len(KINDS)
     run = kind(random.Random(f'{seed} {number}'), turn * weight + part)
-    return kind.__name__, debugged(run, kind is words) if turn % 4 == 3 else run
+    return kind.__name__, debugged(run, turn // 4, kind is words) if turn % 4 == 3 else run

@@ -62,8 +62,9 @@ class Cut(Calling):
         times = iter(number * seconds_a_line for number in range(1000))
         with mock.patch.object(clock.time, 'monotonic', lambda: next(times)), \
                 mock.patch.object(reports, 'MOST_BYTES', most or reports.MOST_BYTES):
-            steps, rest, cut = reports.steps_of(io.BytesIO(b''.join(lines)), run.step_of, clock.Clock(seconds))
-        return len(steps), rest, cut
+            kept = reports.Whole()
+            rest, cut = reports.steps_of(io.BytesIO(b''.join(lines)), run.step_of, clock.Clock(seconds), kept)
+        return kept.count, rest, cut
 
     def test_the_last_steps_are_left_out_after_half_of_the_seconds_that_are_given(self):
         lines = [b'%6d >6000 S00 D9F R7E INC @>8300 >8300=%02X\n' % (number, number) for number in range(1, 100)]

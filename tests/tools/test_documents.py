@@ -42,7 +42,9 @@ class Documents(Calling):
     def test_what_a_command_writes_is_written(self):
         self.file('page.md', DOCUMENT.encode())
         ended = self.documents('--write')
-        self.assertEqual((ended.returncode, ended.stdout), (0, b'3 commands, 0 bad\n'))
+        said = [b'written anew: page.md: $ echo one; echo two', b'written anew: page.md: $ cat kept; seq 9; echo end',
+                b'3 commands, 0 bad']
+        self.assertEqual((ended.returncode, ended.stdout.splitlines()), (0, said))
         wanted = DOCUMENT.replace('    2\n', '    two\n').replace('the end', 'end')
         self.assertEqual((self.folder / 'page.md').read_text(), wanted)
         self.assertEqual(self.documents().returncode, 0)
@@ -80,6 +82,9 @@ class Examples(Calling):
         self.assertEqual((kept['refused'], kept['wrong'], kept['good']), (b'old', kept['good'],
                                                                          bytes.fromhex('BE 00 05 0B')))
         self.assertEqual(self.examples()[1][2], 'example wrong: as expected')
+        (self.folder / 'mine/refused/words').unlink()
+        (self.folder / 'mine/good/expected').write_bytes(b'x')
+        self.assertEqual(self.examples('--write')[:2], (0, ['example good: written anew', 'example wrong: as expected']))
 
 
 if __name__ == '__main__':

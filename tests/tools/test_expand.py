@@ -11,6 +11,7 @@ from editing.names import gpl
 from expanding import names as known
 from expanding.expand import expanded, has_forms
 from expanding.expression import REGISTERS, Unvalued, value
+from expanding.lines import parts_of
 from expanding.places import Refused
 from lib.languages import GPL
 from lib.program import Program
@@ -29,6 +30,16 @@ UP_TO_END = re.compile(r'(?:(?![^\s*]*[ \t]+END\b).*\n)*(?:.*\n)?')
 
 def bench():
     return Program(os.environ['TI_BENCH'])
+
+
+def least_time(work):
+    """The least time of the processor in which some work is done."""
+    taken = []
+    for _ in range(5):
+        begin = time.process_time()
+        work()
+        taken.append(time.process_time() - begin)
+    return min(taken)
 
 
 def sources():
@@ -400,19 +411,16 @@ class Command(Expanding):
                          (3, b'tools/expand: standard output: No space left on device\n'))
 
     def test_twenty_thousand_lines_take_little_time(self):
-        """A fast machine takes a third of these seconds."""
+        """Beside the time in which the machine, as busy as it is, cuts 100,000 lines into their parts, some 0.2 s on a
+        fast one."""
+        cut = least_time(lambda: [parts_of('L00001 ST   @>8300,>05   a comment') for _ in range(100_000)])
         plain = b''.join(b'L%05d ST   @>8300,>05   a comment\n       DADD @>8302,V@>0100(@>8304)\n* more. of it\n'
                          b'       BR   $\n' % number for number in range(5000))
         macro = b'M      MACRO CELL,TO\n.loop  DEC  \\CELL\n       BR   .loop\n       BR   \\TO\n       ENDM\n'
         dense = macro + b''.join(
             b'L%05d ST   @>8300,>05   a comment\n.loop  DADD @>8302,V@>0100(@>8304)   more\n       M    @>8300,.loop\n'
             b'       BR   .loop\n' % number for number in range(2857))
-        for source, seconds, lines in ((plain, 0.3, 20_000), (dense, 0.6, 19_999)):
-            taken = []
-            for _ in range(5):
-                begin = time.process_time()
-                made = self.expand(source)
-                taken.append(time.process_time() - begin)
-            self.assertEqual(made.text.count(b'\n'), lines)
-            self.assertLess(min(taken), seconds)
+        for source, most, lines in ((plain, 0.8, 20_000), (dense, 2.5, 19_999)):
+            self.assertEqual(self.expand(source).text.count(b'\n'), lines)
+            self.assertLess(least_time(lambda: self.expand(source)), most * cut)
         self.assertEqual(self.expand(plain).text, plain)

@@ -214,6 +214,14 @@ class Usage(WithProgram):
             self.assertEqual((status == 2, [line for line in lines if ': the input' in line]), (is_refused, []), words)
             self.assertEqual(len([line for line in lines if line.endswith(' says more')]), is_refused, words)
 
+    def test_its_limits_are_those_of_ti_debug(self):
+        debugger = program.Program(program.other(os.environ['TI_BENCH'], 'ti_debug'))
+        shutil.copy(debugger.path, self.folder / 'lib/ti_bench/ti_debug')
+        for words in ([name, number] for name in ('grun', 'gsteps', 'gcounts', 'steps')
+                      for number in ('0', '10000000', '10000001', '007')):
+            status, lines = self.said(*words, name='ti_debug')
+            self.assertEqual((status == 2, len(lines)), (debugger.run(*words).status == 2, status == 2), words)
+
     def test_its_limits_are_those_of_the_documents(self):
         security = (TOP / 'docs/SECURITY.md').read_text('utf-8')
         row = re.search(r'^\| N of `run`.* of `exec` .* K of `demo` \| (\S+); (\S+); (\S+) \|', security, re.M)

@@ -110,6 +110,19 @@ class Profile(Calling):
         folded = [int(row.rpartition(' ')[2]) for row in self.text('fold').splitlines()]
         self.assertEqual(sum(folded) + before, count)
 
+    def test_instructions_of_lines_are_those_of_a_worked_example(self):
+        """As tests/rows/gcounts.txt counts them: CALL 36, RTN in the last byte of a GROM 31, EXIT 13, and boot 10. What
+        ends the program counts for the routine of the last step."""
+        self.file('a.gpl', b'S CALL SUB\n EXIT\n AORG >1FFF\nSUB RTN\n END S\n')
+        report = self.profile('--instructions', '--listing', 'lst', '--folded', 'fold', 'a.gpl')
+        self.assertIn('lines with the most instructions, and how many for a step:\n'
+                      '            36   45.0       36.0  a.gpl:1: S CALL SUB\n'
+                      '            31   38.8       31.0  a.gpl:4: SUB RTN\n'
+                      '            13   16.2       13.0  a.gpl:2: EXIT\n', report)
+        self.assertIn('            10  before the first step\n', report)
+        self.assertEqual(self.text('fold'), 'S 36\nS;SUB 44\n')
+        self.assertEqual(re.findall(r'(?m)^ {9}1 +([0-9]+) ', self.text('lst')), ['36', '13', '31'])
+
     def test_data_that_were_executed_are_shown(self):
         """Two planted faults: no EXIT is after the call, and a target is in the middle of an instruction."""
         self.file('a.gpl', DATA.replace(b'>9F', b'>00'))
@@ -218,8 +231,14 @@ class Failing(Calling):
         self.ends(words, 1, 'ended with status 5', TI_DEBUG=liar(self.folder, self.debugger, 'gsteps', status=5))
         self.ends(words, 1, 'are not those that the source is assembled to',
                   TI_DEBUG=liar(self.folder, self.debugger, 'glist', rb'( >6000 BE 00) 03', rb'\1 04'))
-        self.ends(['--instructions', 'a.gpl'], 1, 'no count of instructions of 4 steps', TI_DEBUG=self.debugger,
-                  TI_BENCH=liar(self.folder, self.bench, 'run', rb'^count', b'Count'))
+        for pattern, new, text in (
+                (rb'^count', b'Count', 'no count of instructions'),
+                (rb'^( +4 .*) count', rb'\1 Count', 'show one step 4'),
+                (rb'^( +4 >....) ', rb'\1  ', 'show one step 4'), (rb'^( +4 .* count) 1', rb'\1 ', 'falls at step 4'),
+                (rb'^count [0-9]+', b'count 70', 'falls at step 26'), (rb'^ +26 .*\n', b'', 'show one step 26')):
+            with self.subTest(pattern):
+                self.ends(['--instructions', 'a.gpl'], 1, text,
+                          TI_DEBUG=liar(self.folder, self.debugger, 'gcounts', pattern, new))
         self.ends(['a.gpl'], 3, 'No such file', TI_DEBUG='/none')
         self.assertFalse((self.folder / 'out').exists())
 
@@ -240,7 +259,8 @@ class Failing(Calling):
         self.file('d.gpl', b' COPY "PART.GPL"\n')
         self.file('PART.GPL', b' EXIT\n FOO\n')
         for words, status, text in (
-                (['a.gpl', '100001'], 2, 'no number from 0 to 100,000'), (['--module', 'a.a', 'a.gpl'], 2, '--module'),
+                (['a.gpl', '10000001'], 2, 'no number from 0 to 10,000,000'),
+                (['--module', 'a.a', 'a.gpl'], 2, '--module'),
                 (['-D', 'X', 'a.a'], 2, '-D and --instructions'), (['--instructions', 'a.a'], 2, '-D and --instr'),
                 (['--lcov', 'x', '-'], 2, '--lcov takes the name of the source'),
                 (['none.gpl'], 3, 'none.gpl: No such'),
@@ -252,11 +272,6 @@ class Failing(Calling):
         ended = self.call('profile', '-', given=SOURCE)
         self.assertEqual((ended.returncode, ended.stderr), (0, b''))
         self.assertIn(b'\n       22   84.6        26        1  S <stdin>:4\n', ended.stdout)
-
-    def test_too_many_runs_for_the_instructions_are_refused(self):
-        self.file('a.gpl', b'S CALL SUB\n B S\nSUB RTN\n END S\n')
-        self.ends(['--instructions', 'a.gpl', '3000'], 1,
-                  'the instructions of 3,000 steps take 2,002 runs of the program, and at most 1,000 are made')
 
 
 if __name__ == '__main__':

@@ -62,6 +62,48 @@ $ ti_bench gasm
 >-\\x00
 '''
 
+ANEW = '''# A table.
+
+% as it says
+$ ti_bench gasm
+
+% another status, with a remark
+$ ti_bench gasm
+<  RTN
+? Refused
+e what
+# a remark
+
+% it has no such part
+$ ti_bench gasm
+<  EXIT
+...
+~ \\x01
+% the first lines, and a part
+$ ti_bench run 1
+< S EXIT
+<  END S
+> a
+...
+~ count
+
+% a fault line, by two runs
+$ ti_bench gasm
+$ ti_bench run 1
+<  FOO
+> x
+% runs that do not end alike
+$ ti_bench gasm
+$ ti_bench run 1
+<  EXIT
+'''
+WRITTEN = ANEW.replace('''? Refused
+e what
+# a remark
+''', '''# a remark
+>-\\x00
+''').replace('> a\n', '> exit at >6000\n').replace('> x\n', '? Refused\ne line 1: unknown operation\n')
+
 
 class Tables(unittest.TestCase):
     def test_a_row_has_its_run_and_how_it_must_end(self):
@@ -112,6 +154,17 @@ class Runs(Calling):
         shown = [f'FAILED {path}:9: another status', '$ ti_bench gasm', 'wanted', '? Refused', r'>-\x00',
                  'came', '? Done', r'>-\x00', '1 rows passed, 1 failed']
         self.assertEqual((ended.returncode, ended.stdout.decode().splitlines(), ended.stderr), (1, shown, b''))
+
+    def test_what_came_is_written_into_a_row_that_fails(self):
+        path = self.file('some.txt', ANEW.encode())
+        run = [TOP / 'tests/rows/run', '--write', os.environ['TI_BENCH'], path]
+        ended = subprocess.run(run, capture_output=True)
+        titles = ['6: another status, with a remark', '18: the first lines, and a part', '26: a fault line, by two runs']
+        self.assertEqual(ended.stdout.decode().splitlines()[:3], [f'written anew: {path}:{title}' for title in titles])
+        self.assertEqual((ended.returncode, ended.stdout.splitlines()[-1]), (1, b'5 rows passed, 3 failed'))
+        self.assertEqual(path.read_text(), WRITTEN)
+        self.assertEqual(subprocess.run(run, capture_output=True).returncode, 1)
+        self.assertEqual(path.read_text(), WRITTEN)
 
     def test_a_table_of_no_rows_does_not_pass(self):
         path = self.file('none.txt', b'# no rows\n')

@@ -4,7 +4,7 @@ import unittest
 
 from calling import TOP, Calling
 from lib import program
-from lying import sleeper
+from lying import liar, sleeper
 
 SHOW = (TOP / 'examples/show/input').read_bytes()
 # it is stopped in its sixth step
@@ -133,6 +133,21 @@ class Watch(Calling):
             for words in ([], ['--all']):
                 ended = self.watch(*words, 'show.gpl', limit, 'pad:8310', source=source)
                 self.assertEqual((ended.returncode, ended.stdout, ended.stderr), (1, b'', b'tools/watch: %s\n' % text))
+
+    def test_a_run_of_more_steps_than_watch_makes(self):
+        """Three steps for each of the 34,048 numbers up to >8500, and two more."""
+        source = b'S DINC @>8300\n DCEQ @>8300,>8500\n BR S\n ST @>8310,1\n ST @>8311,2\n EXIT\n END S\n'
+        hit = (b'show.gpl:4: step 102145 at >6008: pad:8310 >8310=01\n', b'     ST @>8310,1\n')
+        ended = self.watch('show.gpl', '10000000', 'pad:8310', source=source)
+        self.assertEqual((ended.stdout, ended.returncode, ended.stderr), (b''.join(hit), 0, b''))
+        ended = self.watch('show.gpl', '110000', 'pad:8320', source=source)
+        self.assertEqual((ended.stdout, ended.returncode), (b'', 1))
+        self.assertEqual(ended.stderr, b'tools/watch: no hit; EXIT at >600E after 102,146 steps\n')
+        debugger = program.other(program.program().path, 'ti_debug')
+        ended = self.call('watch', 'show.gpl', '110000', 'pad:8310',
+                          TI_DEBUG=liar(self.folder, debugger, 'gsteps', rb'^(102145 .*)=01$', rb'\1=02'))
+        self.assertEqual((ended.stdout, ended.returncode), (b'', 1))
+        self.assertIn(b'do not lead to the state', ended.stderr)
 
     def test_a_program_that_takes_too_long_is_ended(self):
         bench = program.program().path

@@ -11,9 +11,11 @@ from expanding.source import of_file
 from lib.command import MOST_BYTES, Stopped, read
 from lib.languages import GPL
 
-# a line with one of the forms that the program refuses, by the language
-FORM = {language: re.compile(r'^(?:[^\s*][^ \t\n]*)?[ \t]+(?:%s)(?![^ \t\r\n])|^\.'.encode() % '|'.join(forms).encode(),
-                             re.M | re.I) for language, forms in REFUSED.items()}
+# the forms that the program refuses, by the language, each as an expression that finds it at once; and what may stand
+# before an operation
+FORM = {language: [re.compile(rb'%s(?![^ \t\r\n])' % form.encode()) for form in sorted(forms)]
+        for language, forms in REFUSED.items()}
+BEFORE = re.compile(rb'(?:[^\s*][^ \t\n]*)?[ \t]+')
 
 
 class Expanded(typing.NamedTuple):
@@ -42,7 +44,11 @@ class Expanded(typing.NamedTuple):
 
 def has_forms(source, language=GPL):
     """Whether a source has a line with one of the forms that the program refuses, if the line is before END."""
-    return FORM[language].search(source) is not None
+    upper = source.upper()
+    if upper.startswith(b'.') or b'\n.' in upper:
+        return True
+    return any(BEFORE.fullmatch(upper, upper.rfind(b'\n', 0, found.start()) + 1, found.start())
+               for form in FORM[language] for found in form.finditer(upper))
 
 
 def expanded(path, source, defines=(), language=GPL, most=1):

@@ -74,13 +74,12 @@ class Expansion:
 
     def write(self, source, text, number=None):
         """Adds a line to those that are made, for the line that was taken last, or for another one."""
-        number = number or source.number
         self.size += len(text) + 1
         if self.size > MOST_TEXT:
             raise source.refused(f'too large: with this line the source has more than {MOST_TEXT:,} bytes')
         self.texts.append(text)
-        self.places.append(source.place_of(number))
-        self.written.append(source.texts[number - 1])
+        self.places.append(source.place_of(number) if number else source.place)
+        self.written.append(source.texts[(number or source.number) - 1])
 
     def take_line(self, source, text, operation):
         """A line that has no form, but perhaps local labels."""

@@ -92,9 +92,8 @@ def named(text, written, names):
     if text.startswith('*'):
         return replaced(text, written)
     label, gap, operation, second_gap, operands, rest, end = parts_of(text)
-    spelled = Parts(replaced(label, written), gap, replaced(operation, written), second_gap,
-                    replaced(operands, written), replaced(rest, written), end)
-    return changed(spelled, replaced(label, names), spelled.operation, replaced(operands, names))
+    spelled = Parts(replaced(label, written), gap, operation, second_gap, replaced(operands, written), rest, end)
+    return changed(spelled, replaced(label, names), operation, replaced(operands, names))
 
 
 def stem_of(written):

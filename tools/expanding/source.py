@@ -10,6 +10,8 @@ class Lines:
         self.texts, self.place_of, self.depth, self.scope = texts, place_of, depth, scope
         # how many are taken, and the numbers of the lines IF that are open, each with whether its ELSE was there
         self.number, self.open = 0, []
+        # the place of the line that was asked for last, with its number
+        self.asked, self.answer = 0, None
 
     def __iter__(self):
         texts, last = self.texts, len(self.texts)
@@ -20,7 +22,9 @@ class Lines:
     @property
     def place(self):
         """The place of the line that was taken last."""
-        return self.place_of(self.number)
+        if self.asked != self.number:
+            self.asked, self.answer = self.number, self.place_of(self.number)
+        return self.answer
 
     @property
     def text(self):

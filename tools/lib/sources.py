@@ -17,6 +17,8 @@ def endings(command):
 
 def names_copied(source):
     """The names of the files that the lines of a source copy, each as it is written and without its device."""
+    if b'COPY' not in source.upper():
+        return set()
     return {os.fsdecode(name) for found in COPY.findall(source) for name in found[1:]}
 
 
