@@ -62,7 +62,7 @@ local function prepare()
 end
 local function is_over()
   local at = cpu.state["PC"].value
-  return not log or at == stop or at == stop + 2 or at == exit or at == exit + 2
+  return not log or at == stop or at == exit
 end
 local function save()
   if log then close() end

@@ -15,7 +15,8 @@ ROM_BYTES, GROM_BYTES, WORKSPACE = 0x2000, 0x1800, 0x83E0
 # no window, no sound, and no plugins, with which MAME 0.251 may crash as it starts
 QUIET = ('-video', 'none', '-sound', 'none', '-noplugins', '-skip_gameinfo', '-nothrottle', '-debug', '-debugger', 'none',
          '-ioport', 'peb', '-ioport:peb:slot2', '32kmem')
-# the console's own program: it waits at IDLE; and at BEGIN it goes to an address, after instructions that do nothing
+# The console's own program: it waits at IDLE; and at BEGIN it goes to an address, after instructions that do nothing and
+# two reads, after which no half of an address is held at a port: the case before may have ended between two halves.
 IDLE, BEGIN = 0x0028, 0x0200
 WAITING = """       AORG >0002
        DATA START
@@ -26,6 +27,8 @@ START  LIMI 0
        JMP  $+2
        JMP  $+2
        JMP  $+2
+       MOVB @>8802,R5
+       MOVB @>9800,R5
        B    @>{target:04X}
        END  START
 """

@@ -37,11 +37,12 @@ class Program:
 
     def run(self, *words, given=b'', folder=None, **more):
         """A run with these words on these bytes, in a folder."""
-        left = self.clock.left if self.clock else None
+        left = {'timeout': self.clock.left} if self.clock else {}
         try:
-            ended = subprocess.run([self.path, *words], input=given, capture_output=True, cwd=folder, timeout=left,
-                                   **more)
+            ended = subprocess.run([self.path, *words], input=given, capture_output=True, cwd=folder, **left, **more)
         except subprocess.TimeoutExpired:
+            if not self.clock:
+                raise
             raise self.clock.over() from None
         except OSError as error:
             # the name in the error may be that of the folder
