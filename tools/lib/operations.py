@@ -157,16 +157,18 @@ _TMS9900 = (
      'after it'),
     ('DIV', 0x3C00, _FIRST, 'OV', 'The two words at the register are divided by the source: the quotient goes to the '
      'first and the remainder to the second; OV becomes 1, and both stay, if the source is not above the first'),
-    ('SRA', 0x0800, _COUNT, f'{_LOGICAL}, C', 'The register is shifted to the right and keeps its sign; a count of 0 '
-     'is that of R0'),
-    ('SRL', 0x0900, _COUNT, f'{_LOGICAL}, C', 'The register is shifted to the right, and 0 comes in; a count of 0 is '
-     'that of R0'),
-    ('SLA', 0x0A00, _COUNT, f'{_LOGICAL}, C, OV', 'The register is shifted to the left; a count of 0 is that of R0'),
-    ('SRC', 0x0B00, _COUNT, f'{_LOGICAL}, C', 'The register is rotated to the right; a count of 0 is that of R0'),
+    ('SRA', 0x0800, _COUNT, f'{_LOGICAL}, C', 'The register is shifted to the right and keeps its sign; if the count '
+     'is 0, it is taken from R0'),
+    ('SRL', 0x0900, _COUNT, f'{_LOGICAL}, C', 'The register is shifted to the right, and 0 comes in; if the count is '
+     '0, it is taken from R0'),
+    ('SLA', 0x0A00, _COUNT, f'{_LOGICAL}, C, OV', 'The register is shifted to the left; if the count is 0, it is taken '
+     'from R0'),
+    ('SRC', 0x0B00, _COUNT, f'{_LOGICAL}, C', 'The register is rotated to the right; if the count is 0, it is taken '
+     'from R0'),
     ('BLWP', 0x0400, _ONE_ANY, '', 'WP and PC are loaded from the two words at the operand; the old WP, PC and ST go '
      'to R13, R14 and R15 there'),
     ('B', 0x0440, _ONE_ANY, '', "PC becomes the operand's address"),
-    ('X', 0x0480, _ONE_ANY, 'those of that instruction', f'The operand is executed as an instruction{_NOT_EXECUTED}'),
+    ('X', 0x0480, _ONE_ANY, 'as the operand sets them', f'The operand is executed as an instruction{_NOT_EXECUTED}'),
     ('CLR', 0x04C0, _ONE_ANY, '', 'The operand becomes 0'),
     ('NEG', 0x0500, _ONE_ANY, _SUM, 'The operand becomes its negative'),
     ('INV', 0x0540, _ONE_ANY, _LOGICAL, 'Each bit of the operand becomes the other one'),
