@@ -35,10 +35,7 @@ local function prepare()
   number = number + 1
   return number == 1
 end
-local function is_over()
-  local at = cpu.state["PC"].value
-  return at == {END} or at == {END + 2}
-end
+local function is_over() return stays_at({END}) end
 local function save()
   local file = io.open("video", "wb")
   for at = 0, {COPIED - 1} do file:write(string.char(video:read_u8(at))) end

@@ -32,10 +32,7 @@ local function prepare()
   BEGIN
   return true
 end
-local function is_over()
-  local at = cpu.state["PC"].value
-  return at == {END} or at == {END + 2}
-end
+local function is_over() return stays_at({END}) end
 local function save()
   command("trace off")
   command(string.format("save %d.pad,0x8300,0x80", number))

@@ -40,10 +40,12 @@ FIRST = 'local machine = manager.machine\nlocal cpu = machine.devices[":maincpu"
 # (`prepare`, which is false after the last), when it is over, and what is kept of it (`save`).
 CASES = f"""
 local command = function(text) machine.debugger:command(text) end
-local function waits()
+-- the processor is in a jump to itself there
+local function stays_at(place)
   local at = cpu.state["PC"].value
-  return at == {IDLE} or at == {IDLE + 2}
+  return at == place or at == place + 2
 end
+local function waits() return stays_at({IDLE}) end
 local function cases(prepare, is_over, save, frames)
   local phase, left = "idle", 0
   emu.register_frame_done(function()
