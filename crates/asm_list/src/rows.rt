@@ -5,15 +5,13 @@ ghost use Rattle.std.specs.Option.{option_map};
 ghost use Rattle.arrayvec.specs.ArrayVec.{array_vec_len};
 ghost use Rattle.asm_text.specs.GivenValues.{model_of_value};
 ghost use Rattle.object_defs.specs.Digits.{padded};
-ghost use Rattle.source_defs.specs.Digits.{right_in};
 ghost use Rattle.asm_list_defs.specs.Rows as spec;
 ghost use Rattle.bench_shelf.specs.Kept.{model_of_kept};
 
 use asm_defs::{Location, Part};
 use asm_text::{Name, Value};
 use bench_shelf::{FileName, KeptLine};
-use itoa::Buffer;
-use report_lines::{Line, append, append_word};
+use report_lines::{Line, append, append_right, append_word};
 use std::alloc::{AllocError, Global};
 
 /// The columns of what is placed.
@@ -22,8 +20,8 @@ pub(crate) const PLACED_COLUMNS: usize = 24;
 /// The blanks of a row that places nothing.
 const PLACED_BLANKS: &[u8] = b"                        ";
 
-/// The blanks of a number that has no digits.
-const NUMBER_BLANKS: &[u8] = b"       ";
+/// In how many columns the number of a line stands.
+const NUMBER_COLUMNS: usize = 7;
 
 /// The row of a file, or of the source itself.
 #[tactic(auto, using(std::proofs::Common::append_assoc), unfolding(asm_list_defs::specs::Rows::file_row))]
@@ -48,7 +46,7 @@ pub(crate) fn first_row(
     ensures { IfOk result (λ row. row.items ≡ spec.first_row (model_of_kept line.now) at text.now) }
 {
     let mut front = Line::new();
-    append_number(&mut front, line.line);
+    append_right(&mut front, NUMBER_COLUMNS, line.line);
     front.push(b' ');
     append_placed(&mut front, at, text);
     let size = front.len().saturating_add(line.text.len());
@@ -90,7 +88,7 @@ pub(crate) fn name_row(
     append(&mut row, b"name ");
     append_value(&mut row, value);
     row.push(b' ');
-    append_number(&mut row, line.line);
+    append_right(&mut row, NUMBER_COLUMNS, line.line);
     row.push(b' ');
     append(&mut row, name.as_bytes());
     append_file(&mut row, &line.file);
@@ -108,22 +106,6 @@ fn append_file(line: &mut Line, file: &Option<FileName>)
         append(line, name.as_bytes());
     }
     line.push(b'\n');
-}
-
-/// Appends a number, right in seven columns.
-#[tactic(auto, using(std::proofs::Common::append_assoc), unfolding(source_defs::specs::Digits::right_in))]
-fn append_number(line: &mut Line, number: u32)
-    requires { array_vec_len line.old + 47 ≤ 192 }
-    ensures text { line.new.items ≡ line.old.items ++ right_in 7 number }
-    ensures len { array_vec_len line.new ≤ array_vec_len line.old + 47 }
-{
-    let mut buffer = Buffer::new();
-    let digits = buffer.format(number).as_bytes();
-    append(
-        line,
-        &NUMBER_BLANKS[digits.len().min(NUMBER_BLANKS.len())..],
-    );
-    append(line, digits);
 }
 
 /// Appends a place and what is placed there, in 24 columns.

@@ -6,11 +6,11 @@ ghost use Rattle.interp_defs.specs.Match.{shown_by};
 ghost use Rattle.list_defs.specs.Lists as plain;
 ghost use Rattle.report_defs.specs.Summary as spec;
 
-use bench_io::{Failed, Sink, put_chunk};
+use bench_io::{Failed, Sink};
 use gpl_step_defs::{Reason, VISIBLE_CELLS};
 use lane_scan::sum_bytes;
 use report_defs::Summary;
-use report_lines::{Line, append, append_count};
+use report_lines::{Line, append_count, line_of, put_lines};
 use tms_step::Machine;
 
 /// The summary of a program that was made from a number and whose image has a given number of bytes: how many of its
@@ -54,16 +54,6 @@ pub fn put_summary<O: Sink>(summary: Summary, out: &mut O) -> Result<(), Failed>
     put_lines(&summary_lines(summary), out)
 }
 
-/// Writes lines, each by one call.
-fn put_lines<O: Sink>(lines: &[Line], out: &mut O) -> Result<(), Failed>
-    ensures { Written result (O.state out.old) (O.state out.new) (map (λ line. line.items) lines.now) }
-{
-    for line in lines {
-        put_chunk(out, line.as_slice())?;
-    }
-    Ok(())
-}
-
 /// The lines of a summary.
 fn summary_lines(summary: Summary) -> [Line; 7]
     ensures { map (λ line. line.items) result ≡ spec.summary_lines summary }
@@ -85,8 +75,7 @@ fn counted_line(label: &[u8], count: u64) -> Line
     requires { length label.now ≤ 16 }
     ensures { result.items ≡ spec.counted_line label.now count }
 {
-    let mut line = Line::new();
-    append(&mut line, label);
+    let mut line = line_of(label);
     append_count(&mut line, count);
     line.push(b'\n');
     line
@@ -96,9 +85,7 @@ fn counted_line(label: &[u8], count: u64) -> Line
 fn ended_line(ended: Option<Reason>) -> Line
     ensures { result.items ≡ spec.ended_line ended }
 {
-    let mut line = Line::new();
-    append(&mut line, ended_text(ended));
-    line
+    line_of(ended_text(ended))
 }
 
 /// What is said of why a program ended, with its line feed.

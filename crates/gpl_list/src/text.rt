@@ -1,21 +1,20 @@
 //! The lines of a listing.
 
 ghost use Rattle.std.specs.Prelude.{◌≡◌, ◌≤◌, ◌+◌, ◌%◌, ◌++◌, length, take, drop};
-ghost use Rattle.source_defs.specs.Digits.{hex_word, right_in};
+ghost use Rattle.source_defs.specs.Digits.{hex_word};
 ghost use Rattle.arrayvec.specs.ArrayVec.{array_vec_len};
 ghost use Rattle.gpl_list_defs.specs.Text as spec;
 ghost use Rattle.gpl_list.specs.Reading.{model_of_name, model_of_row};
 
 use crate::rows::{NameRow, Row};
 use arrayvec::ArrayVec;
-use itoa::Buffer;
-use report_lines::{Line, append, append_spaced, append_word};
+use report_lines::{Line, append, append_right, append_spaced, append_word};
 
 /// How many bytes stand in a row.
 const ROW_BYTES: usize = 8;
 
-/// The blanks of a number that has no digits.
-const NUMBER_BLANKS: &[u8] = b"       ";
+/// In how many columns the number of a line stands.
+const NUMBER_COLUMNS: usize = 7;
 
 /// The blanks of a row without bytes.
 const BYTE_BLANKS: &[u8] = b"                        ";
@@ -43,7 +42,7 @@ fn line_front(row: &Row) -> Line
     ensures len { array_vec_len result ≤ 80 }
 {
     let mut line = Line::new();
-    append_number(&mut line, row.number);
+    append_right(&mut line, NUMBER_COLUMNS, row.number);
     line.push(b' ');
     append_word(&mut line, address(row.address));
     append_bytes(&mut line, first_bytes(row.bytes.as_slice()));
@@ -83,22 +82,6 @@ pub(crate) fn further_bytes(bytes: &[u8]) -> &[u8]
     &[]
 }
 
-/// Appends a number, right in seven places.
-#[tactic(auto, using(std::proofs::Common::append_assoc), unfolding(source_defs::specs::Digits::right_in))]
-fn append_number(line: &mut Line, number: u32)
-    requires { array_vec_len line.old + 47 ≤ 192 }
-    ensures text { line.new.items ≡ line.old.items ++ right_in 7 number }
-    ensures len { array_vec_len line.new ≤ array_vec_len line.old + 47 }
-{
-    let mut buffer = Buffer::new();
-    let digits = buffer.format(number).as_bytes();
-    append(
-        line,
-        &NUMBER_BLANKS[digits.len().min(NUMBER_BLANKS.len())..],
-    );
-    append(line, digits);
-}
-
 /// Appends up to eight bytes, and blanks for those that are fewer.
 #[tactic(auto, using(std::proofs::Common::append_assoc), unfolding(gpl_list_defs::specs::Text::bytes_text))]
 fn append_bytes(line: &mut Line, bytes: &[u8])
@@ -134,7 +117,7 @@ pub(crate) fn name_line(row: &NameRow) -> Line
     append(&mut line, b"name ");
     append_word(&mut line, row.value);
     line.push(b' ');
-    append_number(&mut line, row.line);
+    append_right(&mut line, NUMBER_COLUMNS, row.line);
     line.push(b' ');
     append(&mut line, row.name.as_bytes());
     line.push(b'\n');

@@ -1,4 +1,2 @@
-pub mod AppendedChanges
-pub mod Eight
 pub mod ShownRuns
 pub mod UnchangedParts

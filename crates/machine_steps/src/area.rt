@@ -27,6 +27,7 @@ pub(crate) fn append_kept(line: &mut LongLine, area: Area, kept: &mut [u8], now:
 }
 
 /// Appends all that changed of an area, and returns whether anything did.
+#[tactic(auto, unfolding(machine_change_defs::specs::Text::area_text))]
 fn append_area(line: &mut LongLine, area: Area, before: &[u8], now: &[u8]) -> bool
     requires before { length before.now ≡ size_of area }
     requires now { length now.now ≡ size_of area }

@@ -11,11 +11,11 @@ ghost use Rattle.machine_steps.specs.Reach.{Stays};
 use crate::area::append_kept;
 use crate::latches::latches_text;
 use crate::reach::Reach;
-use crate::seen::{Seen, latches_of, video_registers};
+use crate::seen::{Seen, latches_of};
 use crate::workspace::{append_registers, workspace_place};
 use console_bus::Bus;
 use machine_change_defs::Area;
-use step_changes::LongLine;
+use step_changes::{LongLine, video_registers};
 
 /// Ends the front of an instruction's line by all that changed since what was seen, and a line feed; and keeps what is
 /// seen now. The workspace is the one of the machine before the instruction, which reaches no farther than is said.

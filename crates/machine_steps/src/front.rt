@@ -1,20 +1,15 @@
 //! The front of the line of an instruction.
 
-ghost use Rattle.std.specs.Prelude.{◌≡◌, ◌≤◌, ◌+◌, ◌-◌, ◌++◌, [], length, replicate};
+ghost use Rattle.std.specs.Prelude.{◌≡◌, ◌≤◌, ◌+◌, ◌++◌};
 ghost use Rattle.arrayvec.specs.ArrayVec.{array_vec_len};
 ghost use Rattle.console_defs.specs.Memory.{word_read};
-ghost use Rattle.source_defs.specs.Digits.{right_in};
 ghost use Rattle.machine_change_defs.specs.Lines as spec;
 
 use asm_forms::print_instr;
 use asm_text::word_digits;
 use console_bus::Bus;
-use itoa::Buffer;
-use report_lines::{Line, append, append_word};
+use report_lines::{Line, append, append_right, append_word};
 use tms_step::Machine;
-
-/// As many blanks as a number has places.
-const PLACES: &[u8; 6] = b"      ";
 
 /// The front of the line of the instruction that a machine is about to execute: its number, its address, the workspace
 /// pointer and the status before it, and its text.
@@ -23,7 +18,7 @@ pub(crate) fn step_front(machine: &Machine, number: u32) -> Line
     ensures { result.items ≡ spec.step_front number machine.now }
 {
     let mut line = Line::new();
-    append_number(&mut line, number);
+    append_right(&mut line, 6, number);
     line.push(b' ');
     append_processor(&mut line, machine);
     line.push(b' ');
@@ -54,27 +49,6 @@ fn append_instruction(line: &mut Line, machine: &Machine)
     let words = code_words(machine.bus(), machine.pc());
     let (text, _) = print_instr(&words, machine.pc());
     append(line, text.as_bytes());
-}
-
-/// Appends a number to an empty line, right in six places.
-#[tactic(auto, using(std::proofs::Common::append_assoc), unfolding(source_defs::specs::Digits::right_in))]
-fn append_number(line: &mut Line, number: u32)
-    requires { line.old.items ≡ [] }
-    ensures bytes { line.new.items ≡ right_in 6 number }
-    ensures len { array_vec_len line.new ≤ 46 }
-{
-    let mut buffer = Buffer::new();
-    let digits = buffer.format(number);
-    append(line, blanks_before(digits.len()));
-    append(line, digits.as_bytes());
-}
-
-/// The blanks before a number of a given length.
-fn blanks_before(digits: usize) -> &'static [u8]
-    ensures blanks { result.now ≡ replicate (6 - digits) 0x20 }
-    ensures few { length result.now ≤ 6 }
-{
-    &PLACES[digits.min(6)..]
 }
 
 /// The words from an address on, of which an instruction has three at most.

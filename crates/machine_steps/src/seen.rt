@@ -8,6 +8,7 @@ use grom_counter::Grom;
 use machine_change_defs::Latches;
 use std::alloc::{AllocError, Global};
 use std::marker::Model;
+use step_changes::video_registers;
 use tms_step::Machine;
 use vdp_ports::Vdp;
 
@@ -75,23 +76,6 @@ impl Seen {
             latches: latches_of(bus.vdp(), bus.grom()),
         })
     }
-}
-
-/// The eight registers of a video processor.
-pub(crate) fn video_registers(vdp: &Vdp) -> [u8; 8]
-    ensures { result ≡ vdp.now.registers }
-{
-    vdp.holds_bounds();
-    [
-        vdp.register(0),
-        vdp.register(1),
-        vdp.register(2),
-        vdp.register(3),
-        vdp.register(4),
-        vdp.register(5),
-        vdp.register(6),
-        vdp.register(7),
-    ]
 }
 
 /// What the ports hold beside memory.

@@ -9,7 +9,7 @@ ghost use Rattle.memory_listing.specs.FaultLines.{IsFaultLine, line_of_link_erro
 use asm_text::word_digits;
 use link_loader::LinkError;
 use object_defs::TagCause;
-use report_lines::{Line, append, append_word, refusal_line};
+use report_lines::{Line, append, append_word, line_of, refusal_line};
 use std::alloc::AllocError;
 
 /// The line of a bad place in an object text, by the number of its line, from 1. It has room for a file's name before
@@ -27,12 +27,12 @@ fn tag_cause_text(cause: TagCause) -> Line
     ensures short { array_vec_len result ≤ 64 }
 {
     match cause {
-        TagCause::BadTag(_) => text_of(b"bad tag"),
-        TagCause::BadDigit => text_of(b"bad digit"),
-        TagCause::ShortField => text_of(b"short field"),
+        TagCause::BadTag(_) => line_of(b"bad tag"),
+        TagCause::BadDigit => line_of(b"bad digit"),
+        TagCause::ShortField => line_of(b"short field"),
         TagCause::Checksum { found, computed } => checksum_text(found, computed),
-        TagCause::NoEnd => text_of(b"no end"),
-        TagCause::TooMany => text_of(b"too many"),
+        TagCause::NoEnd => line_of(b"no end"),
+        TagCause::TooMany => line_of(b"too many"),
     }
 }
 
@@ -43,21 +43,10 @@ fn checksum_text(found: u16, computed: u16) -> Line
         ≡ codes "checksum " ++ (hex_word found ++ (codes ", computed " ++ hex_word computed)) }
     ensures short { array_vec_len result ≤ 64 }
 {
-    let mut line = text_of(b"checksum ");
+    let mut line = line_of(b"checksum ");
     append_word(&mut line, found);
     append(&mut line, b", computed ");
     append_word(&mut line, computed);
-    line
-}
-
-/// Up to 32 bytes as the front of a line.
-fn text_of(bytes: &[u8]) -> Line
-    requires { length bytes.now ≤ 32 }
-    ensures text { result.items ≡ bytes.now }
-    ensures len { array_vec_len result ≡ length bytes.now }
-{
-    let mut line = Line::new();
-    append(&mut line, bytes);
     line
 }
 
@@ -75,7 +64,7 @@ pub fn link_line(error: &LinkError) -> Result<Line, AllocError>
         LinkError::ChainOutside(address) => word_line(b"chain outside ", *address),
         LinkError::ChainCycle(address) => word_line(b"chain cycle ", *address),
         LinkError::Unresolved(name) => name_line(b"unresolved ", name.as_bytes()),
-        LinkError::NoEntry => text_of(b"no entry\n"),
+        LinkError::NoEntry => line_of(b"no entry\n"),
         LinkError::Memory => return Err(AllocError),
     })
 }
@@ -87,7 +76,7 @@ fn name_line(words: &[u8], name: &[u8]) -> Line
     requires name { length name.now ≤ 6 }
     ensures { result.items ≡ spec.said_of words.now name.now }
 {
-    let mut line = text_of(words);
+    let mut line = line_of(words);
     append(&mut line, name);
     line.push(b'\n');
     line
@@ -99,7 +88,7 @@ fn word_line(words: &[u8], address: u16) -> Line
     requires { length words.now ≤ 32 }
     ensures { result.items ≡ spec.said_of words.now (hex_word address) }
 {
-    let mut line = text_of(words);
+    let mut line = line_of(words);
     append_word(&mut line, address);
     line.push(b'\n');
     line
@@ -110,7 +99,7 @@ fn word_line(words: &[u8], address: u16) -> Line
 fn address_line(address: u32) -> Line
     ensures { result.items ≡ spec.said_of (codes "outside memory ") (spec.marked_address address) }
 {
-    let mut line = text_of(b"outside memory ");
+    let mut line = line_of(b"outside memory ");
     let low = (address % 0x1_0000) as u16;
     let high = (address / 0x1_0000) as u16;
     if high == 0 {

@@ -1,11 +1,11 @@
 //! The lines that standard error gets of words that are no command of `bench`, of an input or a file that is too large,
 //! of bytes that end after `>FFFF`, and of a program without an entry; and their statuses.
 
-ghost use Rattle.std.specs.Prelude.{◌≡◌, ◌≤◌, length};
+ghost use Rattle.std.specs.Prelude.{◌≡◌};
 ghost use Rattle.report_defs.specs.FaultLine as spec;
 
 use report_defs::{Fault, Status};
-use report_lines::{Line, append};
+use report_lines::{Line, line_of};
 
 /// How `bench` is called, which knows no files and no `watch`.
 const USAGE: &[u8] =
@@ -22,16 +22,6 @@ pub(crate) fn fault_line(fault: Fault) -> Line
         Fault::PastEnd => line_of(b"past the end of memory\n"),
         Fault::NoEntry => line_of(b"no entry\n"),
     }
-}
-
-/// A line of these bytes.
-fn line_of(bytes: &[u8]) -> Line
-    requires { length bytes.now ≤ 128 }
-    ensures { result.items ≡ bytes.now }
-{
-    let mut line = Line::new();
-    append(&mut line, bytes);
-    line
 }
 
 /// The status of a fault.

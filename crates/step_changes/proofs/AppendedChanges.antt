@@ -1,35 +1,42 @@
--- The changes of a part, appended to a line one after the other.
-use Rattle.std.proofs.Common.{◌≡◌, ℕ, ◌+◌, ◌*◌, ◌≤◌, List, [], ◌∷◌, ◌++◌, length, refl, sym, ap, ◌∙◌, append_assoc, append-nil, length-append, arith}
-use Rattle.change_defs.specs.declared.part.Part.{Part}
+-- The changes of a list of bytes, appended to a line one after the other.
+use Rattle.std.proofs.Common.{◌≡◌, ℕ, ◌+◌, ◌*◌, ◌≤◌, List, [], ◌∷◌, ◌++◌, length, refl, sym, ap, ◌∙◌}
+use Rattle.std.proofs.Common.{append_assoc, append-nil, length-append, arith}
 use Rattle.change_defs.specs.Changes.{Change, changes, applied}
 use Rattle.change_defs.proofs.Lead.{changes_lead}
-use Rattle.change_defs.specs.Text.{place_text, change_text, change_texts, part_text}
+use Rattle.change_defs.specs.Text.{change_text, change_texts}
 use Rattle.step_changes.specs.Scan.{left_from}
 
 -- the line has the changes before a place
-pub record Appending (part : Part) (before now begun line : List ℕ) (at : ℕ) : Type 0 where
+pub record Appending (place : ℕ → List ℕ) (before now begun line : List ℕ) (at : ℕ) : Type 0 where
   pub done : List ℕ
   pub text : line ≡ begun ++ done
-  pub is : part_text part (changes before now) ≡ done ++ change_texts (place_text part) at (left_from before now at)
+  pub is : change_texts place 0 (changes before now) ≡ done ++ change_texts place at (left_from before now at)
   pub within : at ≤ length now
   pub size : length line ≤ length begun + 16 * at
 
-module _ (part : Part) (before now : List ℕ) where
-  pub append_none : (line : List ℕ) → Appending part before now line line 0
-  unfolding part_text
-  append_none line = record { done = []; text = sym (append-nil line); is = refl; within = omega arith; size = omega arith }
+module _ (place : ℕ → List ℕ) (before now : List ℕ) where
+  pub append_none : (line : List ℕ) → Appending place before now line line 0
+  append_none line = record {
+    done = [];
+    text = sym (append-nil line);
+    is = refl;
+    within = omega arith;
+    size = omega arith;
+  }
 
-  pub append_more : (begun line line' : List ℕ) (at : ℕ) (c : Change) (end : ℕ) → Appending part before now begun line at
+  pub append_more : (begun line line' : List ℕ) (at : ℕ) (c : Change) (end : ℕ)
+      → Appending place before now begun line at
       → left_from before now at ≡ c ∷ left_from before now end → end ≡ c.at + c.count → at + 1 ≤ end → end ≤ length now
-      → line' ≡ line ++ change_text (place_text part) at c → length (change_text (place_text part) at c) ≤ 16 → Appending part before now begun line' end
+      → line' ≡ line ++ change_text place at c → length (change_text place at c) ≤ 16
+      → Appending place before now begun line' end
   append_more begun line line' at c end so first ends on le grown short =
-      let text = change_text (place_text part) at c in
+      let text = change_text place at c in
       record {
         done = so.done ++ text;
         text = grown ∙ ap (λ l. l ++ text) so.text ∙ append_assoc begun so.done text;
-        is = so.is ∙ ap (λ cs. so.done ++ change_texts (place_text part) at cs) first
-            ∙ ap (λ k. so.done ++ (text ++ change_texts (place_text part) k (left_from before now end))) (sym ends)
-            ∙ sym (append_assoc so.done text (change_texts (place_text part) end (left_from before now end)));
+        is = so.is ∙ ap (λ cs. so.done ++ change_texts place at cs) first
+            ∙ ap (λ k. so.done ++ (text ++ change_texts place k (left_from before now end))) (sym ends)
+            ∙ sym (append_assoc so.done text (change_texts place end (left_from before now end)));
         within = le;
         size = let long = ap (λ (l : List ℕ). length l) grown ∙ length-append line text in omega (arith, long, so.size);
       }

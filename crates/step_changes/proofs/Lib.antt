@@ -1,2 +1,3 @@
 pub mod AppendedChanges
+pub mod Eight
 pub mod Neighbours

@@ -68,6 +68,7 @@ impl LongLine {
 }
 
 /// Appends all that changed of a part, and returns whether anything did. No memory is taken.
+#[tactic(auto, unfolding(change_defs::specs::Text::part_text))]
 pub fn append_part(line: &mut LongLine, part: Part, before: &[u8], now: &[u8]) -> bool
     requires before { length before.now ≡ spec.size_of part }
     requires now { length now.now ≡ spec.size_of part }

@@ -27,6 +27,7 @@ use Rattle.sim_steps.proofs.TurnRuns.{Stepping, none_yet, stepped, stopped, whol
 use Rattle.gpl_run.specs.Sessions.{SessionState, IsSession, gpl_state_of, address_in, ended_by}
 use Rattle.report_defs.specs.Trace.{SeenState, ShowsChanges, seen_state, step_front, step_line, step_lines}
 use Rattle.gpl_counts.specs.Counts.{ShowsStep, changes_alone, line_after, lines_by}
+use Rattle.gpl_counts.proofs.Counts.{turns_least}
 use Rattle.trace_dump.specs.Plays.{PlaysWhole, BreaksOff}
 use Rattle.report_defs.proofs.Ranges.{mapped_split}
 
@@ -119,11 +120,6 @@ lines_after shows s made done le =
 pub lines_alone : (shows : ShowsChanges) (s : GplState) (machine : ℕ → MachineState) (made : ℕ) → lines_by (changes_alone shows) s machine made ≡ step_lines shows s made
 unfolding lines_by step_lines
 lines_alone shows s machine made = refl
-
--- a run makes no fewer turns than steps
-turns_least : (stop : Option Reason) (done : ℕ) → done ≤ turns_made stop done
-turns_least None done = omega arith
-turns_least (Some reason) done = omega arith
 
 -- So many steps were made and shown.
 pub record Playing (shows : ShowsStep) (x y : SessionState) (t u made : ℕ) (o o' : SinkState) (kept : SeenState) : Type 0 where

@@ -1,1 +1,2 @@
+pub mod FirstChanges
 pub mod Plays

@@ -8,13 +8,12 @@ ghost use Rattle.change_defs.specs.Text as spec;
 ghost use Rattle.gpl_counts.specs.Counts.{changes_alone};
 ghost use Rattle.step_changes.specs.declared.line.TheConstants.{LONGEST};
 
-use crate::parts::vdp_registers;
 use crate::seen::{Seen, visible_cells};
 use crate::step_line::StepLine;
-use arrayvec::ArrayString;
 use change_defs::Part;
+use report_lines::Line;
 use std::alloc::{AllocError, Global};
-use step_changes::{LongLine, append_part};
+use step_changes::{LongLine, append_part, video_registers};
 use tms_step::Machine;
 
 /// A line that shows all changes of its step.
@@ -42,9 +41,9 @@ impl StepLine for AllChanges {
 
     ghost bytes = { λ s. s.line };
 
-    fn begin(&mut self, front: &ArrayString<120>) {
+    fn begin(&mut self, front: &Line) {
         self.line.clear();
-        self.line.append(front.as_bytes());
+        self.line.append(front.as_slice());
     }
 
     fn end(&mut self, seen: &mut Seen, machine: &Machine) {
@@ -76,7 +75,7 @@ fn append_changes(line: &mut LongLine, seen: &mut Seen, machine: &Machine)
         line,
         Part::Registers,
         &mut seen.registers,
-        &vdp_registers(machine.bus().vdp()),
+        &video_registers(machine.bus().vdp()),
     );
     line.append(b"\n");
 }

@@ -1,60 +1,56 @@
 //! The line of a step that shows how many instructions the processor has executed.
 
 ghost use Rattle.std.specs.Prelude.{◌≡◌, ◌≤◌, ◌++◌, [], codes};
-ghost use Rattle.arrayvec.specs.ArrayString.{array_string_len};
+ghost use Rattle.arrayvec.specs.ArrayVec.{array_vec_len};
 ghost use Rattle.gpl_counts.specs.Counts.{count_text, counts_alone};
 
 use crate::seen::Seen;
 use crate::step_line::StepLine;
-use arrayvec::ArrayString;
-use itoa::Buffer;
+use report_lines::{Line, append, append_count};
 use tms_step::Machine;
 
 /// A line that shows the count of the machine after its step.
 #[derive(Drop)]
 pub struct Counts {
-    line: ArrayString<120>,
+    line: Line,
 }
 
 impl Counts {
     /// An empty line.
     pub fn new() -> Self
-        ensures { result.line.bytes ≡ [] }
+        ensures { result.line.items ≡ [] }
     {
-        Counts {
-            line: ArrayString::new(),
-        }
+        Counts { line: Line::new() }
     }
 }
 
 impl StepLine for Counts {
     ghost shows = { counts_alone };
 
-    ghost bytes = { λ s. s.line.bytes };
+    ghost bytes = { λ s. s.line.items };
 
-    fn begin(&mut self, front: &ArrayString<120>) {
+    fn begin(&mut self, front: &Line) {
         self.line.clear();
-        self.line.push_str(front.as_str());
+        append(&mut self.line, front.as_slice());
     }
 
     fn end(&mut self, seen: &mut Seen, machine: &Machine) {
-        push_instructions(&mut self.line, machine.count());
+        append_instructions(&mut self.line, machine.count());
         seen.keep(machine);
     }
 
     fn as_bytes(&self) -> &[u8] {
-        self.line.as_bytes()
+        self.line.as_slice()
     }
 }
 
 /// Ends a line by a number of instructions, and a line feed.
-#[tactic(auto, using(std::proofs::Common::append_assoc, crate::proofs::Decimals::twenty_digits))]
-fn push_instructions(line: &mut ArrayString<120>, count: u64)
-    requires { array_string_len line.old ≤ 79 }
-    ensures text { line.new.bytes ≡ line.old.bytes ++ (count_text count ++ codes "\n") }
+#[tactic(auto, using(std::proofs::Common::append_assoc))]
+fn append_instructions(line: &mut Line, count: u64)
+    requires { array_vec_len line.old ≤ 79 }
+    ensures { line.new.items ≡ line.old.items ++ (count_text count ++ codes "\n") }
 {
-    let mut buffer = Buffer::new();
-    line.push_str(" count ");
-    line.push_str(buffer.format(count));
-    line.push('\n');
+    append(line, b" count ");
+    append_count(line, count);
+    line.push(b'\n');
 }

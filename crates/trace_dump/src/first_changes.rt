@@ -6,34 +6,32 @@ ghost use Rattle.gpl_counts.specs.Counts.{changes_alone};
 
 use crate::seen::{Seen, changes};
 use crate::step_line::StepLine;
-use arrayvec::ArrayString;
+use report_lines::{Line, append};
 use tms_step::Machine;
 
 /// A line that shows of the cells, the video memory and its registers the first change of its step.
 #[derive(Drop)]
 pub struct FirstChanges {
-    line: ArrayString<120>,
+    line: Line,
 }
 
 impl FirstChanges {
     /// An empty line.
     pub fn new() -> Self
-        ensures { result.line.bytes ≡ [] }
+        ensures { result.line.items ≡ [] }
     {
-        FirstChanges {
-            line: ArrayString::new(),
-        }
+        FirstChanges { line: Line::new() }
     }
 }
 
 impl StepLine for FirstChanges {
     ghost shows = { changes_alone spec.changes_text };
 
-    ghost bytes = { λ s. s.line.bytes };
+    ghost bytes = { λ s. s.line.items };
 
-    fn begin(&mut self, front: &ArrayString<120>) {
+    fn begin(&mut self, front: &Line) {
         self.line.clear();
-        self.line.push_str(front.as_str());
+        append(&mut self.line, front.as_slice());
     }
 
     fn end(&mut self, seen: &mut Seen, machine: &Machine) {
@@ -41,6 +39,6 @@ impl StepLine for FirstChanges {
     }
 
     fn as_bytes(&self) -> &[u8] {
-        self.line.as_bytes()
+        self.line.as_slice()
     }
 }

@@ -10,6 +10,7 @@ use crate::workspace::put_workspace;
 use bench_io::{Failed, Sink, put_chunk};
 use grom_counter::Grom;
 use report_lines::{Line, append, append_count, append_spaced, append_word, put_rows};
+use step_changes::video_registers;
 use tms_step::Machine;
 use vdp_ports::Vdp;
 
@@ -96,26 +97,9 @@ fn vdp_registers_line(vdp: &Vdp) -> Line
 {
     let mut line = Line::new();
     append(&mut line, b"regs");
-    append_spaced(&mut line, &vdp_registers(vdp));
+    append_spaced(&mut line, &video_registers(vdp));
     line.push(b'\n');
     line
-}
-
-/// The eight registers of the video processor.
-pub(crate) fn vdp_registers(vdp: &Vdp) -> [u8; 8]
-    ensures { result ≡ vdp.now.registers }
-{
-    vdp.holds_bounds();
-    [
-        vdp.register(0),
-        vdp.register(1),
-        vdp.register(2),
-        vdp.register(3),
-        vdp.register(4),
-        vdp.register(5),
-        vdp.register(6),
-        vdp.register(7),
-    ]
 }
 
 #[tactic(auto, using(std::proofs::Common::append_assoc), unfolding(report_defs::specs::Dump::grom_line))]

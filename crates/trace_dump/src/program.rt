@@ -19,7 +19,7 @@ pub fn put_stop<O: Sink>(session: &Session, out: &mut O) -> Result<(), Failed>
         (spec.stop_lines session.now.ended (gpl_state_of session.now).pc) }
 {
     match session.ended() {
-        Some(reason) => put_chunk(out, stop_line(reason, session.pc()).as_bytes()),
+        Some(reason) => put_chunk(out, stop_line(reason, session.pc()).as_slice()),
         None => Ok(()),
     }
 }
@@ -29,7 +29,7 @@ pub fn put_state<O: Sink>(session: &Session, out: &mut O) -> Result<(), Failed>
     ensures { Written result (O.state out.old) (O.state out.new)
         (spec.state_lines (gpl_state_of session.now) session.now.machine) }
 {
-    put_chunk(out, state_line(session).as_bytes())?;
+    put_chunk(out, state_line(session).as_slice())?;
     dump(session.machine(), out)
 }
 

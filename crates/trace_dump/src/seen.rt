@@ -1,22 +1,21 @@
 //! What was seen of a program, and what has changed since.
 
 ghost use Rattle.std.specs.Prelude.{◌≡◌, ◌≤◌, ◌<◌, ◌+◌, ◌++◌, length, codes, IfOk};
-ghost use Rattle.std.specs.Fmt.{decimal};
-ghost use Rattle.arrayvec.specs.ArrayString.{array_string_len};
-ghost use Rattle.source_defs.specs.Digits.{byte_digits, hex_word};
+ghost use Rattle.arrayvec.specs.ArrayVec.{array_vec_len};
 ghost use Rattle.interp_defs.specs.Match.{shown_by};
 ghost use Rattle.report_defs.specs.Trace as spec;
+ghost use Rattle.change_defs.specs.Text.{size_of};
+ghost use Rattle.trace_dump.specs.FirstChanges.{part_label, part_place, first_text};
 
-use crate::parts::vdp_registers;
-use crate::state::push_byte_digits;
-use arrayvec::ArrayString;
+use asm_text::byte_digits;
 use byte_lists::zeros;
-use gpl_disasm::push_word;
+use change_defs::Part;
 use gpl_step_defs::VISIBLE_CELLS;
-use itoa::Buffer;
 use lane_scan::{count_differences, first_difference};
+use report_lines::{Line, append, append_count, append_word};
 use std::alloc::{AllocError, Global};
 use std::marker::Model;
+use step_changes::video_registers;
 use tms_step::Machine;
 
 /// How many cells a GPL program sees.
@@ -61,7 +60,7 @@ impl Seen {
         Ok(Seen {
             cells,
             vdp,
-            registers: vdp_registers(machine.bus().vdp()),
+            registers: video_registers(machine.bus().vdp()),
         })
     }
 
@@ -71,7 +70,7 @@ impl Seen {
     {
         self.cells.copy_from_slice(visible_cells(machine));
         self.vdp.copy_from_slice(machine.bus().vdp().memory());
-        self.registers = vdp_registers(machine.bus().vdp());
+        self.registers = video_registers(machine.bus().vdp());
     }
 }
 
@@ -79,20 +78,26 @@ impl Seen {
 /// now. Of the visible cells, the video memory and its registers the line shows how many have changed, the first of
 /// them, and what it is now.
 #[tactic(auto, using(std::proofs::Common::append_assoc), unfolding(report_defs::specs::Trace::changes_text))]
-pub fn changes(line: &mut ArrayString<120>, seen: &mut Seen, machine: &Machine)
-    requires { array_string_len line.old ≤ 79 }
-    ensures text { line.new.bytes ≡ line.old.bytes
+pub fn changes(line: &mut Line, seen: &mut Seen, machine: &Machine)
+    requires { array_vec_len line.old ≤ 79 }
+    ensures text { line.new.items ≡ line.old.items
         ++ (spec.changes_text seen.old (spec.seen_state (shown_by machine.now.cpu.memory)) ++ codes "\n") }
     ensures seen { seen.new ≡ spec.seen_state (shown_by machine.now.cpu.memory) }
 {
-    show_cells(line, &mut seen.cells, visible_cells(machine));
-    show_video(line, &mut seen.vdp, machine.bus().vdp().memory());
-    show_registers(
+    append_first(line, Part::Cells, &mut seen.cells, visible_cells(machine));
+    append_first(
         line,
-        &mut seen.registers,
-        &vdp_registers(machine.bus().vdp()),
+        Part::Video,
+        &mut seen.vdp,
+        machine.bus().vdp().memory(),
     );
-    line.push('\n');
+    append_first(
+        line,
+        Part::Registers,
+        &mut seen.registers,
+        &video_registers(machine.bus().vdp()),
+    );
+    line.push(b'\n');
 }
 
 /// The cells of a machine that a GPL program sees.
@@ -104,99 +109,50 @@ pub(crate) fn visible_cells(machine: &Machine) -> &[u8]
     &pad[..CELLS]
 }
 
-/// Appends what has changed of the visible cells, and keeps them.
+/// Appends how many bytes of a part have changed and the first of them, and keeps the part.
 #[tactic(auto, using(std::proofs::Common::append_assoc), unfolding(report_defs::specs::Trace::changed_text))]
-fn show_cells(line: &mut ArrayString<120>, kept: &mut [u8], now: &[u8])
-    requires kept { length kept.old ≡ CELLS }
-    requires now { length now.now ≡ CELLS }
-    requires room { array_string_len line.old + 14 ≤ 120 }
-    ensures text { line.new.bytes ≡ line.old.bytes ++ spec.changed_text (codes " C") spec.cell_place kept.old now.now }
-    ensures size { array_string_len line.new ≤ array_string_len line.old + 14 }
+fn append_first(line: &mut Line, part: Part, kept: &mut [u8], now: &[u8])
+    requires kept { length kept.old ≡ size_of part }
+    requires now { length now.now ≡ size_of part }
+    requires room { array_vec_len line.old + 31 ≤ 192 }
+    ensures text { line.new.items ≡ line.old.items ++ first_text part kept.old now.now }
+    ensures size { array_vec_len line.new ≤ array_vec_len line.old + 31 }
     ensures kept { kept.new ≡ now.now }
 {
     let Some(at) = first_difference(kept, now) else {
         return;
     };
-    push_count(line, " C", count_differences(kept, now));
-    push_word(line, 0x8300 + at as u16);
-    push_new(line, now[at]);
+    append(line, label(part));
+    append_count(line, count_differences(kept, now) as u64);
+    line.push(b' ');
+    append_place(line, part, at);
+    line.push(b'=');
+    append(line, &byte_digits(now[at]));
     kept.copy_from_slice(now);
 }
 
-/// Appends what has changed of the video memory, and keeps it.
-#[tactic(auto, using(std::proofs::Common::append_assoc), unfolding(report_defs::specs::Trace::changed_text))]
-fn show_video(line: &mut ArrayString<120>, kept: &mut [u8], now: &[u8])
-    requires kept { length kept.old ≡ VIDEO_SIZE }
-    requires now { length now.now ≡ VIDEO_SIZE }
-    requires room { array_string_len line.old + 16 ≤ 120 }
-    ensures text { line.new.bytes ≡ line.old.bytes ++ spec.changed_text (codes " V") hex_word kept.old now.now }
-    ensures size { array_string_len line.new ≤ array_string_len line.old + 16 }
-    ensures kept { kept.new ≡ now.now }
+/// What the changes of a part begin with.
+fn label(part: Part) -> &'static [u8]
+    ensures text { result.now ≡ part_label part }
+    ensures size { length result.now ≡ 2 }
 {
-    let Some(at) = first_difference(kept, now) else {
-        return;
-    };
-    push_count(line, " V", count_differences(kept, now));
-    push_word(line, at as u16);
-    push_new(line, now[at]);
-    kept.copy_from_slice(now);
+    match part {
+        Part::Cells => b" C",
+        Part::Video => b" V",
+        Part::Registers => b" W",
+    }
 }
 
-/// Appends what has changed of the registers of the video processor, and keeps them.
-#[tactic(auto, using(std::proofs::Common::append_assoc), unfolding(report_defs::specs::Trace::changed_text))]
-fn show_registers(line: &mut ArrayString<120>, kept: &mut [u8], now: &[u8])
-    requires kept { length kept.old ≡ 8 }
-    requires now { length now.now ≡ 8 }
-    requires room { array_string_len line.old + 10 ≤ 120 }
-    ensures text { line.new.bytes ≡ line.old.bytes
-        ++ spec.changed_text (codes " W") spec.register_place kept.old now.now }
-    ensures size { array_string_len line.new ≤ array_string_len line.old + 10 }
-    ensures kept { kept.new ≡ now.now }
+/// Appends a place of a part.
+fn append_place(line: &mut Line, part: Part, at: usize)
+    requires at { at < size_of part }
+    requires room { array_vec_len line.old + 5 ≤ 192 }
+    ensures text { line.new.items ≡ line.old.items ++ part_place part at }
+    ensures size { array_vec_len line.new ≤ array_vec_len line.old + 5 }
 {
-    let Some(at) = first_difference(kept, now) else {
-        return;
-    };
-    push_count(line, " W", count_differences(kept, now));
-    line.push(char::from(b'0' + at as u8));
-    push_new(line, now[at]);
-    kept.copy_from_slice(now);
-}
-
-/// Appends a label of two characters, a number of changed bytes in at most five digits, or three where it is below
-/// 1,000, and a blank.
-#[tactic(auto, using(std::proofs::Common::append_assoc))]
-fn push_count(line: &mut ArrayString<120>, label: &str, count: usize)
-    requires label { length label.now ≡ 2 }
-    requires count { count ≤ VIDEO_SIZE }
-    requires room { array_string_len line.old + 8 ≤ 120 }
-    ensures text { line.new.bytes ≡ line.old.bytes ++ (label.now ++ (decimal count ++ codes " ")) }
-    ensures size { array_string_len line.new ≤ array_string_len line.old + 8 }
-    ensures few { count < 1000 → array_string_len line.new ≤ array_string_len line.old + 6 }
-{
-    line.push_str(label);
-    push_decimal(line, count);
-    line.push(' ');
-}
-
-/// Appends a number in decimal digits, of which there are five at most, or three where it is below 1,000.
-fn push_decimal(line: &mut ArrayString<120>, number: usize)
-    requires number { number ≤ VIDEO_SIZE }
-    requires room { array_string_len line.old + 5 ≤ 120 }
-    ensures text { line.new.bytes ≡ line.old.bytes ++ decimal number }
-    ensures size { array_string_len line.new ≤ array_string_len line.old + 5 }
-    ensures few { number < 1000 → array_string_len line.new ≤ array_string_len line.old + 3 }
-{
-    let mut buffer = Buffer::new();
-    line.push_str(buffer.format(number));
-}
-
-/// Appends a new byte, after an equals sign.
-#[tactic(auto, using(std::proofs::Common::append_assoc))]
-fn push_new(line: &mut ArrayString<120>, byte: u8)
-    requires { array_string_len line.old + 3 ≤ 120 }
-    ensures text { line.new.bytes ≡ line.old.bytes ++ (codes "=" ++ byte_digits byte) }
-    ensures size { array_string_len line.new ≡ array_string_len line.old + 3 }
-{
-    line.push('=');
-    push_byte_digits(line, byte);
+    match part {
+        Part::Cells => append_word(line, 0x8300 + at as u16),
+        Part::Video => append_word(line, at as u16),
+        Part::Registers => line.push(b'0' + at as u8),
+    }
 }

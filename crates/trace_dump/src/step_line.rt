@@ -1,13 +1,13 @@
 //! The line of a step, by how it shows the step.
 
 ghost use Rattle.std.specs.Prelude.{◌≡◌, ◌≤◌, ◌++◌, List, ℕ, length, codes};
-ghost use Rattle.arrayvec.specs.ArrayString.{array_string_len};
+ghost use Rattle.arrayvec.specs.ArrayVec.{array_vec_len};
 ghost use Rattle.interp_defs.specs.Match.{shown_by};
 ghost use Rattle.report_defs.specs.Trace.{seen_state};
 ghost use Rattle.gpl_counts.specs.Counts.{ShowsStep};
 
 use crate::seen::Seen;
-use arrayvec::ArrayString;
+use report_lines::Line;
 use tms_step::Machine;
 
 /// The line of a step, which is written in two parts. Neither takes memory.
@@ -19,9 +19,9 @@ pub trait StepLine {
     ghost bytes: { Self → List ℕ };
 
     /// Makes the line the front of a step's line.
-    fn begin(&mut self, front: &ArrayString<120>)
-        requires { array_string_len front.now ≤ 79 }
-        ensures { bytes self.new ≡ front.now.bytes };
+    fn begin(&mut self, front: &Line)
+        requires { array_vec_len front.now ≤ 79 }
+        ensures { bytes self.new ≡ front.now.items };
 
     /// Ends the front of a step's line by what is shown of the step, and a line feed; and keeps what is seen of the
     /// machine now.

@@ -1,10 +1,11 @@
 use Rattle.std.proofs.Common.{◌-◌, length}
-use Rattle.machine_steps.proofs.AppendedChanges.{Appending}
+use Rattle.machine_change_defs.specs.Text.{place_text}
+use Rattle.step_changes.proofs.AppendedChanges.{Appending}
 use Rattle.machine_steps.proofs.area.append_area.Given as goal
 
 -- the changes up to a place stand in the line
 abbrev pub invariant-loop-from : goal.invariant-loop-from
-invariant-loop-from l = Appending l.area l.before l.now l.fn.line l.line l.at
+invariant-loop-from l = Appending (place_text l.area) l.before l.now l.fn.line l.line l.at
 
 abbrev pub decreases-loop-from : goal.decreases-loop-from
 decreases-loop-from l = length l.now - l.at

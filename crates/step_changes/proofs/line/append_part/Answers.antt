@@ -1,11 +1,12 @@
 use Rattle.std.proofs.Common.{◌+◌, ◌++◌, slice_index_or, refl, sym, ap, subst, length, ◌≤◌, List, ℕ, ◌∙◌, arith}
 use Rattle.std.proofs.lemmas.Bool.Decides.{nat_tests}
+use Rattle.change_defs.specs.Text.{place_text}
 use Rattle.step_changes.proofs.Neighbours.{change, change_is}
 use Rattle.step_changes.proofs.AppendedChanges.{append_none, append_more, unchanged}
 use Rattle.step_changes.proofs.line.append_part.Goals as goal
 
 pub loop-from-init : goal.loop-from-init
-loop-from-init c = append_none c.args.part c.args.before.now c.args.now.now c.args.line.now
+loop-from-init c = append_none (place_text c.args.part) c.args.before.now c.args.now.now c.args.line.now
 
 pub loop-from-preserved : goal.loop-from-preserved
 loop-from-preserved c =
@@ -19,7 +20,7 @@ loop-from-preserved c =
     let text = c.change_text-text.ensures.text in
     let grown = c.append.ensures ∙ ap (λ (t : List ℕ). c.loop-from.line ++ t) (c.as_slice.ensures.value ∙ text) in
     let short = subst (λ (t : List ℕ). length t ≤ 16) text c.change_text-text.ensures.size in
-    append_more c.args.part before now c.args.line.now c.loop-from.line c.append.new.self c.loop-from.at
+    append_more (place_text c.args.part) before now c.args.line.now c.loop-from.line c.append.new.self c.loop-from.at
     (change from (slice_index_or now from 0) count) (from + count) c.loop-from.invariant is refl (omega (arith, next.from_on, counted)) c.stretch-count.ensures.within
     grown short
 

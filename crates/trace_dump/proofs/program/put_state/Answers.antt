@@ -12,14 +12,14 @@ use Rattle.trace_dump.proofs.program.put_state.Goals as goal
 pub returns-in_err-put_chunk : goal.returns-in_err-put_chunk
 returns-in_err-put_chunk g c =
     let t = c.args.session.now in
-    let missed = rw (c.as_bytes.ensures.value, c.deref.ensures.0, c.state_line.ensures) at c.in_err-put_chunk.ensures in
+    let missed = rw (c.as_slice.ensures.value, c.state_line.ensures) at c.in_err-put_chunk.ensures in
     let p = err_from_is_err_and c.from_residual.result c.from_residual.ensures.1 in
     rw p.1 (missed_early _ _ (state_line (gpl_state_of t) ∷ []) (dump_lines (showing (gpl_state_of t) t.machine)) missed)
 
 pub returns : goal.returns
 returns g c =
     let t = c.args.session.now in
-    let wrote = rw (c.as_bytes.ensures.value, c.deref.ensures.0, c.state_line.ensures) at c.in_ok-put_chunk.ensures in
+    let wrote = rw (c.as_slice.ensures.value, c.state_line.ensures) at c.in_ok-put_chunk.ensures in
     let dumped = rw (c.machine.ensures) at c.dump.ensures in
     let shown =
     subst

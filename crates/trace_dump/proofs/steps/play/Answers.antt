@@ -37,7 +37,7 @@ returns-in_err-put_chunk-clause-plays g c =
     rw p.1 (ShownPrograms.breaks_off g.T.StepLine.shows c.args.session.now c.loop-made.session c.next.new.self c.args.steps.now c.loop-made.steps c.next.new.steps c.loop-made.made
     (state c.args.out.now) (state c.loop-made.out) c.loop-made.seen c.loop-made.invariant
     c.next.result c.in_default.is c.next.ensures.turned c.next.ensures.ended
-    c.trace_line.result.bytes line (c.loop-made.made + 1) c.trace_line.ensures.text refl ends
+    c.trace_line.result.items line (c.loop-made.made + 1) c.trace_line.ensures.text refl ends
     c.args.limit (state c.put_chunk.new.sink) c.loop-made-test.true missed)
 
 pub loop-made-preserved : goal.loop-made-preserved
@@ -50,7 +50,7 @@ loop-made-preserved g c =
     ShownPrograms.shown g.T.StepLine.shows c.args.session.now c.loop-made.session c.next.new.self c.args.steps.now c.loop-made.steps c.next.new.steps c.loop-made.made
     (state c.args.out.now) (state c.loop-made.out) c.loop-made.seen c.loop-made.invariant
     c.next.result c.in_default.is c.next.ensures.turned c.next.ensures.ended
-    c.trace_line.result.bytes line (c.loop-made.made + 1) c.trace_line.ensures.text refl ends
+    c.trace_line.result.items line (c.loop-made.made + 1) c.trace_line.ensures.text refl ends
     (state c.put_chunk.new.sink) c.end.new.seen wrote kept
 
 pub returns-clause-plays : goal.returns-clause-plays
