@@ -1,5 +1,6 @@
 -- What holds of all runs of `ti_debug`.
 use Rattle.std.proofs.Common.{◌≡◌, ℕ, List, length, Bool, true, false, ap, ◌∙◌, subst, inl, inr}
+use Rattle.std.proofs.Common.{sym}
 use Rattle.std.specs.Prelude.{Option, Some, IfSome, MatchBool, nat_lt}
 use Rattle.line_table.proofs.Joined.{source_gives_words}
 use Rattle.shelf_defs.specs.Files.{Files, of_files}
@@ -13,9 +14,13 @@ use Rattle.reports.proofs.Runs.{IsProgram, laws_of}
 use Rattle.bench_commands.proofs.Laws as bench
 use Rattle.bench_commands.proofs.Laws.{on_all}
 use Rattle.gpl_list_defs.proofs.RowLaws.{listings_give_programs}
+use Rattle.row_laws.proofs.StandingRows.{rows_stand_in_runs}
 use Rattle.asm_list_defs.proofs.ModuleLaws.{listings_show_modules}
 use Rattle.machine_change_defs.proofs.MemoryLead.{changes_give_memory}
 use Rattle.gpl_counts.proofs.Bounds.{counts_are_bounded, counts_are_instructions}
+use Rattle.source_modules.proofs.Reports.{small}
+use Rattle.source_modules.proofs.Files.{assembled_files_are_read}
+use Rattle.machine_change_defs.specs.Reports.{StepsReport}
 use Rattle.debug_report_defs.specs.declared.command.DebugCommand.{DebugCommand}
 use Rattle.debug_report_defs.specs.declared.command.DebugCommand.TheVariants as command
 use Rattle.debug_report_defs.specs.Listings.{rows_report, list_report}
@@ -27,6 +32,7 @@ use Rattle.debug_report_defs.proofs.SiblingLaws.{siblings_report_alike}
 use Rattle.debug_commands.specs.Listed.{ListReported}
 use Rattle.file_commands.specs.Inputs.{Inputs, ShownInputs, FaultRose}
 use Rattle.debug_commands.specs.Debug.{debug_input, ListOn, Reports, ReadFails, Shows, debug_program}
+use Rattle.debug_commands.specs.AssembledSteps.{AssembledTextsStep}
 use Rattle.debug_commands.specs.Laws.{LawsOfDebugRuns}
 
 -- the report of `list` by the answers of a shelf is that with the files that it shows
@@ -67,17 +73,27 @@ is_program =
       fails = fails;
     }
 
+assembled_texts_step : AssembledTextsStep
+assembled_texts_step m text it limit files report =
+    let stands = assembled_files_are_read m text it in
+    let fits = small text it.within in (
+      λ reported. subst (λ memory. StepsReport limit memory report) stands.links (rw fits at reported),
+      λ runs. rw fits (subst (λ memory. StepsReport limit memory report) (sym stands.links) runs),
+    )
+
 pub laws : LawsOfDebugRuns
 laws =
     record {
       runs = laws_of debug_program is_program;
       fronts = debug_fronts_begin_reports;
       listings = listings_give_programs;
+      standing = rows_stand_in_runs;
       modules = listings_show_modules;
       siblings = siblings_report_alike;
       states = lines_give_states;
       memory = changes_give_memory;
       instructions = machine_lines_give_states;
+      assembled = assembled_texts_step;
       plain = grun_reports_as_run;
       counts = counts_are_instructions;
       bounds = counts_are_bounded;

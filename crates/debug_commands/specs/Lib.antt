@@ -3,3 +3,4 @@ pub mod Gsteps
 pub mod Listed
 pub mod Debug
 pub mod Laws
+pub mod AssembledSteps

@@ -15,6 +15,8 @@ use Rattle.report_defs.specs.ProgramCommands.{AsmFiles, LinkFiles, Watch, Progra
 use Rattle.report_defs.specs.FileReports.{AsmReport, WatchReport, ReportWith}
 use Rattle.report_defs.proofs.OneReport.{one_report_with}
 use Rattle.report_defs.proofs.ListedFiles.{listed_words_come_back_with}
+use Rattle.source_modules.proofs.Reports.{assembled_texts_are_read}
+use Rattle.source_modules.proofs.Files.{assembled_files_are_read, assembled_files_link}
 use Rattle.bench_shelf.specs.States.{ShelfState}
 use Rattle.bench_shelf.proofs.FilesLaws.{module_of_shown}
 use Rattle.file_commands.specs.Reported.{CopyReported}
@@ -75,6 +77,9 @@ laws =
     record {
       runs = laws_of file_program is_program;
       listed_words = listed_words_come_back_with;
+      assembled_texts = assembled_texts_are_read;
+      assembled_files = assembled_files_are_read;
+      linked_files = assembled_files_link;
       first_hits = hits_are_first;
       ranges = ranges_hold_by_their_bytes;
       plain = bench.laws;

@@ -1,0 +1,2 @@
+pub mod StillImage
+pub mod StandingRows

@@ -1,0 +1,10 @@
+pub mod Answers
+pub mod Bytes
+pub mod Values
+pub mod Instructions
+pub mod Outcomes
+pub mod Statements
+pub mod Laid
+pub mod Modules
+pub mod Reports
+pub mod Files
