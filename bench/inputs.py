@@ -1,4 +1,5 @@
-"""What bench/run measures: the commands, each with an input that is made at a size, in the syntax of each assembler."""
+"""What bench/run and bench/peers measure: the commands, each with an input that is made at a size, in the syntax of each
+assembler."""
 import random
 
 
@@ -129,22 +130,14 @@ def loop(words):
     return f'00100        A0000{"".join("B" + word for word in words)}20000F\n:\n'.encode()
 
 
-PEERS = ('64tass', 'as')
-# a row's name, its words, the largest size, and what makes its input; the words of a peer begin with its program, and
-# end with the name of its input
+# a row's name, its words, the largest size, and what makes its input
 SIZED = [
     ('asm ordinary source', ['asm'], 57600, ordinary),
     ('asm dense source', ['asm'], 52000, dense),
-    ('64tass dense source', ['64tass', '-q', '-o', '/dev/null'], 52000, dense_for_64tass),
-    ('as dense source', ['as', '-o', '/dev/null'], 52000, dense_for_as),
     ('asm empty lines', ['asm'], 1048576, empty),
     ('gasm empty lines', ['gasm'], 1048576, empty),
     ('asm forward uses', ['asm'], 28500, forward),
-    ('64tass forward uses', ['64tass', '-q', '-o', '/dev/null'], 28500, forward_for_64tass),
-    ('as forward uses', ['as', '-o', '/dev/null'], 28500, forward_for_as),
     ('asm names alone', ['asm'], 149000, names),
-    ('64tass names alone', ['64tass', '-q', '-o', '/dev/null'], 149000, names),
-    ('as names alone', ['as', '-o', '/dev/null'], 149000, names_for_as),
     ('asm long expressions', ['asm'], 4090, expressions),
     ('asm comments', ['asm'], 58000, comments),
     ('asm words from high to low', ['asm'], 32000, falling_words),

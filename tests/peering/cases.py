@@ -37,14 +37,15 @@ local function save()
   command("trace off")
   command(string.format("save %d.pad,0x8300,0x80", number))
   command(string.format("save %d.high,0x{DATA[1].start:X},0x{len(DATA[1]):X}", number))
+  ALSO
 end
 cases(prepare, is_over, save, 60)
 """
 
 
-def script_of(begin=''):
-    """The script, with what is done as a program begins."""
-    return SCRIPT.replace('BEGIN', begin)
+def script_of(begin='', also=''):
+    """The script, with what is done as a program begins, and what else is kept of it."""
+    return SCRIPT.replace('BEGIN', begin).replace('ALSO', also)
 
 
 def listing(words):

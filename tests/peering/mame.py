@@ -13,8 +13,9 @@ ROMS = {'994a_rom_hb.u610': slice(0, None, 2), '994a_rom_lb.u611': slice(1, None
 GROMS = ('994a_grom0.u500', '994a_grom1.u501', '994a_grom2.u502')
 ROM_BYTES, GROM_BYTES, WORKSPACE = 0x2000, 0x1800, 0x83E0
 # no window, no sound, and no plugins, with which MAME 0.251 may crash as it starts
-QUIET = ('-video', 'none', '-sound', 'none', '-noplugins', '-skip_gameinfo', '-nothrottle', '-debug', '-debugger', 'none',
-         '-ioport', 'peb', '-ioport:peb:slot2', '32kmem')
+QUIET = ('-video', 'none', '-sound', 'none', '-noplugins', '-skip_gameinfo', '-nothrottle', '-ioport', 'peb',
+         '-ioport:peb:slot2', '32kmem')
+DEBUGGER = ('-debug', '-debugger', 'none')
 # The console's own program: it waits at IDLE; and at BEGIN it goes to an address, after instructions that do nothing and
 # two reads, after which no half of an address is held at a port: the case before may have ended between two halves.
 IDLE, BEGIN = 0x0028, 0x0200
@@ -93,8 +94,9 @@ def rom_of(program, target=0xA000, source=WAITING):
     return b''.join(words.get(at, 0).to_bytes(2, 'big') for at in range(0, ROM_BYTES, 2))
 
 
-def run(folder, rom, script, *words):
-    """Runs a script in a folder, from the first moment of a console with this ROM on."""
+def run(folder, rom, script, *words, debugger=True):
+    """Runs a script in a folder, from the first moment of a console with this ROM on. A script that uses MAME's debugger
+    has it; without it MAME is faster."""
     folder = pathlib.Path(folder)
     roms = folder / 'roms' / MACHINE
     roms.mkdir(parents=True)
@@ -104,8 +106,9 @@ def run(folder, rom, script, *words):
         (roms / name).write_bytes(bytes(GROM_BYTES))
     (folder / 'script.lua').write_text(FIRST + LAST + CASES + script)
     for _ in range(ATTEMPTS):
-        subprocess.run([found(), MACHINE, '-rompath', roms.parent, *QUIET, *words, '-seconds_to_run', str(10 * SECONDS),
-                        '-autoboot_delay', '0', '-autoboot_script', 'script.lua'], cwd=folder,
+        subprocess.run([found(), MACHINE, '-rompath', roms.parent, *QUIET, *(DEBUGGER if debugger else ()), *words,
+                        '-seconds_to_run', str(10 * SECONDS), '-autoboot_delay', '0', '-autoboot_script', 'script.lua'],
+                       cwd=folder,
                        env={**os.environ, 'SDL_VIDEODRIVER': 'dummy', 'SDL_AUDIODRIVER': 'dummy', 'HOME': str(folder)},
                        stdout=subprocess.DEVNULL, stderr=subprocess.DEVNULL, timeout=SECONDS, check=False)
         if (folder / 'done').exists():
