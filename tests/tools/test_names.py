@@ -1,11 +1,11 @@
-"""Tests that the documents name what the tree has: code by its names, and claims by the crates of their rows."""
+"""Tests that the documents name what the tree has: code by its names, and claims by their definitions and fields."""
 import functools
 import re
 import subprocess
 import unittest
 
 from calling import TOP
-from lib.repository import crates, crates_below, read_text
+from lib.repository import read_text
 
 # a library of others, and the end of a name
 OTHERS = {'memchr', '_tests'}
@@ -32,12 +32,6 @@ class Names(unittest.TestCase):
     def setUpClass(cls):
         listed = subprocess.run(['git', 'ls-files'], cwd=TOP, capture_output=True, text=True, check=True).stdout
         cls.files = [path for path in listed.split('\n') if (TOP / path).is_file()]
-        cls.crates = crates()
-
-    def words_of_crate(self, crate):
-        """The words of the code and the definitions of a crate."""
-        parts = (f'crates/{crate}/src/', f'crates/{crate}/specs/')
-        return words_of(path for path in self.files if path.startswith(parts))
 
     def test_names_of_code_in_the_documents_are_in_the_tree(self):
         folders = ('crates', 'tools', 'tests', 'bench', 'more-edits', 'editors')
@@ -49,18 +43,22 @@ class Names(unittest.TestCase):
             lost = [name for name in shown if not set(re.findall(r'\w+', name)) <= have]
             self.assertEqual(lost, [], path)
 
-    def test_each_claim_is_by_names_of_its_crates(self):
-        words = {crate: self.words_of_crate(crate) for crate in self.crates}
-        for row in read_text(TOP / 'docs/CLAIMS.md').split('\n'):
-            cells = [cell.strip() for cell in row.strip('|').split('|')]
-            named = re.findall(r'`(\w+)`', cells[-1])
-            if not row.startswith('|') or not named or not set(named) <= set(self.crates):
-                continue
-            below = crates_below(named, self.crates)[::-1]
-            shown = [word for cell in cells[1:-1] for name in re.findall('`([^`]+)`', cell)
-                     for word in re.findall(r'[A-Za-z_]\w*', name)]
-            lost = [word for word in shown if not any(word in words[crate] for crate in below)]
-            self.assertEqual(lost, [], cells[0])
+    def test_each_definition_of_the_claims_is_where_they_say(self):
+        named = re.findall(r'`(\w+)` of `(\w+)` \(`(\w+)`\)', re.sub(r'\s+', ' ', read_text(TOP / 'docs/CLAIMS.md')))
+        self.assertGreater(len(named), 8)
+        for name, module, crate in named[1:]:
+            with self.subTest(name):
+                self.assertIn(name, words_in(f'crates/{crate}/specs/{module}.antt'))
+
+    def test_the_claims_have_each_field_of_the_laws_of_a_run(self):
+        text = read_text(TOP / 'docs/CLAIMS.md')
+        tables = re.findall(r'^`(\w+)` of `(\w+)` \(`(\w+)`\).*:\n\n((?:\|.*\n)+)', text, re.M)
+        self.assertEqual(len(tables), 4)
+        for record, module, crate, rows in tables:
+            defined = read_text(TOP / f'crates/{crate}/specs/{module}.antt').partition(f'pub record {record} ')[2]
+            fields = re.findall(r'^  pub (\w+) :', defined.partition('\n\n')[0], re.M)
+            shown = [name for row in rows.splitlines()[2:] for name in re.findall(r'`(\w+)`', row.split('|')[1])]
+            self.assertEqual(sorted(shown), sorted(fields), record)
 
 
 if __name__ == '__main__':

@@ -8,7 +8,7 @@ PROGRAM = re.compile(r'(?<![\w./])(?:\./|(?:\.\./)+)(ti_bench|ti_debug)\b')
 LINK = re.compile(r'\[([^\]\n]*)\]\(([^)\s#:]+)(#[^)\s]*)?\)')
 # the documents that are about the repository, whose commands are given there
 OF_REPOSITORY = {'CHANGELOG.md', 'CONTRIBUTING.md', *(f'docs/{name}.md' for name in (
-    'ARCHITECTURE', 'CLAIMS', 'DECISIONS', 'INSTALL', 'INTERPRETER', 'PROOF', 'RELEASE', 'TESTING'))}
+    'ARCHITECTURE', 'CLAIMS', 'DECISIONS', 'INSTALL', 'INTERPRETER', 'PROOF', 'REFEREES', 'RELEASE', 'TESTING'))}
 
 
 def linked(path, text, places):

@@ -1,7 +1,5 @@
-"""The columns of docs/INTERPRETER.md that follow from the listing, and docs/OPERATIONS.md."""
+"""The table of memory in docs/INTERPRETER.md, which follows from the listing."""
 from lib.repository import TOP, read_text
-
-from . import operations, pieces
 
 PAGE = 'docs/INTERPRETER.md'
 MEMORY = [
@@ -54,26 +52,7 @@ def memory_rows(listing):
             for at, behind, (_, about) in zip(places, places[1:], MEMORY)]
 
 
-def piece_rows(old, found):
-    """The rows of the pieces: what a row calls its piece is kept, and the other columns are told."""
-    rows, crate, left = [], '', dict(found)
-    for row in old:
-        about = row.strip('|').split(' | ')[0].strip()
-        piece = left.pop(about.split(': ')[-1], None)
-        if piece is None:
-            raise SystemExit(f'tools/interpreter: docs/INTERPRETER.md has a row for no piece: {about}')
-        function = f'`{piece.function}`' if piece.crate == crate else f'`{piece.crate}`, `{piece.function}`'
-        crate = piece.crate
-        told = f'`>{piece.place:04X}` | {piece.most} | {len(piece.ways)} | {", ".join(piece.ends)}'
-        rows.append(f'| {about} | {told} | {function} |')
-    if left:
-        raise SystemExit('tools/interpreter: docs/INTERPRETER.md has no row for the pieces ' + ', '.join(left))
-    return rows
-
-
 def files(listing):
-    found = pieces.functions(listing)
-    page = read_text(TOP / PAGE)
-    page = table(page, '| Address | Part | Words |', lambda old: memory_rows(listing))
-    page = table(page, '| Piece | Address | Most | Paths | Ends | Function |', lambda old: piece_rows(old, found))
-    return {PAGE: page, 'docs/OPERATIONS.md': operations.page(listing, found)}
+    """The page with its table of memory."""
+    page = table(read_text(TOP / PAGE), '| Address | Part | Words |', lambda old: memory_rows(listing))
+    return {PAGE: page}

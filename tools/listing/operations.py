@@ -1,7 +1,10 @@
-"""docs/OPERATIONS.md: each operation of GPL with all that stands of it, at one place."""
+"""Each operation of GPL with all that stands of it, at one place."""
 import re
 
+from lib.command import Stopped
 from lib.repository import TOP, read_text
+
+from . import pieces
 
 
 STEP, ARITHMETIC = (f'crates/gpl_step_defs/specs/{it}.antt' for it in ('Step', 'Arithmetic'))
@@ -16,17 +19,7 @@ DEFINED = {'plain': ('plain', STEP), 'byte': ('with_immediate', STEP), 'go': ('j
 ARM = re.compile(r'(?:PlainOp|ByteOp|GoOp|OneName|TwoName)::\w+|::Branch\b|::Move\b')
 MOVES = {'GromToMemory': 'from GROM', 'GromIndexedToMemory': 'from GROM with an index', 'MemoryToMemory': 'from memory',
          'GromToRegisters': 'to registers of the video processor'}
-HEAD = '''<!-- Written by tools/interpreter from the interpreter's source, the definitions and the crates of the pieces. -->
-# Operations
-
-Each operation of GPL at one place: its code bytes, its definition, where the interpreter runs it, the words of its
-own, the pieces that the proofs go over with their bounds, the function whose contract is that the words do what the
-definition says, and some of the wrong bodies that are refused. How the pieces work together is explained in
-[INTERPRETER.md](INTERPRETER.md), what the operations mean in [GPL_STEP.md](GPL_STEP.md).
-
-*Most* is the number of instructions of a piece along its longest way, *Ways* how many ways it has. An end with a label
-in brackets is a routine that returns there. A code that is odd means words where an operation has both widths.
-'''
+SHARED = [('The step and its dispatch', STEPS), ('Operands of a row', ROWS), ('Routines', ROUTINES), ('Ends', TAILS)]
 
 
 def operations():
@@ -217,14 +210,10 @@ def section(listing, found, kind, name, code, count, every):
     return lines + [''] + words_table(found, labels) + [''] + piece_table(found, labels)
 
 
-def page(listing, found):
-    every = edits()
-    lines = HEAD.rstrip('\n').split('\n')
-    for kind, name, code, count in operations():
-        lines += section(listing, found, kind, name, code, count, every)
-    shared = [('The step and its dispatch', STEPS), ('Operands of a row', ROWS), ('Routines', ROUTINES),
-              ('Ends', TAILS)]
-    for about, labels in shared:
+def shared(found, every):
+    """The sections of what the operations share."""
+    lines = []
+    for about, labels in SHARED:
         labels = [label for label in labels if label in found and not (about == 'Ends' and label in STEPS)]
         lines += ['', f'## {about}', '', 'Shared by the operations.', ''] + words_table(found, labels) + ['']
         lines += piece_table(found, labels)
@@ -232,4 +221,27 @@ def page(listing, found):
         own = [edit for edit in every if (edit.crate, edit.function) in functions]
         if own:
             lines += ['', 'Refused: ' + ', '.join(edit.name for edit in own) + '.']
-    return '\n'.join(lines) + '\n'
+    return lines
+
+
+def pages(listing, names):
+    """The lines of the sections of these operations, in the order of their codes; `shared` is what they share, and
+    `every` all of these."""
+    rows, wanted = operations(), {name.upper() for name in names}
+    known = {row[1] if row[0] != 'move' else 'MOVE' for row in rows}
+    wrong = wanted - known - {'SHARED', 'EVERY'}
+    if wrong:
+        raise Stopped(f'no operation {", ".join(sorted(wrong))}; there are {", ".join(sorted(known))}, shared and every')
+    found, refused, lines = pieces.functions(listing), edits(), []
+    for kind, name, code, count in rows:
+        if wanted & {'MOVE' if kind == 'move' else name, 'EVERY'}:
+            lines += section(listing, found, kind, name, code, count, refused)
+    if wanted & {'SHARED', 'EVERY'}:
+        lines += shared(found, refused)
+    return lines[1:]
+
+
+def all_pieces(listing):
+    """The table of all pieces, in the order of their addresses."""
+    found = pieces.functions(listing)
+    return piece_table(found, sorted(found, key=lambda label: found[label].place))
