@@ -226,6 +226,55 @@ class Windows(Calling):
         self.assertEqual(record.memory(at)[0x8300], 250)
 
 
+class ProcessorWindows(Calling):
+    """The same of object text, whose states are those that `exec` writes."""
+
+    def setUp(self):
+        super().setUp()
+        self.file('a.asm', REGISTER)
+        self.program = program.program()
+        self.objects = self.program.run('asm', given=REGISTER).out
+        self.file('a.obj', self.objects)
+
+    def record(self, *words):
+        ended = self.call('steps', '-o', 'a.html', '--exec', '--source', 'a.asm', *words, 'a.obj')
+        self.assertEqual((ended.returncode, ended.stderr), (0, b''))
+        return Record(pages.read(str(self.folder / 'a.html')))
+
+    def test_each_state_is_the_one_that_exec_writes(self):
+        whole = self.record('--to', '60')
+        for words in (['--from', '7', '--to', '20'], ['--from', '1', '--to', '60'], ['--from', '59', '--to', '60'],
+                      ['--to', '5'], ['--at', 'R3 = 36', '--to', '60'], ['--from', '9', '--at', 'R2 = 1']):
+            with self.subTest(words):
+                part = self.record(*words)
+                for number in range(part.first, min(part.last, whole.last) + 1):
+                    report = self.program.run('exec', str(number), given=self.objects).out.decode()
+                    shown = re.search('PC >(....) WP >(....) ST >(....)', report).groups()
+                    self.assertEqual(part.next_at(number), tuple(int(digits, 16) for digits in shown))
+                    self.assertEqual(part.memory(number)[CELLS:CELLS + 0x100], dump(report).pad)
+                    self.assertEqual(part.memory(number), whole.memory(number))
+                    self.assertEqual([frame[:2] for frame in part.frames(number)],
+                                     [frame[:2] for frame in whole.frames(number)])
+                self.assertEqual([step.text for step in part.steps][:whole.last - part.first],
+                                 [step.text for step in whole.steps[part.first:part.last]])
+
+    def test_a_page_opens_at_the_first_step_of_its_condition(self):
+        whole = self.record('--to', '60')
+        for text in ('R3 = 36', 'PC = TABLE', 'R11 changes', 'DEPTH > 2', 'STEP = 20'):
+            first = whole.where(condition(text, whole.names))[0]
+            self.assertEqual(self.record('--at', text).data['at'], first)
+            self.assertEqual(self.record('--from', str(first - 1), '--at', text).data['at'], first)
+
+    def test_what_is_not_there_is_said(self):
+        for words, status, text in (
+                (['--at', 'R3 = 77', '--to', '60'], 1, b'R3 = 77: at no step of 60\n'),
+                (['--at', 'R3 = 77', '--to', '20'], 1, b'R3 = 77: at no step of 20\n'),
+                (['--at', 'R3 ='], 2, b'R3 =: a name, a number or a place is wanted at the end\n')):
+            ended = self.call('steps', '--exec', *words, 'a.obj')
+            self.assertEqual((ended.returncode, ended.stdout), (status, b''))
+            self.assertTrue(ended.stderr.endswith(text), ended.stderr)
+
+
 class Conditions(Calling):
     """Values that are worked out by hand; tests/page compares both languages on many more."""
 

@@ -8,6 +8,7 @@ from expanding.names import REFUSED, WORDS
 from expanding.places import Place, Refused
 from expanding.refusals import note_missing
 from expanding.source import of_file
+from lib.collection import without_collection
 from lib.command import MOST_BYTES, Stopped, read
 from lib.languages import GPL
 
@@ -51,6 +52,7 @@ def has_forms(source, language=GPL):
                for form in FORM[language] for found in form.finditer(upper))
 
 
+@without_collection()
 def expanded(path, source, defines=(), language=GPL, most=1):
     """A source that a path names, expanded; Refused if one of its lines has a form in a wrong way. Each pair of a name
     and a value counts as a line with EQU before the first. If more refusals are wanted, up to so many are in what is
@@ -91,10 +93,13 @@ def is_taken(expansion, main):
 def named(expansion):
     """Gives the local labels of an expansion names, in all its lines: the labels by their names."""
     labels = expansion.labels
-    names = labels.names(expansion.texts) if labels.found else []
-    if names:
-        expansion.texts[:] = labels.named(expansion.texts, names)
-        expansion.written[:] = labels.spelled(expansion.written)
+    if not labels.found:
+        return {}
+    names = labels.names(expansion.texts)
+    expansion.texts[:] = labels.named(expansion.texts, names)
+    expansion.written[:] = labels.spelled(expansion.written)
+    expansion.left_out[:] = labels.spelled_rows(expansion.left_out)
+    expansion.uses[:] = labels.spelled_rows(expansion.uses)
     return dict(zip(names, labels.found))
 
 

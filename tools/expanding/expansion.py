@@ -26,47 +26,42 @@ class Expansion:
 
     def __init__(self, folder, names, words, most=1):
         self.folder, self.names, self.words, self.macros = folder, {**REGISTERS, **names}, words, {}
+        self.labels, self.scope = Labels([]), Scope('')
         # the refusals, and the lines that are left out for them: their numbers and the author's texts
-        self.refusals, self.left_out = Refusals(most), []
+        self.refusals, self.left_out = Refusals(most, self.labels), []
         # of each line its text, its place, and the author's line that it comes from
         self.texts, self.places, self.written, self.size = [], [], [], 0
         self.files, self.copies = [], 0
         # the uses of macros: the name, the place and the author's line
         self.uses = []
-        self.labels, self.scope = Labels([]), Scope('')
         self.block, self.cells = None, []
         # of each operation that nothing defines the first line, as place and text
         self.unknown = {}
         # the lines in which END was
         self.ended = None
+        # what takes a line that has a form or uses a macro, by its operation; and the operations that say no more
         self.forms = {name: getattr(self, f'take_{name.lower()}') for name in FORMS}
+        self.plain = words.known - {'EQU', 'END'} | {''}
 
     def take(self, source):
-        """Takes lines up to their end, or to that of the source."""
+        """Takes lines up to their end, or to that of the source: each by its form if it has one."""
         for text in source:
             number = source.number
             try:
-                self.take_text(source, text)
-            except Refused as refused:
-                self.refusals.note(refused)
+                operation = operation_of(text)
+                form = self.forms.get(operation)
+                if form:
+                    form(source, parts_of(text))
+                else:
+                    self.take_line(source, text, operation)
+            except (Refused, Unvalued) as error:
+                self.refusals.note(error if isinstance(error, Refused) else source.refused(str(error)))
                 self.write(source, label_left(text, self.words.known), number)
                 self.left_out.append((len(self.texts), text))
             if self.ended:
                 return
         if source.open:
             self.refusals.note(conditions.is_open(source))
-
-    def take_text(self, source, text):
-        """Takes a line, by its form if it has one."""
-        operation = operation_of(text)
-        form = self.forms.get(operation) or (self.take_use if operation in self.macros else None)
-        try:
-            if form:
-                form(source, parts_of(text))
-            else:
-                self.take_line(source, text, operation)
-        except Unvalued as error:
-            raise source.refused(str(error)) from None
 
     def note(self, source, cause):
         """Notes the refusal of a line whose form goes on with the lines after it."""
@@ -79,25 +74,35 @@ class Expansion:
             raise source.refused(f'too large: with this line the source has more than {MOST_TEXT:,} bytes')
         self.texts.append(text)
         self.places.append(source.place_of(number) if number else source.place)
-        self.written.append(source.texts[(number or source.number) - 1])
+        self.written.append(source.texts[number - 1] if number else source.text)
 
     def take_line(self, source, text, operation):
         """A line that has no form, but perhaps local labels."""
-        has_label = text[:1] not in UNLABELLED
         if '.' in text and text[0] != '*':
-            label, gap, written, second_gap, operands, *rest = parts_of(text)
-            label = self.label(source, label, operation) if has_label else label
-            operands = operands if operation in self.words.bare else self.marked(source, operands)
-            text = ''.join([label, gap, written, second_gap, operands, *rest])
-        elif has_label:
+            text = self.with_marks(source, text, operation)
+        elif text[:1] not in UNLABELLED:
             self.label(source, label_of(text), operation)
+        if operation not in self.plain:
+            self.note_line(source, text, operation)
+        self.write(source, text)
+
+    def note_line(self, source, text, operation):
+        """Notes what a line says of a name, of the end, or of an operation that is not known."""
         if operation == 'EQU':
             self.note_value(parts_of(text))
         elif operation == 'END':
             self.ended = source
-        elif operation and operation not in self.words.known:
+        else:
             self.unknown.setdefault(operation, (source.place, source.text))
-        self.write(source, text)
+
+    def with_marks(self, source, text, operation):
+        """A line with the characters that stand for local labels."""
+        label, gap, written, second_gap, operands, rest, end = parts_of(text)
+        if text[0] not in UNLABELLED:
+            label = self.label(source, label, operation)
+        if operation not in self.words.bare:
+            operands = self.marked(source, operands)
+        return f'{label}{gap}{written}{second_gap}{operands}{rest}{end}'
 
     def marked(self, source, operands):
         """Operands with the characters that stand for local labels."""
@@ -105,10 +110,10 @@ class Expansion:
 
     def label(self, source, label, operation=''):
         """A label; the character that stands for it, if it is local."""
-        if label.startswith('.') and LABEL.fullmatch(label):
-            label = self.labels.mark(source.scope or self.scope, label, source)
+        if label[0] == '.' and LABEL.fullmatch(label):
+            return self.labels.local(source.scope or self.scope, label, source).put(source)
         if not label.isascii() and MARK.fullmatch(label):
-            return self.labels.placed(label, source)
+            return self.labels.of(label).put(source)
         if operation != 'EQU' and not source.scope:
             self.scope = Scope(label.upper())
         return label
@@ -180,6 +185,7 @@ class Expansion:
         texts = self.lines_of(source, name, parameters)
         if not wrong and parameters is not None:
             self.macros[name] = Macro(name, parameters, texts, source.place.file, first)
+            self.forms[name] = self.take_use
 
     def wrong_name(self, name):
         """Why a macro may not have a name, or None."""

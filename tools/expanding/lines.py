@@ -1,13 +1,16 @@
 """The fields of a line with the blanks between them, and a line that is changed and keeps its columns."""
+import functools
 import re
 import typing
 
-PARTS = re.compile(r"([^ \t]*)([ \t]*)([^ \t]*)([ \t]*)((?:[^ \t']+|'[^']*(?:'|\Z))*)(.*)", re.S)
+PARTS = re.compile(r"([^ \t]*)([ \t]*)([^ \t]*)([ \t]*)((?:[^ \t']+|'[^']*(?:'|\Z))*)(.*)()", re.S)
 LABEL = re.compile(r'[^ \t]*')
 OPERATION = re.compile(r'(?!\*)[^ \t]*[ \t]+([^ \t\r]+)')
 PIECE = re.compile(r"(?:[^,']|'[^']*(?:'|\Z))+|(?<=,)(?=,|\Z)|\A(?=,)")
 # the most characters of a line
 LONGEST = 256
+# for how many lines the parts are kept: those of macros come again and again, and an editor's all after each key
+MOST_KEPT = 1 << 15
 
 
 class Parts(typing.NamedTuple):
@@ -22,16 +25,19 @@ class Parts(typing.NamedTuple):
     end: str
 
 
+@functools.lru_cache(MOST_KEPT)
 def operation_of(text):
     """The operation of a line in upper case; none of a comment."""
     found = OPERATION.match(text)
     return found[1].upper() if found else ''
 
 
+@functools.lru_cache(MOST_KEPT)
 def parts_of(text):
     """The parts of a line."""
-    end = '\r' if text.endswith('\r') else ''
-    return Parts._make((*PARTS.match(text.removesuffix('\r')).groups(), end))
+    if text.endswith('\r'):
+        return Parts._make((*PARTS.match(text[:-1]).groups()[:-1], '\r'))
+    return Parts._make(PARTS.match(text).groups())
 
 
 def label_of(text):

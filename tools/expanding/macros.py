@@ -1,9 +1,9 @@
 """Macros: their definitions, and the lines that a use of one stands for."""
 import re
-import typing
 
 from expanding.expression import Unvalued
 from expanding.lines import parts_of, pieces
+from expanding.places import Within
 
 NAME = re.compile(r'[A-Za-z][0-9A-Za-z_]{0,30}')
 TEXT = re.compile(r"'(?:[^']|'')*'")
@@ -11,13 +11,26 @@ MENTION = re.compile(r'\\(?:LEN\(([0-9A-Za-z_]+)\)|([A-Za-z][0-9A-Za-z_]*))', re
 QUOTED = re.compile(r"'[^']*(?:'|\Z)")
 
 
-class Macro(typing.NamedTuple):
+class Macro:
     """A macro: its name, its parameters in upper case, its lines, and the file and the number of its first line."""
-    name: str
-    parameters: tuple
-    texts: list
-    file: str
-    first: int
+
+    def __init__(self, name, parameters, texts, file, first):
+        self.name, self.parameters, self.texts, self.file, self.first = name, parameters, texts, file, first
+        # of each line its place in the macro, as the end of a place
+        self.lines = [(Within(name, file, number),) for number in range(first, first + len(texts))]
+        # the mentions of parameters, each with the parameter and whether its length is meant, and the lines as % fills
+        # these in; one that is no parameter stays
+        self.mentions = {}
+        self.forms = [MENTION.sub(self.form, text.replace('%', '%%')) if '\\' in text else text for text in texts]
+
+    def form(self, mention):
+        """What stands for a mention in a line that % fills."""
+        measured, named = mention.groups()
+        parameter = (measured or named).upper()
+        if parameter not in self.parameters:
+            return mention[0]
+        self.mentions[mention[0]] = parameter, bool(measured)
+        return f'%({mention[0]})s'
 
     def filled(self, operands):
         """The lines that a use with these operands stands for."""
@@ -25,20 +38,16 @@ class Macro(typing.NamedTuple):
         if len(given) != len(self.parameters):
             raise Unvalued(f'operand count: {self.name} takes {len(self.parameters)}, and {len(given)} are given')
         values = dict(zip(self.parameters, given))
-        return [MENTION.sub(lambda it: said(it, values), text) if '\\' in text else text for text in self.texts]
+        said = {mention: length(mention, values[name]) if is_length else values[name]
+                for mention, (name, is_length) in self.mentions.items()}
+        return [form % said if '\\' in form else form for form in self.forms]
 
 
-def said(mention, values):
-    """What a mention of a parameter says, or the length of its text; one that is no parameter stays."""
-    measured, named = mention.groups()
-    found = values.get((measured or named).upper())
-    if found is None:
-        return mention[0]
-    if named:
-        return found
-    if not TEXT.fullmatch(found):
-        raise Unvalued(f'{mention[0]} is the length of a text in quotes, and the operand is {found}')
-    return str(len(found[1:-1].replace("''", "'")))
+def length(mention, text):
+    """The length of the text in quotes that an operand is."""
+    if not TEXT.fullmatch(text):
+        raise Unvalued(f'{mention} is the length of a text in quotes, and the operand is {text}')
+    return len(text[1:-1].replace("''", "'"))
 
 
 def parameters_of(operands):

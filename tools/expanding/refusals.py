@@ -7,13 +7,15 @@ VALUED = {'EQU', 'END'}
 
 
 class Refusals:
-    """The refusals that are met, up to so many, of which the last one ends the expansion."""
+    """The refusals that are met, up to so many, of which the last one ends the expansion. Local labels are in them as
+    they are written."""
 
-    def __init__(self, most):
-        self.most, self.found = most, {}
+    def __init__(self, most, labels):
+        self.most, self.labels, self.found = most, labels, {}
 
     def note(self, refused):
         """Notes a refusal; the same one may be met again where the lines of an outer file go on."""
+        refused = Refused(refused.place, *self.labels.spelled([refused.cause, refused.text]))
         self.found.setdefault(str(refused), refused)
         if len(self.found) >= self.most:
             raise refused

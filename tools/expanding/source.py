@@ -1,5 +1,5 @@
 """Lines that are taken one after the other, each with its place."""
-from expanding.places import Place, Refused, Within
+from expanding.places import Place, Refused
 
 
 class Lines:
@@ -10,25 +10,16 @@ class Lines:
         self.texts, self.place_of, self.depth, self.scope = texts, place_of, depth, scope
         # how many are taken, and the numbers of the lines IF that are open, each with whether its ELSE was there
         self.number, self.open = 0, []
-        # the place of the line that was asked for last, with its number
-        self.asked, self.answer = 0, None
+        # the place and the text of the line that was taken last
+        self.place, self.text = None, ''
 
     def __iter__(self):
         texts, last = self.texts, len(self.texts)
         while self.number < last:
+            self.text = texts[self.number]
             self.number += 1
-            yield texts[self.number - 1]
-
-    @property
-    def place(self):
-        """The place of the line that was taken last."""
-        if self.asked != self.number:
-            self.asked, self.answer = self.number, self.place_of(self.number)
-        return self.answer
-
-    @property
-    def text(self):
-        return self.texts[self.number - 1]
+            self.place = self.place_of(self.number)
+            yield self.text
 
     def refused(self, cause, number=None):
         """The refusal of the line that was taken last, or of another one."""
@@ -44,7 +35,6 @@ def of_file(name, data, depth=0, scope=None):
 
 def of_use(macro, texts, place, depth, scope):
     """The lines that the use of a macro at a place stands for."""
-    def place_of(number):
-        within = Within(macro.name, macro.file, macro.first + number - 1)
-        return Place(place.file, place.number, place.within + (within,))
-    return Lines(texts, place_of, depth, scope)
+    file, line, within = place
+    places = [within + it for it in macro.lines] if within else macro.lines
+    return Lines(texts, lambda number: Place(file, line, places[number - 1]), depth, scope)

@@ -3,6 +3,7 @@ import asyncio
 import concurrent.futures
 import contextlib
 import os
+import threading
 import time
 import typing
 
@@ -102,7 +103,10 @@ class Roots:
             return before_this.names if before_this else {}
 
         def seen(found):
-            loop.call_soon_threadsafe(self.publish_of, root, source, [*found], known)
+            # the thread goes on once this is sent: only one thread of Python runs at a time, and it would go first
+            sent = threading.Event()
+            loop.call_soon_threadsafe(self.publish_of, root, source, [*found], known, sent)
+            sent.wait(SOON)
         try:
             root.analysis = found = await self.at_once(analyse, source, root.shadow, self.defines, seen)
         except Cancelled:
@@ -111,9 +115,12 @@ class Roots:
         if found.is_whole and source.language == 'gpl':
             root.rest = asyncio.ensure_future(self.warned(root, found))
 
-    def publish_of(self, root, source, found, known):
-        if root.task and not root.task.done():
-            self.publish(root, source, showing.refused(source, found, known))
+    def publish_of(self, root, source, found, known, sent):
+        try:
+            if root.task and not root.task.done():
+                self.publish(root, source, showing.refused(source, found, known))
+        finally:
+            sent.set()
 
     async def warned(self, root, analysis):
         """Looks for warnings if the text stays as it is for a while."""

@@ -5,6 +5,8 @@ import typing
 from lib import command
 
 HEAD = re.compile(rb'([ 0-9]{6}[0-9]) >([0-9A-F]{4}) (.{23}) (.*)', re.S)
+# the column of the bytes, if there are none
+NONE = b' ' * 23
 MORE = re.compile(rb' {8}>[0-9A-F]{4} ((?:[0-9A-F]{2} ?)+)')
 NAME = re.compile(rb'name >([0-9A-F]{4}) ([ 0-9]{6}[0-9]) (.*)', re.S)
 
@@ -35,7 +37,9 @@ def listing_of(report):
     lines, names = [], []
     for row in report.split(b'\n')[:-1]:
         if head := HEAD.fullmatch(row):
-            lines.append(Line(int(head[1]), int(head[2], 16), bytes.fromhex(head[3].decode()), head[4]))
+            number, address, shown, text = head.groups()
+            data = b'' if shown == NONE else bytes.fromhex(shown.decode())
+            lines.append(Line(int(number), int(address, 16), data, text))
         elif more := MORE.fullmatch(row):
             lines[-1] = lines[-1]._replace(data=lines[-1].data + bytes.fromhex(more[1].decode()))
         elif name := NAME.fullmatch(row):

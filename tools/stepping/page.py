@@ -101,8 +101,9 @@ def byte_after(run, place):
 def lines_of(lines):
     """The lines: text, address and bytes, and what a line is called, if that is not its number among them."""
     for number, line in enumerate(lines, 1):
-        called = getattr(line, 'name', str(number))
-        yield [shown(line.text), line.address, line.data.hex(), *([called] if called != str(number) else [])]
+        row = [shown(line.text), line.address, line.data.hex()]
+        called = getattr(line, 'name', None)
+        yield row if called is None or called == str(number) else [*row, called]
 
 
 def kinds_of(lines, language):
