@@ -44,7 +44,7 @@ class Expansion:
         self.plain = words.known - {'EQU', 'END'} | {''}
 
     def take(self, source):
-        """Takes lines up to their end, or to that of the source: each by its form if it has one."""
+        """Takes lines up to END or to the end of the source, each by its form if it has one."""
         for text in source:
             number = source.number
             try:

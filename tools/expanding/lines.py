@@ -9,7 +9,8 @@ OPERATION = re.compile(r'(?!\*)[^ \t]*[ \t]+([^ \t\r]+)')
 PIECE = re.compile(r"(?:[^,']|'[^']*(?:'|\Z))+|(?<=,)(?=,|\Z)|\A(?=,)")
 # the most characters of a line
 LONGEST = 256
-# for how many lines the parts are kept: those of macros come again and again, and an editor's all after each key
+# for how many lines the parts are kept: the lines of macros come again and again, and in an editor all lines after
+# each key
 MOST_KEPT = 1 << 15
 
 

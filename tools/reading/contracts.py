@@ -4,6 +4,7 @@ import re
 import typing
 
 from lib.repository import TOP, read_text, shown
+from reading.files import file_of
 
 CALL = re.compile(r'( *)(?:pub )?(?:const )?fn (\w+)')
 TRAIT = re.compile(r'pub trait (\w+)')
@@ -55,7 +56,7 @@ def comment(lines, at):
 
 
 def imports(text):
-    """What a file may cite: the crate and module of each definition by its name; and those of a module by its alias."""
+    """What a file may cite: the crate and module of each definition by its name, and of each module by its alias."""
     names, aliases = {}, {}
     for crate, module, cited_names, alias in USE.findall(text):
         if crate in KIT:
@@ -65,16 +66,6 @@ def imports(text):
         for own, name in re.findall(r'(\w+)(?: as (\w+))?', cited_names):
             names[name or own] = (crate, module, own)
     return names, aliases
-
-
-def file_of(crate, module):
-    """The file of a module of definitions, or of what src/ declares; None if it is not in this repository."""
-    parts, folder = module.split('.'), TOP / 'crates' / crate
-    if parts[0] == 'declared':
-        paths = [folder / 'src' / f'{"/".join(parts[1:end])}.rt' for end in range(len(parts), 1, -1)]
-    else:
-        paths = [folder / 'specs' / f'{"/".join(parts[:end])}.antt' for end in range(len(parts), 0, -1)]
-    return next((path for path in paths if path.is_file()), None)
 
 
 @functools.lru_cache(None)
@@ -115,9 +106,9 @@ def calls_of_file(crate, path):
         elif line == '}':
             owner, is_trait = '', False
         if call and (is_trait or ' pub ' in f' {line}'):
-            made = signature(lines, at, call[1])
-            yield Call(crate, f'{owner}::{call[2]}' if owner else call[2], f'{shown(path)}:{at + 1}', comment(lines, at),
-                       made, cited('\n'.join(made), known, aliases))
+            made, name = signature(lines, at, call[1]), f'{owner}::{call[2]}' if owner else call[2]
+            yield Call(crate, name, f'{shown(path)}:{at + 1}', comment(lines, at), made,
+                       cited('\n'.join(made), known, aliases))
 
 
 def calls(crate):
