@@ -69,9 +69,8 @@ class Model:
         import tms_copied
         import tms_dump
         import tms_processor
-        import tms_reader
         import tms_runs
-        self.assembled, self.runs, self.reader = tms_copied.report, tms_runs, tms_reader
+        self.assembled, self.runs = tms_copied.report, tms_runs
         self.shown, self.decoded = tms_dump, tms_processor.DECODED
 
     def run(self, command, *words, given=b''):
