@@ -6,3 +6,4 @@ pub mod ReadLaws
 pub mod ShortLaws
 pub mod MeaningLaws
 pub mod ImageLaws
+mod OperationRows

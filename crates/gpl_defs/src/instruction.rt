@@ -88,23 +88,23 @@ pub enum GoOp {
     CALL,
 }
 
-/// One operand in memory: absolute value, negate, invert, clear, branch by a table of branches, compare with zero,
-/// increment, decrement, increment by two, decrement by two, fetch a byte after the call of the subroutine, push onto the
-/// data stack.
+/// One operand in memory: absolute value, negate, invert, clear, fetch a byte after the call of the subroutine, branch
+/// by a table of branches, push onto the data stack, compare with zero, increment, decrement, increment by two,
+/// decrement by two.
 #[derive(Clone, Copy, Debug, PartialEq, Eq)]
 pub enum OneName {
     ABS,
     NEG,
     INV,
     CLR,
+    FETCH,
     CASE,
+    PUSH,
     CZ,
     INC,
     DEC,
     INCT,
     DECT,
-    FETCH,
-    PUSH,
 }
 
 /// Two operands, the destination first: add, subtract, multiply, divide, and, or, exclusive or, store, exchange; compare

@@ -2,10 +2,12 @@
 #![tactic(auto)]
 
 mod instruction;
+mod operations;
 mod scratchpad;
 
 pub use instruction::{
     ByteOp, GoOp, GplInstr, GplOperand, GplOperation, GplRead, GplSource, MoveKind, MoveLength,
     MoveSource, MoveTarget, OneName, PlainOp, Space, TwoName,
 };
+pub use operations::OPERATIONS;
 pub use scratchpad::SCRATCHPAD;

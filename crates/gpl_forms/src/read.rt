@@ -5,7 +5,7 @@ ghost use Rattle.std.specs.Prelude.{◌≡◌, ◌/◌, ◌%◌, ◌==◌, ℕ, 
 ghost use Rattle.gpl_defs.specs.Codes.{operation_at};
 ghost use Rattle.gpl_defs.specs.Reading as spec;
 
-use crate::codes::operation_at;
+use crate::operations::operation_at;
 use crate::write::write_instr;
 use byte_lists::holds_bytes;
 use gpl_defs::{

@@ -6,7 +6,7 @@ ghost use Rattle.gpl_defs.specs.Reading.{AreReadAs};
 ghost use Rattle.gpl_defs.specs.Spellings.{IsShortest};
 ghost use Rattle.gpl_defs.specs.Valid.{is_valid};
 
-use crate::rows::code_of;
+use crate::operations::code_of;
 use arrayvec::ArrayVec;
 use gpl_defs::{
     GplInstr, GplOperand, GplOperation, GplSource, MoveKind, MoveLength, MoveSource, MoveTarget,
