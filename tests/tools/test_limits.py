@@ -7,7 +7,7 @@ from lib.repository import read_text
 
 # each limit by its file and its constant, the phrase that states it, and the files that do
 LIMITS = [
-    ('report_defs/src/limits.rt', 'LARGEST_INPUT', r'{} bytes',
+    ('shelf_defs/src/limits.rt', 'LARGEST_INPUT', r'{} bytes',
      ['docs/OBJECT.md', 'docs/REPORTS.md', 'docs/SECURITY.md', 'man/ti_bench.1', 'tests/hostile']),
     ('report_defs/src/limits.rt', 'MOST_INSTRUCTIONS', r'{}', ['README.md', 'docs/REPORTS.md', 'docs/SECURITY.md',
                                                                'man/ti_bench.1', 'man/ti_debug.1', 'tools/launcher']),

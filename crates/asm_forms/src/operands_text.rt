@@ -7,7 +7,8 @@ ghost use Rattle.instruction_defs.specs.Operands.{following_words};
 ghost use Rattle.instruction_defs.specs.Printed as spec;
 
 use crate::sizes::{following_words, has_immediate, has_value};
-use crate::text::{Text, push_decimal, push_register, push_signed, push_word};
+use crate::text::{Text, push_decimal, push_register, push_signed};
+use asm_text::push_word;
 use tms_defs::{Instr, JumpOp, Place, RegOp};
 
 /// Appends the operands of an instruction after a blank, where it has any.

@@ -9,8 +9,9 @@ ghost use Rattle.instruction_defs.specs.Printed as spec;
 use crate::operands_text::push_operands;
 use crate::operations::{name_of, operation_of};
 use crate::sizes::size_in_words;
-use crate::text::{Text, push_word};
+use crate::text::Text;
 use arrayvec::ArrayString;
+use asm_text::push_word;
 use tms_defs::Instr;
 use tms_words::decode;
 

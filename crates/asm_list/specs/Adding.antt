@@ -7,12 +7,11 @@ use Rattle.expression_defs.specs.Symbols.{Names, look_up}
 use Rattle.asm_defs.specs.declared.location.Location.{Location}
 use Rattle.asm_defs.specs.Statements.{Statement}
 use Rattle.asm_defs.specs.SecondChecks.{Outcome, outcome}
-use Rattle.shelf_defs.specs.Copied.{PlacedLine}
 use Rattle.asm_list_defs.specs.Listed as listed
 use Rattle.asm_list_defs.specs.Listed.{ListedName, found_or, names_of_line}
 use Rattle.asm_list_defs.specs.Rows.{outcome_text, lines_rows, rows_below, name_row}
-use Rattle.bench_shelf.specs.Kept.{model_of_kept, shown_of, names_of}
-use Rattle.bench_shelf.specs.declared.copy_error.CopyError.{CopyError}
+use Rattle.bench_shelf.specs.Kept.{model_of_kept}
+use Rattle.bench_shelf.specs.Listed.{listed_line, named_line}
 use Rattle.bench_shelf.specs.declared.kept_line.KeptLine.{KeptLine}
 use Rattle.bench_shelf.specs.declared.listed.ListedEnding.{ListedEnding}
 use Rattle.bench_shelf.specs.declared.listed.ListedEnding.TheVariants.{Whole, After, Before}
@@ -32,16 +31,9 @@ pub record Shows (shown : Shown) (defined : listed.Shown) : Type 0 where
   pub at : shown.at ≡ defined.at
   pub placed : shown.placed.items ≡ outcome_text defined.outcome
 
--- a kept line with what is shown of it
-abbrev pub listed_line : Option Names → KeptLine → PlacedLine × listed.Shown
-listed_line known kept = (model_of_kept kept, shown_of known kept)
-
+-- the rows of kept lines, by all names where these are known
 abbrev pub rows_by_names : Option Names → List KeptLine → List (List ℕ)
 rows_by_names known lines = lines_rows None (map (listed_line known) lines)
-
--- a kept line with the names that it defines
-abbrev pub named_line : KeptLine → PlacedLine × List (List ℕ)
-named_line kept = (model_of_kept kept, names_of kept)
 
 abbrev pub named_rows : Names → KeptLine → List (List ℕ) → List ListedName
 named_rows known kept names = names_of_line known (model_of_kept kept, names)
@@ -54,12 +46,6 @@ abbrev pub all_rows : List KeptLine → ListedEnding → List (List ℕ)
 all_rows lines (Whole known) = rows_by_names (Some known) lines ++ rows_of_names known lines
 all_rows lines (After known number error) = rows_by_names (Some known) (take (number - 1) lines)
 all_rows lines (Before error) = rows_by_names None lines
-
--- what is refused, by what stands after the kept lines
-abbrev pub refused_in : ListedEnding → Option CopyError
-refused_in (Whole known) = None
-refused_in (After known number error) = Some error
-refused_in (Before error) = Some error
 
 -- what a line places by all names, at its place
 abbrev pub found_in : Names → Location → Statement → Outcome

@@ -3,12 +3,13 @@
 ghost use Rattle.std.specs.Prelude.{◌≡◌, ◌≤◌, ◌<◌, ◌+◌, ◌^◌, ◌++◌, ◌∷◌, [], OnOk, length, take, drop};
 ghost use Rattle.asm_list_defs.specs.Rows as spec;
 ghost use Rattle.bench_shelf.specs.Kept.{model_of_kept};
-ghost use Rattle.asm_list.specs.Adding.{texts_in, known_to, listed_line, rows_by_names, below};
+ghost use Rattle.bench_shelf.specs.Listed.{listed_line};
+ghost use Rattle.asm_list.specs.Adding.{texts_in, known_to, rows_by_names, below};
 
 use crate::rows::{PLACED_COLUMNS, file_row, first_row, row_below};
 use crate::shown::{Lister, Shown};
 use asm_defs::Location;
-use bench_shelf::{FileName, KeptLine};
+use bench_shelf::{FileName, KeptLine, same_file};
 use std::alloc::{AllocError, Global};
 
 impl Lister<'_> {
@@ -72,17 +73,6 @@ fn put_file(
         return Ok(());
     }
     push_row(rows, file_row(alloc, file)?)
-}
-
-/// Whether two lines stand in the same file, or in the source itself.
-fn same_file(one: &Option<FileName>, other: &Option<FileName>) -> bool
-    ensures { result ≡ spec.same_file one.now other.now }
-{
-    match (one, other) {
-        (None, None) => true,
-        (Some(one), Some(other)) => one == other,
-        _ => false,
-    }
 }
 
 /// Appends the rows below a line.

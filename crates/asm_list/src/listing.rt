@@ -1,16 +1,18 @@
 //! The listing of a source with the files that it copies.
 
 ghost use Rattle.std.specs.Prelude.{◌≡◌, ◌≤◌, ◌-◌, List, IfOk, IfErr, length, take};
+ghost use Rattle.shelf_defs.specs.Copied.{largest_input};
 ghost use Rattle.bench_io.specs.Written.{Written};
 ghost use Rattle.bench_shelf.specs.Causes.{CountsGrew};
-ghost use Rattle.bench_shelf.specs.Listed.{GivesNoReport};
-ghost use Rattle.asm_list.specs.Adding.{texts_in, all_rows, refused_in};
-ghost use Rattle.asm_list.specs.Listings.{rows_of, ListingAnswered, ListingCauses};
+ghost use Rattle.bench_shelf.specs.Listed.{GivesNoReport, ListAnswered, refused_in};
+ghost use Rattle.asm_list.specs.Adding.{texts_in, all_rows};
+ghost use Rattle.asm_list.specs.Listings.{rows_of, Lists, ListingCauses};
 
 use crate::names::put_names;
 use crate::shown::Lister;
-use bench_io::{Failed, Sink, put_chunk};
+use bench_io::{Failed, Sink};
 use bench_shelf::{CopyError, KeptLine, ListedEnding, Shelf, copy_listed};
+use report_lines::put_items;
 use std::alloc::{AllocError, Global};
 
 /// The listing of an assembler source with the files that it copies: the rows of its lines and of its names.
@@ -33,8 +35,8 @@ pub fn list_source<F: Shelf>(
     shelf: &mut F,
     source: &[u8],
 ) -> Result<AsmListing, CopyError>
-    requires { length source.now ≤ 1048576 }
-    ensures answered { ListingAnswered (F.shelf shelf.old) (F.shelf shelf.new) source.now result }
+    requires { length source.now ≤ largest_input }
+    ensures answered { ListAnswered Lists (F.shelf shelf.old) (F.shelf shelf.new) source.now result }
     ensures no_report { IfErr result GivesNoReport }
     ensures causes { ListingCauses result (F.shelf shelf.old) (F.shelf shelf.new) }
     ensures later { CountsGrew (F.shelf shelf.old) (F.shelf shelf.new) }
@@ -116,7 +118,7 @@ impl AsmListing {
     pub fn write<O: Sink>(&self, out: &mut O) -> Result<(), Failed>
         ensures { Written result (O.state out.old) (O.state out.new) (rows_of self.now) }
     {
-        put_rows(self.rows.as_slice(), out)
+        put_items(self.rows.as_slice(), out)
     }
 
     /// The error of the line that is refused, or that a file is too large, where one is.
@@ -125,14 +127,4 @@ impl AsmListing {
     {
         self.refused
     }
-}
-
-/// Writes rows, each by one call.
-fn put_rows<O: Sink>(rows: &[Vec<u8>], out: &mut O) -> Result<(), Failed>
-    ensures { Written result (O.state out.old) (O.state out.new) (texts_in rows.now) }
-{
-    for row in rows {
-        put_chunk(out, row.as_slice())?;
-    }
-    Ok(())
 }

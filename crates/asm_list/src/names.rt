@@ -3,7 +3,8 @@
 ghost use Rattle.std.specs.Prelude.{◌≡◌, ◌++◌, OnOk, map};
 ghost use Rattle.asm_list_defs.specs.Listed.{names_of_line};
 ghost use Rattle.asm_list_defs.specs.Rows as spec;
-ghost use Rattle.asm_list.specs.Adding.{texts_in, named_line, named_rows, rows_of_names};
+ghost use Rattle.bench_shelf.specs.Listed.{named_line};
+ghost use Rattle.asm_list.specs.Adding.{texts_in, named_rows, rows_of_names};
 
 use crate::lines::push_row;
 use crate::rows::name_row;

@@ -13,7 +13,7 @@ mod text_lines;
 mod words;
 
 pub use crate::characters::{is_blank, is_comma, is_line_feed, is_printed, is_quote, upper_case};
-pub use crate::digits::{byte_digits, word_digits};
+pub use crate::digits::{byte_digits, push_byte, push_word, word_digits};
 pub use crate::expressions::expression::expression_value;
 pub use crate::expressions::fold::value;
 pub use crate::expressions::scan::tokens;

@@ -11,7 +11,7 @@ mod whole;
 mod written;
 
 pub use failed::Failed;
-pub use memory::{MemSink, MemSource};
+pub use memory::{MemSink, MemSource, copy_front};
 pub use sink::Sink;
 pub use source::Source;
 pub use std_io::{StdSink, StdSource};

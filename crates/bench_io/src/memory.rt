@@ -103,7 +103,7 @@ impl Source for MemSource {
 }
 
 /// Copies as many bytes from the front of one list to the front of another as both have room for.
-pub(crate) fn copy_front(from: &[u8], to: &mut [u8]) -> usize
+pub fn copy_front(from: &[u8], to: &mut [u8]) -> usize
     ensures count { result ≡ min (length to.old) (length from.now) }
     ensures bytes { to.new ≡ take result from.now ++ drop result to.old }
 {

@@ -1,10 +1,12 @@
 -- The lines of a source as a listing needs them.
-use Rattle.std.proofs.Common.{◌≡◌, ℕ, ◌-◌, ◌≤◌, List, [], ◌∷◌, ◌++◌, Some, None, Ok, Err, length, take, refl, sym, ap, ◌∙◌, subst, arith, append_assoc, inl, inr}
-use Rattle.std.specs.Prelude.{Result, IfErr}
+use Rattle.std.proofs.Common.{◌≡◌, ℕ, ◌-◌, ◌≤◌, List, [], ◌∷◌, ◌++◌, Some, None, Ok, Err, length, map, take, refl, sym, ap, ◌∙◌, subst, arith, append_assoc, inl, inr}
+use Rattle.std.specs.Prelude.{Option, Result, IfOk, IfErr}
+use Rattle.std.specs.List.{flat_map}
 use Rattle.std.proofs.Math.Seq.{take-length, take-append_seam}
-use Rattle.std.proofs.lemmas.List.{length-map, map-append}
+use Rattle.std.proofs.lemmas.List.{length-map, map-append, take-map}
 use Rattle.source_defs.specs.Refusals.{Refusal, ◌>>=◌}
 use Rattle.source_defs.specs.Lines.{numbered}
+use Rattle.expression_defs.specs.Symbols.{Names}
 use Rattle.expression_defs.specs.Layout.{laid, assembled_lines}
 use Rattle.object_defs.specs.Modules as object
 use Rattle.asm_defs.specs.declared.causes.AsmCause.{AsmCause}
@@ -12,9 +14,11 @@ use Rattle.asm_defs.specs.Locations.{Line}
 use Rattle.asm_defs.specs.FirstChecks.{check, names}
 use Rattle.asm_defs.specs.Memory.{AssembledLine}
 use Rattle.asm_defs.specs.Modules.{assembled_line, module_by, module_after, module_of_lines}
-use Rattle.shelf_defs.specs.Copied.{most_bytes, most_copies, PlacedLine, Ending, Refused, Copied}
+use Rattle.shelf_defs.specs.Copied as spec
+use Rattle.shelf_defs.specs.Copied.{most_bytes, most_copies, PlacedLine, CopyRefusal, Ending, Refused, Copied}
 use Rattle.shelf_defs.specs.Assembly.{texts, places, place_of, in_place, unless_refused, laid_copied}
-use Rattle.asm_list_defs.specs.Listed.{lines_let_through, first_answer, number_let_through}
+use Rattle.asm_list_defs.specs.Listed.{lines_let_through, first_answer, number_let_through, shown, paired, defined, lines_in}
+use Rattle.asm_list_defs.specs.Listed.{Listing, names_of_line, listing_before, listing_after, listing_by, listing_of}
 use Rattle.asm_core.specs.Building.{HasAccepted}
 use Rattle.asm_core.specs.Finishing.{RefusesAt}
 use Rattle.asm_core.specs.declared.error.AsmError.{AsmError}
@@ -30,14 +34,15 @@ use Rattle.bench_shelf.specs.declared.listed.ListedEnding.{ListedEnding}
 use Rattle.bench_shelf.specs.declared.listed.ListedEnding.TheVariants.{Whole, After, Before}
 use Rattle.bench_shelf.specs.declared.listed.ListedSource.{ListedSource}
 use Rattle.bench_shelf.specs.declared.copy_error.CopyError.{CopyError}
-use Rattle.bench_shelf.specs.declared.copy_error.CopyError.TheVariants.{Fault, Memory}
+use Rattle.bench_shelf.specs.declared.copy_error.CopyError.TheVariants.{At, TooLarge, Fault, Memory}
 use Rattle.bench_shelf.specs.States.{ShelfState}
-use Rattle.bench_shelf.specs.CopyAnswers.{CopyRefuses}
+use Rattle.bench_shelf.specs.CopyAnswers.{CopyRefuses, model_of_cause}
 use Rattle.bench_shelf.specs.Causes.{ShelfCauses, ReadWithinLimit}
-use Rattle.bench_shelf.specs.Kept.{AreKept, IsKept}
+use Rattle.bench_shelf.specs.Kept.{model_of_kept, shown_of, names_of, AreKept, IsKept}
 use Rattle.bench_shelf.specs.Leading.{Holds, EndsAs, GoesOn, LeadsTo, Halts, Stopped, IfReported, EndsBy, Copies, IsHeld}
-use Rattle.bench_shelf.specs.Listed.{GivesReport, GivesNoReport, AllAssembled, AssembledAs, RefusedAfter, FinishesBy, Finishes, StopsAt, KeepsFront, EndsListed, GivesListed}
-use Rattle.bench_shelf.specs.Listed.{ListFaultEnds, ListAnswered, EndingCauses, ListCauses}
+use Rattle.bench_shelf.specs.Listed.{GivesReport, GivesNoReport, AllAssembled, AssembledAs, RefusedAfter, FinishesBy, Finishes, StopsAt}
+use Rattle.bench_shelf.specs.Listed.{listed_line, named_line, lines_by, names_by, refused_in, RefusedAs, Lists, FaultEnds, ListAnswered}
+use Rattle.bench_shelf.specs.Listed.{RefusedCauses, ListCauses}
 use Rattle.bench_shelf.proofs.LaidLonger.{laid_longer}
 use Rattle.bench_shelf.proofs.TakingLaws.{refusal_is}
 use Rattle.bench_shelf.proofs.ModuleLaws.{whole_by, agrees_first, dialogue}
@@ -62,26 +67,22 @@ front_by all taken ending lines is size (inr next) =
     ap (λ answer. take (number_let_through answer) all) answer
     ∙ (ap (λ n. take n all) count ∙ (ap (take (length taken)) next.are ∙ take-append_seam taken (next.line ∷ next.rest)))
 
--- so they are kept
-keeps_front : (all taken : List PlacedLine) (ending : Ending) (builder : AsmLines) (has : HasAccepted (texts taken) builder) (kept : List KeptLine)
-    → Halts all ending taken → AreKept taken has.lines kept → KeepsFront all has.lines kept
-keeps_front all taken ending builder has kept halts are =
-    let is : lines_let_through all ≡ taken = front_by all taken ending has.lines has.laid has.all halts in
-    let count : length has.lines ≡ length taken = has.all ∙ length-map taken (λ line. line.text) in
-    record { are = are.are ∙ sym is; laid = ap first_answer is ∙ has.laid; size = count ∙ sym (ap length is); shown = are.shown; names = are.names }
+-- items side by side, as they are made of others
+side_by_side : {A B C : Type 0} (f : A → B) (g : A → C) (items : List A) → paired (map f items) (map g items) ≡ map (λ item. (f item, g item)) items
+side_by_side f g [] = refl
+side_by_side f g (item ∷ items) = ap (λ others. (f item, g item) ∷ others) (side_by_side f g items)
 
--- where all were taken
-front_all : (all : List PlacedLine) (builder : AsmLines) (has : HasAccepted (texts all) builder) → lines_let_through all ≡ all
-front_all all builder has =
-    let count : length has.lines ≡ length all = has.all ∙ length-map all (λ line. line.text) in
-    ap (λ answer. take (number_let_through answer) all) has.laid ∙ (ap (λ n. take n all) count ∙ take-length all)
+-- what is shown of kept lines, and the names that they define
+module _ (taken : List PlacedLine) (lines : List Line) (kept : List KeptLine) (are : AreKept taken lines kept) where
+  lines_are : (known : Option Names) → map (listed_line known) kept ≡ paired taken (shown known lines)
+  lines_are known =
+      sym (side_by_side model_of_kept (shown_of known) kept)
+      ∙ (ap (λ taken. paired taken (map (shown_of known) kept)) are.are ∙ ap (paired taken) (are.shown known))
 
-keeps_all : (all : List PlacedLine) (builder : AsmLines) (has : HasAccepted (texts all) builder) (kept : List KeptLine)
-    → AreKept all has.lines kept → KeepsFront all has.lines kept
-keeps_all all builder has kept are =
-    let count : length has.lines ≡ length all = has.all ∙ length-map all (λ line. line.text) in
-    let is = front_all all builder has in
-    record { are = are.are ∙ sym is; laid = ap first_answer is ∙ has.laid; size = count ∙ sym (ap length is); shown = are.shown; names = are.names }
+  names_are : map named_line kept ≡ paired taken (defined lines)
+  names_are =
+      sym (side_by_side model_of_kept names_of kept)
+      ∙ (ap (λ taken. paired taken (map names_of kept)) are.are ∙ ap (paired taken) are.names)
 
 reported_out : (P : Type 0) (error : CopyError) → GivesReport error → IfReported error P → P
 reported_out P Fault reported holds = absurd reported
@@ -97,27 +98,70 @@ laid_is found new goes =
     ap (λ answer. in_place found.lines answer >>= unless_refused found.ending) goes.holds.taken.laid
     ∙ laid_by found.ending new.builder goes.holds.taken.lines goes.ending
 
-module _ (source : List ℕ) (old new : Copying) (before after : ShelfState) (none : Holds [] old) (first : old.copies ≡ 0) (most : new.copies ≤ most_copies) where
-  -- all lines were taken
-  all_by : (ending : ListedEnding) (asked : ℕ) (found : Copied) (goes : GoesOn [] found new) (kept : List KeptLine)
-      → FinishesBy found.lines goes.holds.taken.lines ending → asked ≡ found.copies → EndsListed asked found goes.holds.taken.lines ending
-  all_by (Whole known) asked found goes kept finishes number =
-      (laid_is found new goes, front_all found.lines new.builder goes.holds.taken, finishes, number)
-  all_by (After known line error) asked found goes kept finishes number =
-      (laid_is found new goes, front_all found.lines new.builder goes.holds.taken, finishes, number)
-  all_by (Before error) asked found goes kept finishes number = absurd finishes
+-- the listing that a source has by its second checks
+record EndsAsListed (taken : List PlacedLine) (laid : List Line) (kept : List KeptLine) (ending : ListedEnding) : Type 0 where
+  pub listing : Listing
+  pub after : listing_after taken laid (assembled_lines (assembled_line (names laid)) laid) ≡ listing
+  pub lines : lines_by kept ending ≡ listing.lines
+  pub names : names_by kept ending ≡ listing.names
+  pub refused : RefusedAs (refused_in ending) listing.refusal
 
-  all_listed : (result : Result ListedSource CopyError) (asked : ℕ) (found : Copied) (goes : GoesOn [] found new)
-      → Finishes found.lines goes.holds.taken.lines result → asked ≡ found.copies → GivesListed asked result found
-  all_listed (Err error) asked found goes finishes number = tt
-  all_listed (Ok listed) asked found goes finishes number = (
-    goes.holds.taken.lines,
-    keeps_all found.lines new.builder goes.holds.taken listed.lines.items finishes.0,
-    all_by listed.ending asked found goes listed.lines.items finishes.1 number,
-  )
+ends_listing : (taken : List PlacedLine) (lines : List Line) (kept : List KeptLine) → AreKept taken lines kept → (ending : ListedEnding)
+    → FinishesBy taken lines ending → EndsAsListed taken lines kept ending
+ends_listing taken lines kept are (Whole known) (same, (assembled_as, is)) = record {
+  listing = listing_after taken lines (Ok assembled_as);
+  after = ap (listing_after taken lines) is;
+  lines = ap (λ known. map (listed_line (Some known)) kept) same ∙ lines_are taken lines kept are (Some (names lines));
+  names = ap (λ known. flat_map (names_of_line known) (map named_line kept)) same
+      ∙ ap (flat_map (names_of_line (names lines))) (names_are taken lines kept are);
+  refused = refl;
+}
+ends_listing taken lines kept are (After known number error) (same, refused) =
+    let refusal : Refusal AsmCause = record { line = number; cause = refused.cause } in record {
+      listing = listing_after taken lines (Err refusal);
+      after = ap (listing_after taken lines) refused.assembled_lines;
+      lines = ap (λ known. map (listed_line (Some known)) (take (number - 1) kept)) same
+          ∙ (sym (take-map (listed_line (Some (names lines))) (number - 1) kept)
+          ∙ ap (take (number - 1)) (lines_are taken lines kept are (Some (names lines))));
+      names = refl;
+      refused = subst (λ error. RefusedAs (Some error) (listing_after taken lines (Err refusal)).refusal) (sym refused.is)
+          ((refused.own, ap (λ (place : spec.Place). Err (spec.At place (spec.Asm refused.cause))) (sym refused.place)), tt);
+    }
+ends_listing taken lines kept are (Before error) finishes = absurd finishes
+
+-- an error that the definitions give is a refusal of theirs
+record IsRefused {B : Type 0} (error : CopyError) (answer : Result B CopyRefusal) : Type 0 where
+  pub refusal : CopyRefusal
+  pub is : answer ≡ Err refusal
+  pub refuses : CopyRefuses {B = Unit {0}} error (Err refusal)
+
+is_refused : {B : Type 0} (error : CopyError) (answer : Result B CopyRefusal) → CopyRefuses error answer → GivesReport error → IsRefused error answer
+is_refused (At file line cause) answer refuses reported = record {
+  refusal = spec.At (record { file = file; line = line }) (model_of_cause cause);
+  is = refuses.1;
+  refuses = (refuses.0, refl);
+}
+is_refused TooLarge answer refuses reported = record { refusal = spec.TooLarge; is = refuses; refuses = refl }
+is_refused Fault answer refuses reported = absurd reported
+is_refused Memory answer refuses reported = absurd reported
+
+module _ (source : List ℕ) (old new : Copying) (before after : ShelfState) (none : Holds [] old) (first : old.copies ≡ 0) (most : new.copies ≤ most_copies) where
+  -- all lines were taken, and what stands after them is the answer of the second checks
+  all_listed : (listed : ListedSource) (asked : ℕ) (found : Copied) (goes : GoesOn [] found new)
+      → Finishes found.lines goes.holds.taken.lines (Ok listed) → asked ≡ found.copies → Lists asked listed found
+  all_listed listed asked found goes (kept, finishes) number =
+      let lines = goes.holds.taken.lines in
+      let is = ends_listing found.lines lines listed.lines.items kept listed.ending finishes in
+      let same : listing_of found ≡ is.listing = ap (listing_by found.lines) (laid_is found new goes) ∙ is.after in
+      record {
+        lines = is.lines ∙ sym (ap (λ listing. listing.lines) same);
+        names = is.names ∙ sym (ap (λ listing. listing.names) same);
+        refused = subst (λ (listing : Listing). RefusedAs (refused_in listed.ending) listing.refusal) (sym same) is.refused;
+        copies = λ others laid. number;
+      }
 
   pub answered_all : (result : Result ListedSource CopyError) → Copies old new (whole_by old.copies source) None before after
-      → ((done : List PlacedLine) → (holds : Holds done new) → Finishes done holds.taken.lines result) → IsHeld new → ListAnswered before after source result
+      → ((done : List PlacedLine) → (holds : Holds done new) → Finishes done holds.taken.lines result) → IsHeld new → ListAnswered Lists before after source result
   answered_all result found finishes held = record {
     questions = found.questions;
     dialogue = dialogue source old new before after none first most None found;
@@ -126,46 +170,68 @@ module _ (source : List ℕ) (old new : Copying) (before after : ShelfState) (no
         let goes = found.leads contents (agrees_first old contents found.questions first agrees) [] none in
         let whole = whole_by old.copies source contents in
         let number : length found.questions ≡ whole.copies = omega (arith, first, goes.copies, found.asking.number) in
-        subst (λ copies. GivesListed (length found.questions) result (whole_by copies source contents)) first
-        (all_listed result (length found.questions) whole goes (finishes whole.lines goes.holds) number);
+        let gives = by_result result (length found.questions) whole goes (finishes whole.lines goes.holds) number in
+        subst (λ copies. IfOk result (λ listed. Lists (length found.questions) listed (whole_by copies source contents))) first gives;
   }
     where
-      no_fault : (result : Result ListedSource CopyError) → Finishes held.0 held.1.taken.lines result → ListFaultEnds result found.questions
+      no_fault : (result : Result ListedSource CopyError) → Finishes held.0 held.1.taken.lines result → FaultEnds result found.questions
       no_fault (Err Fault) finishes = cc finishes
       no_fault _ finishes = tt
 
+      by_result : (result : Result ListedSource CopyError) (asked : ℕ) (whole : Copied) (goes : GoesOn [] whole new)
+          → Finishes whole.lines goes.holds.taken.lines result → asked ≡ whole.copies → IfOk result (λ listed. Lists asked listed whole)
+      by_result (Ok listed) asked whole goes finishes number = all_listed listed asked whole goes finishes number
+      by_result (Err error) asked whole goes finishes number = tt
+
   -- one is refused before
-  before_by : (error : CopyError) (found : Copied) (listed : ListedSource) (asked : ℕ) → Stopped [] found new → new.kept ≡ Some listed.lines → CopyRefuses error (laid_copied found)
-      → listed.ending ≡ Before error → GivesReport error → GivesListed asked (Ok listed) found
-  before_by error found listed asked stopped kept refuses ending reported = (
-    stopped.holds.taken.lines,
-    keeps_front found.lines stopped.taken found.ending new.builder stopped.holds.taken listed.lines.items stopped.halts
-        (subst (IsKept stopped.taken stopped.holds.taken.lines) kept stopped.holds.kept),
-    subst (EndsListed asked found stopped.holds.taken.lines) (sym ending) (refuses, reported),
-  )
+  before_listed : (error : CopyError) (found : Copied) (listed : ListedSource) (asked : ℕ) → Stopped [] found new
+      → new.kept ≡ Some listed.lines → listed.ending ≡ Before error → GivesReport error → IsRefused error (laid_copied found)
+      → Lists asked listed found
+  before_listed error found listed asked stopped kept ending reported refused =
+      let taken = stopped.taken in
+      let lines = stopped.holds.taken.lines in
+      let kept = subst (IsKept taken lines) kept stopped.holds.kept in
+      let count : length lines ≡ length (texts taken) = stopped.holds.taken.all in
+      let all : lines_let_through found.lines ≡ taken = front_by found.lines taken found.ending lines stopped.holds.taken.laid count stopped.halts in
+      let answer : first_answer taken ≡ Ok lines = stopped.holds.taken.laid in
+      let same : listing_of found ≡ listing_before taken refused.refusal =
+      ap (listing_by found.lines) refused.is ∙ ap (λ all. listing_before all refused.refusal) all in
+      let shown_lines : (listing_of found).lines ≡ paired taken (shown None lines) =
+      ap (λ listing. listing.lines) same ∙ ap (λ answer. paired taken (shown None (lines_in answer))) answer in
+      record {
+        lines = ap (lines_by listed.lines.items) ending ∙ (lines_are taken lines listed.lines.items kept None ∙ sym shown_lines);
+        names = ap (names_by listed.lines.items) ending ∙ sym (ap (λ listing. listing.names) same);
+        refused = subst (λ (ending : ListedEnding). RefusedAs (refused_in ending) (listing_of found).refusal) (sym ending)
+            (subst (λ (listing : Listing). RefusedAs (Some error) listing.refusal) (sym same) (refused.refuses, reported));
+        copies = λ others laid. absurd (ok_not_err (sym laid ∙ refused.is));
+      }
+    where
+      ok_not_err : {A B : Type 0} {a : A} {b : B} → Ok a ≡ Err b → ⊥
+      ok_not_err e = cc e
 
   pub answered_before : (error : CopyError) (result : Result ListedSource CopyError) → Copies old new (whole_by old.copies source) (Some error) before after
-      → StopsAt new.kept error result → ListAnswered before after source result
+      → StopsAt new.kept error result → ListAnswered Lists before after source result
   answered_before error result found stops = record {
     questions = found.questions;
     dialogue = dialogue source old new before after none first most (Some error) found;
     ends = fault result error stops found.ends;
     gives = λ contents agrees.
         let here = agrees_first old contents found.questions first agrees in
-        subst (λ copies. GivesListed (length found.questions) result (whole_by copies source contents)) first
+        subst (λ copies. IfOk result (λ listed. Lists (length found.questions) listed (whole_by copies source contents))) first
         (by_result result stops (whole_by old.copies source contents) (found.leads contents here [] none));
   }
     where
       fault : (result : Result ListedSource CopyError) (error : CopyError) → StopsAt new.kept error result → EndsBy (Some error) found.questions
-          → ListFaultEnds result found.questions
+          → FaultEnds result found.questions
       fault (Err Fault) error stops ends = subst (λ error. EndsBy (Some error) found.questions) (sym stops.0) ends
       fault _ error stops ends = tt
 
       by_result : (result : Result ListedSource CopyError) → StopsAt new.kept error result → (whole : Copied) → LeadsTo (Some error) [] whole new
-          → GivesListed (length found.questions) result whole
+          → IfOk result (λ listed. Lists (length found.questions) listed whole)
       by_result (Err other) stops whole refused = tt
-      by_result (Ok listed) stops whole refused =
-          before_by error whole listed (length found.questions) (reported_out _ error stops.2 refused.1) stops.0 refused.0 stops.1 stops.2
+      by_result (Ok listed) (kept, ending, reported) whole refused =
+          before_listed error whole listed (length found.questions) (reported_out _ error reported refused.1) kept ending reported
+          (is_refused error (laid_copied whole) refused.0 reported)
 
 -- an error that the definitions do not tell, and the causes of all
 pub no_report_all : (done : List PlacedLine) (lines : List Line) (result : Result ListedSource CopyError) → Finishes done lines result → IfErr result GivesNoReport
@@ -176,7 +242,7 @@ pub causes_all : (a b : ShelfState) (done : List PlacedLine) (lines : List Line)
     → ReadWithinLimit most_bytes a b → ListCauses result a b
 causes_all a b done lines (Ok listed) finishes within = by_ending listed.ending finishes.1
   where
-    by_ending : (ending : ListedEnding) → FinishesBy done lines ending → EndingCauses ending a b
+    by_ending : (ending : ListedEnding) → FinishesBy done lines ending → RefusedCauses (refused_in ending) a b
     by_ending (Whole known) finishes = within
     by_ending (After known number error) finishes =
         subst (λ error. ShelfCauses error a b) (sym finishes.1.is) (finishes.1.own, within)

@@ -1,5 +1,6 @@
 -- The lines of a source with the files that it copies, as a listing needs them, by the answers of a shelf.
-use Rattle.std.specs.Prelude.{◌≡◌, ⊤, ℕ, List, length, map, Option, Some, Result, Ok, Err}
+use Rattle.std.specs.Prelude.{◌≡◌, ⊤, ℕ, ◌-◌, List, [], length, map, take, Option, Some, None, Result, Ok, Err, IfOk}
+use Rattle.std.specs.List.{flat_map}
 use Rattle.std.proofs.Common.{Vec, Global}
 use Rattle.expression_defs.specs.Symbols.{Names}
 use Rattle.expression_defs.specs.Layout.{assembled_lines}
@@ -9,11 +10,10 @@ use Rattle.asm_defs.specs.FirstChecks.{names}
 use Rattle.asm_defs.specs.Memory.{AssembledLine}
 use Rattle.asm_defs.specs.Modules.{assembled_line}
 use Rattle.shelf_defs.specs.Files.{Contents}
-use Rattle.shelf_defs.specs.Copied.{PlacedLine, Copied, most_bytes, copied_by}
+use Rattle.shelf_defs.specs.Copied.{PlacedLine, CopyRefusal, Copied, most_bytes, copied_by}
 use Rattle.shelf_defs.specs.Assembly.{places, place_of, laid_copied}
 use Rattle.shelf_defs.specs.Questions.{Unanswered, Question, Agrees, EndsWith}
-use Rattle.asm_list_defs.specs.Listed.{lines_let_through, first_answer}
-use Rattle.asm_list_defs.specs.Listed as listed
+use Rattle.asm_list_defs.specs.Listed.{Shown, ListedName, names_of_line, listing_of}
 use Rattle.bench_shelf.specs.States.{ShelfState}
 use Rattle.bench_shelf.specs.declared.copy_error.CopyError.{CopyError}
 use Rattle.bench_shelf.specs.declared.copy_error.CopyError.TheVariants.{Fault, Memory}
@@ -71,48 +71,69 @@ abbrev pub StopsAt : Option (Vec KeptLine Global) → CopyError → Result Liste
 StopsAt kept error (Ok listed) = (kept ≡ Some listed.lines) × (listed.ending ≡ Before error) × GivesReport error
 StopsAt kept error (Err found) = (found ≡ error) × GivesNoReport error
 
--- the lines that are kept are those up to the first that the first checks refuse
-pub record KeepsFront (all : List PlacedLine) (lines : List Line) (kept : List KeptLine) : Type 0 where
-  pub are : map model_of_kept kept ≡ lines_let_through all
-  pub laid : first_answer (lines_let_through all) ≡ Ok lines
-  pub size : length lines ≡ length (lines_let_through all)
-  pub shown : (known : Option Names) → map (shown_of known) kept ≡ listed.shown known lines
-  pub names : map names_of kept ≡ listed.defined lines
+-- a kept line with what is shown of it
+abbrev pub listed_line : Option Names → KeptLine → PlacedLine × Shown
+listed_line known kept = (model_of_kept kept, shown_of known kept)
 
--- what stands after them, by the definitions; where no line is refused by the first checks, as many files were copied
--- as were asked for
-abbrev pub EndsListed : ℕ → Copied → List Line → ListedEnding → Type 0
-EndsListed asked found lines (Before error) = CopyRefuses error (laid_copied found) × GivesReport error
-EndsListed asked found lines ending =
-    (laid_copied found ≡ Ok lines) × (lines_let_through found.lines ≡ found.lines) × FinishesBy found.lines lines ending
-    × (asked ≡ found.copies)
+-- a kept line with the names that it defines
+abbrev pub named_line : KeptLine → PlacedLine × List (List ℕ)
+named_line kept = (model_of_kept kept, names_of kept)
 
-abbrev pub GivesListed : ℕ → Result ListedSource CopyError → Copied → Type 0
-GivesListed asked (Ok listed) found =
-    (lines : List Line) × KeepsFront found.lines lines listed.lines.items × EndsListed asked found lines listed.ending
-GivesListed asked (Err error) found = ⊤
+-- the lines of a listing, by what stands after the kept lines
+abbrev pub lines_by : List KeptLine → ListedEnding → List (PlacedLine × Shown)
+lines_by kept (Whole known) = map (listed_line (Some known)) kept
+lines_by kept (After known number error) = map (listed_line (Some known)) (take (number - 1) kept)
+lines_by kept (Before error) = map (listed_line None) kept
+
+-- and its names
+abbrev pub names_by : List KeptLine → ListedEnding → List ListedName
+names_by kept (Whole known) = flat_map (names_of_line known) (map named_line kept)
+names_by kept other = []
+
+-- what is refused, by what stands after the kept lines
+abbrev pub refused_in : ListedEnding → Option CopyError
+refused_in (Whole known) = None
+refused_in (After known number error) = Some error
+refused_in (Before error) = Some error
+
+-- what is refused of a source, as a result
+abbrev pub as_result : Option CopyRefusal → Result Unit CopyRefusal
+as_result None = Ok tt
+as_result (Some refusal) = Err refusal
+
+-- the refusal that the definitions have, or none
+abbrev pub RefusedAs : Option CopyError → Option CopyRefusal → Type 0
+RefusedAs None defined = defined ≡ None
+RefusedAs (Some error) defined = CopyRefuses error (as_result defined) × GivesReport error
+
+-- The kept lines and what stands after them are the listing of copied lines. Where no line is refused by the first
+-- checks, as many files were copied as were asked for.
+pub record Lists (asked : ℕ) (listed : ListedSource) (found : Copied) : Type 0 where
+  pub lines : lines_by listed.lines.items listed.ending ≡ (listing_of found).lines
+  pub names : names_by listed.lines.items listed.ending ≡ (listing_of found).names
+  pub refused : RefusedAs (refused_in listed.ending) (listing_of found).refusal
+  pub copies : (lines : List Line) → laid_copied found ≡ Ok lines → asked ≡ found.copies
 
 -- the shelf failed at the file that was asked for last
-abbrev pub ListFaultEnds : Result ListedSource CopyError → List Question → Type 0
-ListFaultEnds (Err Fault) questions = EndsWith Unanswered questions
-ListFaultEnds other questions = ⊤
+abbrev pub FaultEnds : {A : Type 0} → Result A CopyError → List Question → Type 0
+FaultEnds (Err Fault) questions = EndsWith Unanswered questions
+FaultEnds other questions = ⊤
 
--- There are questions and answers such that what is listed is the one of the definitions by these answers, whatever
+-- There are questions and answers such that what is listed is the listing of the definitions by these answers, whatever
 -- else the shelf would have answered.
-pub record ListAnswered (before after : ShelfState) (source : List ℕ) (result : Result ListedSource CopyError)
-    : Type 0 where
+pub record ListAnswered {A : Type 0} (Lists : ℕ → A → Copied → Type 0) (before after : ShelfState) (source : List ℕ)
+    (result : Result A CopyError) : Type 0 where
   pub questions : List Question
   pub dialogue : CopyDialogue before after source questions
-  pub ends : ListFaultEnds result questions
+  pub ends : FaultEnds result questions
   pub gives : (contents : Contents) → Agrees most_bytes contents 0 questions
-      → GivesListed (length questions) result (copied_by contents source)
+      → IfOk result (λ listed. Lists (length questions) listed (copied_by contents source))
 
-abbrev pub EndingCauses : ListedEnding → ShelfState → ShelfState → Type 0
-EndingCauses (Before error) before after = ShelfCauses error before after
-EndingCauses (Whole known) before after = ReadWithinLimit most_bytes before after
-EndingCauses (After known number error) before after = ShelfCauses error before after
+-- what a refusal says of the shelf, and what it says that there is none
+abbrev pub RefusedCauses : Option CopyError → ShelfState → ShelfState → Type 0
+RefusedCauses None before after = ReadWithinLimit most_bytes before after
+RefusedCauses (Some error) before after = ShelfCauses error before after
 
--- what it says of the shelf
 abbrev pub ListCauses : Result ListedSource CopyError → ShelfState → ShelfState → Type 0
-ListCauses (Ok listed) before after = EndingCauses listed.ending before after
+ListCauses (Ok listed) before after = RefusedCauses (refused_in listed.ending) before after
 ListCauses (Err error) before after = ShelfCauses error before after

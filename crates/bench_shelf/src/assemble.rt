@@ -1,7 +1,7 @@
 //! A source with the files that it copies as a module.
 
 ghost use Rattle.std.specs.Prelude.{◌≤◌, IfSome, IfErr, OnOk, length};
-ghost use Rattle.shelf_defs.specs.Copied.{most_bytes};
+ghost use Rattle.shelf_defs.specs.Copied.{most_bytes, largest_input};
 ghost use Rattle.shelf_defs.specs.Assembly.{module_of_files};
 ghost use Rattle.bench_shelf.specs.CopyAnswers.{GivesCopied};
 ghost use Rattle.bench_shelf.specs.Causes.{CountsGrew, ShelfCauses, ReadWithinLimit};
@@ -33,7 +33,7 @@ pub fn copy_assemble<F: Shelf>(
     shelf: &mut F,
     text: &[u8],
 ) -> Result<Module, CopyError>
-    requires { length text.now ≤ 1048576 }
+    requires { length text.now ≤ largest_input }
     ensures answered { Answered (F.shelf shelf.old) (F.shelf shelf.new) text.now result }
     // Where the shelf shows its files, that is the module of the source with these.
     ensures shown { IfSome (F.shelf shelf.old).files (λ files. GivesCopied result (module_of_files files text.now)) }

@@ -7,6 +7,7 @@ ghost use Rattle.std.specs.Cmp.{partial_equiv_from_equiv};
 ghost use Rattle.std.specs.Cmp.Lexicographic.{pointwise, slice_cmp, nat_list_eq_equiv, nat_list_cmp_total, texts_ties};
 ghost use Rattle.std.specs.Cmp.Lexicographic.{texts_po};
 ghost use Rattle.shelf_defs.specs.Files.{is_file_character, all_file_characters, is_file_name};
+ghost use Rattle.asm_list_defs.specs.Rows.{same_file};
 
 use std::cmp::Ordering;
 use std::marker::Model;
@@ -136,4 +137,16 @@ fn padded(bytes: &[u8]) -> [u8; LONGEST_FILE_NAME]
     let mut padded = [0; LONGEST_FILE_NAME];
     padded[..bytes.len()].copy_from_slice(bytes);
     padded
+}
+
+/// Whether two lines are in the same file, or in the source itself, by the names of their files.
+pub fn same_file(one: &Option<FileName>, other: &Option<FileName>) -> bool
+    ensures same { result ≡ same_file one.now other.now }
+    ensures equal { IsTrue result → one.now ≡ other.now }
+{
+    match (one, other) {
+        (None, None) => true,
+        (Some(one), Some(other)) => one.as_bytes() == other.as_bytes(),
+        _ => false,
+    }
 }

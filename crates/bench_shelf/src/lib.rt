@@ -24,7 +24,7 @@ pub use crate::assemble::copy_assemble;
 pub use crate::copy_error::{CopyCause, CopyError};
 pub use crate::directory::DirShelf;
 pub use crate::error::{FileError, OpenError};
-pub use crate::file_name::FileName;
+pub use crate::file_name::{FileName, same_file};
 pub use crate::kept_line::KeptLine;
 pub use crate::listed::{ListedEnding, ListedSource, copy_listed};
 pub use crate::memory::MemShelf;

@@ -1,10 +1,10 @@
 //! A source with the files that it copies, as far as it is listed.
 
 ghost use Rattle.std.specs.Prelude.{◌≡◌, ◌≤◌, true, List, IfErr, length, is_some};
-ghost use Rattle.shelf_defs.specs.Copied.{PlacedLine};
+ghost use Rattle.shelf_defs.specs.Copied.{PlacedLine, largest_input};
 ghost use Rattle.bench_shelf.specs.Causes.{CountsGrew};
 ghost use Rattle.bench_shelf.specs.Leading.{Holds};
-ghost use Rattle.bench_shelf.specs.Listed.{Finishes, ListAnswered, GivesNoReport, ListCauses, StopsAt};
+ghost use Rattle.bench_shelf.specs.Listed.{Finishes, Lists, ListAnswered, GivesNoReport, ListCauses, StopsAt};
 ghost use Rattle.bench_shelf.specs.RefusedLines.{RefusesLine};
 
 use crate::assemble::DEEPEST;
@@ -56,8 +56,8 @@ pub fn copy_listed<F: Shelf>(
     shelf: &mut F,
     text: &[u8],
 ) -> Result<ListedSource, CopyError>
-    requires { length text.now ≤ 1048576 }
-    ensures answered { ListAnswered (F.shelf shelf.old) (F.shelf shelf.new) text.now result }
+    requires { length text.now ≤ largest_input }
+    ensures answered { ListAnswered Lists (F.shelf shelf.old) (F.shelf shelf.new) text.now result }
     ensures no_report { IfErr result GivesNoReport }
     ensures causes { ListCauses result (F.shelf shelf.old) (F.shelf shelf.new) }
     ensures later { CountsGrew (F.shelf shelf.old) (F.shelf shelf.new) }

@@ -11,7 +11,7 @@ ghost use Rattle.bench_shelf.specs.MemoryShelf.{named, file_bytes, OpensIn};
 use crate::error::OpenError;
 use crate::file_name::FileName;
 use crate::shelf::Shelf;
-use bench_io::{Failed, Source};
+use bench_io::{Failed, Source, copy_front};
 use std::marker::Model;
 
 /// A shelf of files in memory, of which the first of equal names counts. It gives as many bytes at a time as there is
@@ -261,14 +261,4 @@ fn file_bytes<'a>(files: &'a [(FileName, Vec<u8>)], name: &FileName) -> Option<&
         rest = others;
     }
     None
-}
-
-/// Copies as many bytes from the front of one list to the front of another as both have room for.
-fn copy_front(from: &[u8], to: &mut [u8]) -> usize
-    ensures count { result ≡ min (length to.old) (length from.now) }
-    ensures bytes { to.new ≡ take result from.now ++ drop result to.old }
-{
-    let count = to.len().min(from.len());
-    to[..count].copy_from_slice(&from[..count]);
-    count
 }

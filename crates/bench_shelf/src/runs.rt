@@ -5,7 +5,7 @@ ghost use Rattle.shelf_defs.specs.Assembly.{place_of};
 ghost use Rattle.bench_shelf.specs.CopyAnswers.{model_of_place, place_in};
 ghost use Rattle.bench_shelf.specs.Runs.{places_of, ComesNext};
 
-use crate::file_name::FileName;
+use crate::file_name::{FileName, same_file};
 use crate::place::Place;
 use crate::run::Run;
 use std::alloc::AllocError;
@@ -17,18 +17,7 @@ impl Run {
     {
         self.line.checked_add(self.count) == Some(line)
             && self.count < u32::MAX
-            && is_same(&self.file, file)
-    }
-}
-
-/// Whether two lines stand in the same file.
-fn is_same(one: &Option<FileName>, other: &Option<FileName>) -> bool
-    ensures { IsTrue result → one.now ≡ other.now }
-{
-    match (one, other) {
-        (None, None) => true,
-        (Some(one), Some(other)) => one.as_bytes() == other.as_bytes(),
-        _ => false,
+            && same_file(&self.file, file)
     }
 }
 

@@ -1,22 +1,18 @@
 //! `asm` with the files that the source copies.
 
-ghost use Rattle.std.specs.Prelude.{◌≡◌, ◌≤◌, length, Err, IfOk};
-ghost use Rattle.source_defs.specs.Refusals.{map_ok};
+ghost use Rattle.std.specs.Prelude.{◌≡◌, ◌≤◌, length, IfOk};
 ghost use Rattle.object_defs.specs.Writing.{written_lines};
 ghost use Rattle.object_tags.specs.Lines.{line_bytes};
 ghost use Rattle.object_tags.specs.Seen.{model_of_module};
 ghost use Rattle.bench_shelf.specs.Causes.{CountsGrew};
 ghost use Rattle.bench_shelf.specs.Answered.{IsOfLines};
 ghost use Rattle.report_defs.specs.Report.{largest_input};
-ghost use Rattle.report_defs.specs.FileReports.{copy_report};
-ghost use Rattle.file_commands.specs.Copying.{copy_refusal};
 ghost use Rattle.file_commands.specs.Reported.{CopyReported, CopyFails};
-ghost use Rattle.reports.specs.Answers.{answer, Reported, error_answer};
+ghost use Rattle.reports.specs.Answers.{answer, Reported};
 
-use crate::causes::copy_line;
-use bench_shelf::{CopyError, Shelf, copy_assemble};
+use crate::causes::command_error;
+use bench_shelf::{Shelf, copy_assemble};
 use object_tags::{Module, ObjectLine, write_lines};
-use report_defs::Fault;
 use reports::{CommandError, Report};
 use std::alloc::{AllocError, Global};
 
@@ -41,19 +37,7 @@ pub fn asm_files<F: Shelf>(
 {
     match copy_assemble(alloc, shelf, text) {
         Ok(module) => Ok(Report::Object(lines_of(alloc, &module)?)),
-        Err(error) => Err(refused(error)),
-    }
-}
-
-/// Why a source is refused, or is not assembled.
-fn refused(error: CopyError) -> CommandError
-    ensures { error_answer result ≡ map_ok (λ refusal. copy_report (Err refusal)) (copy_refusal error) }
-{
-    match error {
-        CopyError::At { file, line, cause } => CommandError::Refused(copy_line(file, line, cause)),
-        CopyError::TooLarge => CommandError::Fault(Fault::TooLarge),
-        CopyError::Fault => CommandError::ReadFault,
-        CopyError::Memory => CommandError::Memory,
+        Err(error) => Err(command_error(error)),
     }
 }
 

@@ -1,16 +1,34 @@
-//! The lines that standard error gets of files.
+//! What is reported of a refused source, and the lines that standard error gets of files.
 
-ghost use Rattle.std.specs.Prelude.{◌≡◌, ◌≤◌, length, Some};
+ghost use Rattle.std.specs.Prelude.{◌≡◌, ◌≤◌, length, Some, Err};
 ghost use Rattle.arrayvec.specs.ArrayVec.{array_vec_len};
+ghost use Rattle.source_defs.specs.Refusals.{map_ok};
 ghost use Rattle.bench_shelf.specs.CopyAnswers.{model_of_cause};
 ghost use Rattle.report_defs.specs.FileLines as spec;
+ghost use Rattle.report_defs.specs.FileReports.{copy_report};
 ghost use Rattle.report_defs.specs.FaultLine as faults;
 ghost use Rattle.report_defs.specs.ObjectFaults as objects;
+ghost use Rattle.reports.specs.Answers.{error_answer};
+ghost use Rattle.file_commands.specs.Copying.{copy_refusal};
 
-use bench_shelf::{CopyCause, FileName};
+use bench_shelf::{CopyCause, CopyError, FileName};
 use memory_listing::tag_line;
 use object_defs::TagCause;
+use report_defs::Fault;
 use report_lines::{Line, append, append_count, asm_line, refusal_line};
+use reports::CommandError;
+
+/// Why a source with the files that it copies is refused, or is neither assembled nor listed.
+pub fn command_error(error: CopyError) -> CommandError
+    ensures { error_answer result ≡ map_ok (λ refusal. copy_report (Err refusal)) (copy_refusal error) }
+{
+    match error {
+        CopyError::At { file, line, cause } => CommandError::Refused(copy_line(file, line, cause)),
+        CopyError::TooLarge => CommandError::Fault(Fault::TooLarge),
+        CopyError::Fault => CommandError::ReadFault,
+        CopyError::Memory => CommandError::Memory,
+    }
+}
 
 /// The line of a refused line of a source, or of a file that it copies, by its number there, from 1.
 pub fn copy_line(file: Option<FileName>, line: u32, cause: CopyCause) -> Line

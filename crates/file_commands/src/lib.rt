@@ -9,5 +9,5 @@ mod modules;
 mod reading;
 
 pub use crate::asm::asm_files;
-pub use crate::causes::{copy_line, file_tag_line, missing_line};
+pub use crate::causes::{command_error, file_tag_line, missing_line};
 pub use crate::link::link_files;

@@ -1,14 +1,12 @@
 //! The listing of GROM as a GPL source. Nothing here takes memory.
 #![tactic(auto)]
 
-mod digits;
 mod laws;
 mod line;
 mod listing;
 mod operands;
 mod text;
 
-pub use digits::push_word;
 pub use laws::{listings_are_short, listings_come_back};
 pub use line::list_line;
 pub use listing::disassemble;

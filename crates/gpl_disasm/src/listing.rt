@@ -7,8 +7,8 @@ ghost use Rattle.source_defs.specs.ListedLines.{listing_line};
 ghost use Rattle.gpl_defs.specs.Image.{AreBytesOf, low_of, high_of};
 ghost use Rattle.gpl_listing_defs.specs.Listing as spec;
 
-use crate::digits::push_word;
 use crate::line::{Line, MARGIN, list_line};
+use asm_text::push_word;
 use bench_io::{Failed, Sink, put_chunk};
 use gpl_forms::GromImage;
 use grom_defs::GROM_SIZE;

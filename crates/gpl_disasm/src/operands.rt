@@ -4,8 +4,8 @@ ghost use Rattle.arrayvec.specs.ArrayString.{array_string_len};
 ghost use Rattle.gpl_defs.specs.Bytes.{FitsSource};
 ghost use Rattle.gpl_listing_defs.specs.Texts as spec;
 
-use crate::digits::{push_byte, push_word};
 use arrayvec::ArrayString;
+use asm_text::{push_byte, push_word};
 use gpl_defs::SCRATCHPAD;
 use gpl_forms::{GplOperand, GplSource, MoveLength, MoveSource, MoveTarget, Space};
 

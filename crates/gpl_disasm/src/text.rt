@@ -9,9 +9,9 @@ ghost use Rattle.source_defs.specs.Digits.{hex_byte};
 ghost use Rattle.source_defs.specs.ListedLines.{two_texts};
 ghost use Rattle.gpl_listing_defs.specs.Texts as spec;
 
-use crate::digits::{push_byte, push_word};
 use crate::operands::{push_from, push_length, push_operand, push_source, push_target};
 use arrayvec::ArrayString;
+use asm_text::{push_byte, push_word};
 use gpl_forms::{
     GplInstr, GplOperation, GplRead, MoveLength, MoveSource, MoveTarget, name_of, read_instr,
 };

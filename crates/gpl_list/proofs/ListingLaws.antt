@@ -12,7 +12,6 @@ use Rattle.gpl_list_defs.specs.Rows as spec
 use Rattle.gpl_list_defs.specs.Listing.{assembled_listing}
 use Rattle.gpl_list.specs.declared.rows.Row.{Row}
 use Rattle.gpl_list.specs.Reading.{model_of_row, Describes, DescribesAll, onto}
-use Rattle.gpl_list.proofs.SecondPassLaws.{same_row}
 
 -- ---- rows without bytes
 
@@ -22,10 +21,7 @@ unplaced_from texts later before [] [] all = append-nil (spec.rows spec.no_bytes
 unplaced_from texts later before [] (row ∷ rows) all = absurd all
 unplaced_from texts later before (line ∷ rest) [] all = absurd all
 unplaced_from texts later before (line ∷ rest) (row ∷ rows) all =
-    let is = all.0 in
-    let same : model_of_row row ≡ spec.row_of spec.no_bytes texts before line =
-    same_row texts later (model_of_row row) (spec.row_of spec.no_bytes texts before line) is.number is.address is.bytes is.text in
-    ap (λ row. spec.rows spec.no_bytes texts before ++ row ∷ map model_of_row rows) same
+    ap (λ row. spec.rows spec.no_bytes texts before ++ row ∷ map model_of_row rows) all.0.is
     ∙ (sym (append_assoc (spec.rows spec.no_bytes texts before) (spec.row_of spec.no_bytes texts before line ∷ []) (map model_of_row rows))
     ∙ unplaced_from texts later (line ∷ before) rest rows all.1)
 

@@ -12,7 +12,6 @@ use Rattle.gpl_source_defs.specs.FirstChecks.{parsed}
 use Rattle.gpl_source_defs.specs.SecondChecks.{Outcome, outcome}
 use Rattle.gpl_source_defs.specs.Programs.{AssembledLine, assembled_at, with_room, overlaps, image, bytes_in, entry_by}
 use Rattle.gpl_source_defs.proofs.Sizes.{outcome_size}
-use Rattle.gpl_lines.specs.declared.failure.Failure.TheVariants as failure
 use Rattle.gpl_asm.specs.Replay.{Built, put, line_outcome}
 use Rattle.gpl_list_defs.specs.Rows as spec
 

@@ -4,7 +4,6 @@ use Rattle.std.specs.Prelude.{Option}
 use Rattle.expression_defs.specs.Symbols.{Names}
 use Rattle.expression_defs.specs.Growing.{Grows, is_closed}
 use Rattle.expression_defs.specs.Layout.{set_or}
-use Rattle.source_defs.specs.Refusals.{◌>>=◌}
 use Rattle.source_defs.proofs.RefusalLaws.{bound}
 use Rattle.expression_defs.proofs.DefinedNames.{grown_on}
 use Rattle.gpl_source_defs.specs.declared.location.Location.{Location}
@@ -67,6 +66,12 @@ module _ (texts : List (ℕ × List ℕ)) (lines : List Line) (text : List ℕ) 
   at_there : row.at ≡ location lines
   at_there = taken.at ∙ (tells.at ∙ place_there)
 
+  address_there : model_of_address known ≡ spec.address (place lines line) statement
+  address_there =
+      ap (λ (origin : Option Location). (set_or origin known.at).number) tells.origin
+      ∙ (ap (λ (at : Location). (set_or (origin_of (location lines) statement) at).number) tells.at
+      ∙ ap (λ (at : Location). (set_or (origin_of at statement) (place lines line)).number) (sym place_there))
+
   said_later : (later : Names) → Grows (names (line ∷ lines)) later → parsed later row.at row.text.items ≡ Ok statement
   said_later later more =
       let through = is_let_through (names lines) (location lines) text found e in
@@ -74,20 +79,16 @@ module _ (texts : List (ℕ × List ℕ)) (lines : List Line) (text : List ℕ) 
       grown_on (names lines) (names (line ∷ lines)) later (label_grows (names lines) found.label (label_value (location lines) statement) through.fresh) more in
       let closed : is_closed is_unresolved (parsed (names lines) (location lines) text) ≡ true = ap (is_closed is_unresolved) through.parsed in
       ap (λ (at : Location). parsed later at row.text.items) at_there
-      ∙ (ap (λ text. parsed later (location lines) text) taken.text
+      ∙ (ap (λ (row : spec.Row). parsed later (location lines) row.text) taken.is
       ∙ (said_stays (names lines) later grows (location lines) text closed ∙ through.parsed))
 
   pub row_of : (later : Names) → Grows (names (line ∷ lines)) later → RowOf texts later lines line row
   row_of later more = record {
     numbered = refl;
-    number = taken.number;
     at = taken.at ∙ tells.at;
-    address = taken.address
-        ∙ (ap (λ (origin : Option Location). (set_or origin known.at).number) tells.origin
-        ∙ (ap (λ (at : Location). (set_or (origin_of (location lines) statement) at).number) tells.at
-        ∙ ap (λ (at : Location). (set_or (origin_of at statement) (place lines line)).number) (sym place_there)));
-    bytes = taken.bytes;
-    text = taken.text ∙ sym there;
+    is = taken.is
+        ∙ (ap (λ at. record { number = length lines + 1; at = at; bytes = []; text = text }) address_there
+        ∙ ap (λ text. record { number = length lines + 1; at = spec.address (place lines line) statement; bytes = []; text = text }) (sym there));
     parsed = said_later later more;
     room = subst (λ (at : Location). at.number + declared_size statement ≤ 65536) (sym taken.at) tells.room;
   }

@@ -108,20 +108,6 @@ module _ (texts : List (ℕ × List ℕ)) (known : Names) where
       )
       by (line ∷ rest) are all = absurd all
 
-  pub same_row : (a b : spec.Row) → a.number ≡ b.number → a.at ≡ b.at → a.bytes ≡ b.bytes → a.text ≡ b.text → a ≡ b
-  same_row a b number at bytes text =
-      ap (λ number. record { number = number; at = a.at; bytes = a.bytes; text = a.text }) number
-      ∙ (ap (λ at. record { number = b.number; at = at; bytes = a.bytes; text = a.text }) at
-      ∙ (ap (λ bytes. record { number = b.number; at = b.at; bytes = bytes; text = a.text }) bytes
-      ∙ ap (λ text. record { number = b.number; at = b.at; bytes = b.bytes; text = text }) text))
-
-  -- a row that got its bytes
-  pub record Given (row new : Row) (bytes : List ℕ) : Type 0 where
-    pub number : new.number ≡ row.number
-    pub address : new.address ≡ row.address
-    pub text : new.text.items ≡ row.text.items
-    pub bytes_are : new.bytes.items ≡ bytes
-
   -- what is asked of a line that is assembled, by its row
   module _ {A : Type 0} (see : A → List ℕ) (lines : List Line) (row : Row) (next : List Row) (made left : Image) (rows : List Row) where
     abbrev Asked : Result A Failure → Type 0
@@ -133,8 +119,8 @@ module _ (texts : List (ℕ × List ℕ)) (known : Names) where
         subst (λ (at : Location). AssembledAs see known at line.statement g.earlier result left) is.at
         (assembles line.statement g.earlier is.parsed g.made_is)
 
-    pub going_more : (value : A) (new : Row) (after : List Row) → Going lines (row ∷ next) made rows → Asked (Ok value) → Given row new (see value)
-        → after ≡ rows ++ new ∷ [] → Going lines next left after
+    pub going_more : (value : A) (new : Row) (after : List Row) → Going lines (row ∷ next) made rows → Asked (Ok value)
+        → model_of_row new ≡ record (model_of_row row) { bytes = see value } → after ≡ rows ++ new ∷ [] → Going lines next left after
     going_more value new after g assembles given more = by g.rest g.are g.describes
       where
         by : (rest : List Line) → onto rest g.done ≡ lines → Describes texts known g.done rest (row ∷ next) → Going lines next left after
@@ -143,8 +129,9 @@ module _ (texts : List (ℕ × List ℕ)) (known : Names) where
             let is = all.0 in
             let c = came g line (Ok value) is assembles in
             let same : model_of_row new ≡ spec.row_of (spec.placed_bytes known) texts g.done line =
-            same_row (model_of_row new) (spec.row_of (spec.placed_bytes known) texts g.done line)
-            (given.number ∙ is.number) (given.address ∙ is.address) (given.bytes_are ∙ c.3) (given.text ∙ is.text) in
+            given
+            ∙ (ap (λ (row : spec.Row). record row { bytes = see value }) is.is
+            ∙ ap (λ bytes. record (spec.row_of spec.no_bytes texts g.done line) { bytes = bytes }) c.3) in
             record {
               done = line ∷ g.done;
               rest = rest;
@@ -172,13 +159,14 @@ module _ (texts : List (ℕ × List ℕ)) (known : Names) where
             let c = came g line (Err (failure.Refused cause)) is assembles in
             let refused : assembled_lines (assembled_line known) (line ∷ g.done) ≡ Err (record { line = line.number; cause = cause }) =
             one_assembled known g.done line g.earlier (Err cause) g.assembled_is c.0 in
-            let at : row.number ≡ length g.done + 1 = is.number ∙ is.numbered in
+            let number : row.number ≡ line.number = ap (λ (row : spec.Row). row.number) is.is in
+            let at : row.number ≡ length g.done + 1 = number ∙ is.numbered in
             let front : spec.lines_before row.number lines ≡ g.done =
             ap (spec.lines_before row.number) (sym are)
             ∙ (none_after row.number g.done (line ∷ rest) (row ∷ next) all (omega (arith, at))
             ∙ all_before row.number g.done g.numbered (omega (arith, at))) in (
               ap (assembled_lines (assembled_line known)) (sym are)
                   ∙ (refused_on known rest (line ∷ g.done) (record { line = line.number; cause = cause }) refused
-                  ∙ ap (λ number. Err (record { line = number; cause = cause })) (sym is.number)),
+                  ∙ ap (λ number. Err (record { line = number; cause = cause })) (sym number)),
               g.rows_are ∙ ap shown (sym front),
             )

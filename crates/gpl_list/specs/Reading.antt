@@ -34,11 +34,8 @@ named (Some name) value number = record { name = name; value = Absolute value; l
 
 -- the row of a line that was taken, by its number, its place, its address and its text
 pub record IsTaken (count : ℕ) (place : Location) (from : ℕ) (line : List ℕ) (row : Row) : Type 0 where
-  pub number : row.number ≡ count
   pub at : row.at ≡ place
-  pub address : row.address ≡ from
-  pub bytes : row.bytes.items ≡ []
-  pub text : row.text.items ≡ line
+  pub is : model_of_row row ≡ record { number = count; at = from; bytes = []; text = line }
 
 -- one row more
 abbrev pub OneMore : ℕ → Location → ℕ → List ℕ → List Row → List Row → Type 0
@@ -49,11 +46,8 @@ OneMore number at address text before after =
 pub record RowOf (texts : List (ℕ × List ℕ)) (later : Names) (before : List Line) (line : Line) (row : Row)
     : Type 0 where
   pub numbered : line.number ≡ length before + 1
-  pub number : row.number ≡ line.number
   pub at : row.at ≡ place before line
-  pub address : row.address ≡ spec.address (place before line) line.statement
-  pub bytes : row.bytes.items ≡ []
-  pub text : row.text.items ≡ spec.text_of texts line.number
+  pub is : model_of_row row ≡ spec.row_of spec.no_bytes texts before line
   pub parsed : parsed later row.at row.text.items ≡ Ok line.statement
   pub room : row.at.number + declared_size line.statement ≤ 65536
 

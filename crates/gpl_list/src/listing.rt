@@ -14,10 +14,10 @@ ghost use Rattle.gpl_list.specs.Listings.{model_of_listing, refused_by};
 use crate::read::ReadLines;
 use crate::rows::{NameRow, Row};
 use crate::second_pass::assemble_rows;
-use crate::write::{put_names, put_rows};
 use bench_io::{Failed, Sink};
 use gpl_asm::GplError;
 use gpl_source_defs::GplCause;
+use report_lines::put_items;
 use std::alloc::{AllocError, Global};
 
 /// The listing of a GPL source: its lines with their addresses and their bytes, and its names.
@@ -93,8 +93,8 @@ impl GplListing {
         ensures { Written result (O.state out.old) (O.state out.new)
             (listing_lines (model_of_listing self.now).rows (model_of_listing self.now).names) }
     {
-        put_rows(self.rows.as_slice(), out)?;
-        put_names(self.names.as_slice(), out)
+        put_items(self.rows.as_slice(), out)?;
+        put_items(self.names.as_slice(), out)
     }
 
     /// The refused line, if one is refused.

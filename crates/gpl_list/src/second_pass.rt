@@ -4,7 +4,7 @@ ghost use Rattle.std.specs.Prelude.{◌≡◌, ℕ, List, [], ◌∷◌, ◌++�
 ghost use Rattle.gpl_source_defs.specs.Locations.{Line};
 ghost use Rattle.gpl_source_defs.specs.Programs.{bytes_in};
 ghost use Rattle.gpl_lines.specs.Defined.{model_of_outcome};
-ghost use Rattle.gpl_list.specs.Reading.{Describes, onto};
+ghost use Rattle.gpl_list.specs.Reading.{Describes, model_of_row, onto};
 ghost use Rattle.gpl_list.specs.SecondPass.{Fits, AssemblesRow, AssemblesRows};
 
 use crate::rows::Row;
@@ -41,11 +41,7 @@ pub(crate) fn assemble_rows(
 
 /// A row with these bytes.
 fn with_bytes(row: Row, bytes: Vec<u8>) -> Row
-    ensures number { result.number ≡ row.number }
-    ensures at { result.at ≡ row.at }
-    ensures address { result.address ≡ row.address }
-    ensures text { result.text.items ≡ row.text.items }
-    ensures bytes { result.bytes.items ≡ bytes.items }
+    ensures { model_of_row result ≡ record (model_of_row row) { bytes = bytes.items } }
 {
     Row {
         number: row.number,

@@ -21,7 +21,7 @@ use Rattle.report_defs.specs.declared.command.Command.TheVariants.{Asm, Gasm, Di
 use Rattle.report_defs.specs.declared.command.Command.TheVariants.{Run, Trace, Demo}
 use Rattle.report_defs.specs.declared.status.Status.{Status}
 use Rattle.report_defs.specs.declared.status.Status.TheVariants.{Done, Refused}
-use Rattle.report_defs.specs.declared.limits.TheConstants.{LARGEST_INPUT}
+use Rattle.shelf_defs.specs.Copied as copied
 use Rattle.report_defs.specs.declared.fault.Fault.{Fault}
 use Rattle.report_defs.specs.declared.fault.Fault.TheVariants.{TooLarge, PastEnd, NoEntry}
 use Rattle.report_defs.specs.FaultLine.{fault_status}
@@ -57,7 +57,7 @@ status_of (RejectedAfter pieces line) = Refused
 
 -- Profile: an input has at most 1,048,576 bytes.
 abbrev pub largest_input : ℕ
-largest_input = LARGEST_INPUT
+largest_input = copied.largest_input
 
 -- bytes in one piece, or in none where there are none
 abbrev pub one_piece : List ℕ → List (List ℕ)

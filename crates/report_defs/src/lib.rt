@@ -9,6 +9,7 @@ mod summary;
 
 pub use command::{COMMANDS, Command, CommandName};
 pub use fault::Fault;
-pub use limits::{LARGEST_INPUT, MOST_BLOCKS, MOST_INSTRUCTIONS, MOST_STEPS};
+pub use limits::{MOST_BLOCKS, MOST_INSTRUCTIONS, MOST_STEPS};
+pub use shelf_defs::LARGEST_INPUT;
 pub use status::Status;
 pub use summary::Summary;

@@ -1,8 +1,5 @@
 //! How much the programs read and execute.
 
-/// The most bytes that an input has, and a file that `link` reads.
-pub const LARGEST_INPUT: usize = 1_048_576;
-
 /// The most instructions that `exec` and `steps` execute.
 pub const MOST_INSTRUCTIONS: u32 = 10_000_000;
 

@@ -9,5 +9,5 @@ mod rows;
 
 pub use faults::{asm_line, gpl_line, refusal_line};
 pub use line::{Line, append, append_count, append_right, append_spaced, append_word, line_of};
-pub use lines::put_lines;
+pub use lines::{InLines, put_items, put_lines};
 pub use rows::put_rows;

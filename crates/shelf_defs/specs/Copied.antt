@@ -10,6 +10,7 @@ use Rattle.std.specs.Option.{ok_or}
 use Rattle.source_defs.specs.Refusals.{◌>>=◌, unless}
 use Rattle.source_defs.specs.Lines.{line_texts}
 use Rattle.asm_defs.specs.declared.causes.AsmCause.{AsmCause}
+use Rattle.shelf_defs.specs.declared.limits.TheConstants.{LARGEST_INPUT}
 use Rattle.shelf_defs.specs.Files.{Files, Contents, of_files}
 use Rattle.shelf_defs.specs.CopyLines.{LineKind, Itself, File, Bad, asked, ends_source}
 
@@ -49,6 +50,10 @@ pub record Copied : Type 0 where
   pub lines : List PlacedLine
   pub copies : ℕ
   pub ending : Ending
+
+-- Profile: an input has at most 1,048,576 bytes.
+abbrev pub largest_input : ℕ
+largest_input = LARGEST_INPUT
 
 abbrev pub deepest : ℕ
 deepest = 4

@@ -1,3 +1,7 @@
 //! Files by name, and the lines of a source with the lines of the files that it copies. The definitions stand in
 //! `specs/`.
 #![tactic(auto)]
+
+mod limits;
+
+pub use limits::LARGEST_INPUT;

@@ -8,7 +8,7 @@ returns-in_ok-lines_of-in-Ok-clause-report g c =
 
 pub returns-in-Err-clause-report : goal.returns-in-Err-clause-report
 returns-in-Err-clause-report g c =
-    error_reported _ _ c.args.text.now c.in-Err.error c.refused.result c.in-Err.ensures.answered c.in-Err.ensures.causes c.refused.ensures
+    error_reported _ _ c.args.text.now c.in-Err.error c.command_error.result c.in-Err.ensures.answered c.in-Err.ensures.causes c.command_error.ensures
 
 pub lines_of-requires : goal.lines_of-requires
 lines_of-requires g c = module_is_of_lines _ _ c.args.text.now c.in-Ok.module c.in-Ok.ensures.answered

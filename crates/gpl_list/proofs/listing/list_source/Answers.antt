@@ -1,4 +1,4 @@
-use Rattle.std.proofs.Common.{◌≡◌, ◌-◌, List, Err, map, take, sym, ap, subst, ◌∙◌}
+use Rattle.std.proofs.Common.{◌-◌, List, Err, map, take, sym, ap, subst, ◌∙◌}
 use Rattle.std.specs.Prelude.{Result}
 use Rattle.source_defs.specs.Refusals.{Refusal}
 use Rattle.source_defs.specs.Lines.{line_texts}

@@ -1,7 +1,7 @@
-use Rattle.std.proofs.Common.{ℕ, Vec, Global, List, [], ◌∷◌, sym, subst, ◌∙◌}
+use Rattle.std.proofs.Common.{ℕ, Vec, Global, List, [], sym, subst, ◌∙◌}
 use Rattle.gpl_list.specs.declared.rows.Row.{Row}
 use Rattle.gpl_list.specs.Reading.{onto}
-use Rattle.gpl_list.proofs.SecondPassLaws.{Going, Given, next_fits, none_left, going_more, going_refused, going_end}
+use Rattle.gpl_list.proofs.SecondPassLaws.{Going, next_fits, none_left, going_more, going_refused, going_end}
 use Rattle.gpl_list.proofs.second_pass.assemble_rows.Goals as goal
 
 pub assemble_row-requires : goal.assemble_row-requires
@@ -24,14 +24,8 @@ loop-row-preserved c = λ texts rest describes.
     let going = subst (λ (left : List Row). Going texts known lines left c.loop-row.image c.loop-row.assembled_lines.items) c.in-Some.ensures.steps.0
     (c.loop-row.invariant texts rest describes) in
     let asked = rw c.as_slice.ensures.value at c.in-Ok.ensures in
-    let given : Given texts known row c.with_bytes.result c.in-Ok.bytes.items = record {
-      number = c.with_bytes.ensures.number;
-      address = c.with_bytes.ensures.address;
-      text = c.with_bytes.ensures.text;
-      bytes_are = c.with_bytes.ensures.bytes;
-    } in
     going_more texts known (λ bytes. bytes.items) lines row next c.loop-row.image c.assemble_row.new.image c.loop-row.assembled_lines.items c.in-Ok.bytes
-    c.with_bytes.result c.push_row.new.rows.items going asked given c.in_ok-push_row-in-Ok.ensures
+    c.with_bytes.result c.push_row.new.rows.items going asked c.with_bytes.ensures c.in_ok-push_row-in-Ok.ensures
 
 pub returns-in-Err : goal.returns-in-Err
 returns-in-Err c = λ texts rest describes.

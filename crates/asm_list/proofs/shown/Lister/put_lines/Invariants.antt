@@ -1,6 +1,7 @@
 use Rattle.std.proofs.Common.{◌≡◌, ◌++◌, length, map}
 use Rattle.asm_list_defs.specs.Rows.{lines_rows}
-use Rattle.asm_list.specs.Adding.{texts_in, known_to, listed_line, rows_by_names}
+use Rattle.bench_shelf.specs.Listed.{listed_line}
+use Rattle.asm_list.specs.Adding.{texts_in, known_to, rows_by_names}
 use Rattle.asm_list.proofs.shown.Lister.put_lines.Given as goal
 
 abbrev pub invariant-loop-rest : goal.invariant-loop-rest
