@@ -14,7 +14,8 @@ use Rattle.reports.proofs.Runs.{IsProgram, laws_of}
 use Rattle.bench_commands.proofs.Laws as bench
 use Rattle.bench_commands.proofs.Laws.{on_all}
 use Rattle.gpl_list_defs.proofs.RowLaws.{listings_give_programs}
-use Rattle.row_laws.proofs.StandingRows.{rows_stand_in_runs}
+use Rattle.row_laws.proofs.AssembledRows.{rows_stand_in_runs}
+use Rattle.row_laws.proofs.ListedNames.{listings_have_all}
 use Rattle.asm_list_defs.proofs.ModuleLaws.{listings_show_modules}
 use Rattle.machine_change_defs.proofs.MemoryLead.{changes_give_memory}
 use Rattle.gpl_counts.proofs.Bounds.{counts_are_bounded, counts_are_instructions}
@@ -29,6 +30,7 @@ use Rattle.debug_report_defs.proofs.GplLines.{lines_give_states}
 use Rattle.debug_report_defs.proofs.MachineLines.{machine_lines_give_states}
 use Rattle.debug_report_defs.proofs.ReportLaws.{one_debug_report, debug_fronts_begin_reports, grun_reports_as_run}
 use Rattle.debug_report_defs.proofs.SiblingLaws.{siblings_report_alike}
+use Rattle.debug_report_defs.proofs.ListedSources.{listings_are_read}
 use Rattle.debug_commands.specs.Listed.{ListReported}
 use Rattle.file_commands.specs.Inputs.{Inputs, ShownInputs, FaultRose}
 use Rattle.debug_commands.specs.Debug.{debug_input, ListOn, Reports, ReadFails, Shows, debug_program}
@@ -87,8 +89,10 @@ laws =
       runs = laws_of debug_program is_program;
       fronts = debug_fronts_begin_reports;
       listings = listings_give_programs;
+      lines = listings_are_read;
       standing = rows_stand_in_runs;
       modules = listings_show_modules;
+      complete = listings_have_all;
       siblings = siblings_report_alike;
       states = lines_give_states;
       memory = changes_give_memory;

@@ -6,7 +6,7 @@ use Rattle.shelf_defs.specs.Copied.{CopyRefusal, most_bytes}
 use Rattle.bench_shelf.specs.States.{ShelfState}
 use Rattle.bench_shelf.specs.CopyAnswers.{model_of_cause}
 use Rattle.bench_shelf.specs.Causes.{ShelfCauses}
-use Rattle.bench_shelf.specs.Listed.{GivesReport}
+use Rattle.bench_shelf.specs.Listed.{GivesReport, as_result, RefusedAs, RefusedCauses, ListAnswered}
 use Rattle.bench_shelf.specs.declared.copy_error.CopyCause.{CopyCause}
 use Rattle.bench_shelf.specs.declared.copy_error.CopyCause.TheVariants.{Asm, BadCopy, TooDeep, TooMany, Missing}
 use Rattle.bench_shelf.specs.declared.copy_error.CopyError.{CopyError}
@@ -14,7 +14,7 @@ use Rattle.bench_shelf.specs.declared.copy_error.CopyError.TheVariants.{At, TooL
 use Rattle.bench_shelf.proofs.AskedLaws.{some_contents}
 use Rattle.file_commands.specs.Reported.{CopyCauses}
 use Rattle.asm_list.specs.declared.listing.AsmListing.{AsmListing}
-use Rattle.asm_list.specs.Listings.{rows_of, as_result, RefusedAs, ListingAnswered, RefusedCauses}
+use Rattle.asm_list.specs.Listings.{rows_of, Lists}
 use Rattle.debug_report_defs.specs.Listings.{rows_report}
 use Rattle.debug_commands.specs.Listed.{RefusalCauses, ListReported, model_of_refusal}
 
@@ -51,12 +51,12 @@ module _ (before after : ShelfState) (source : List ℕ) where
   refusal_causes (Some Fault) reported causes = absurd reported
   refusal_causes (Some Memory) reported causes = absurd reported
 
-  pub is_reported : (listing : AsmListing) → ListingAnswered before after source (Ok listing) → IfSome listing.refused GivesReport
+  pub is_reported : (listing : AsmListing) → ListAnswered Lists before after source (Ok listing) → IfSome listing.refused GivesReport
   is_reported listing answered =
       let some = some_contents most_bytes answered.questions in
       reported_if listing.refused _ (answered.gives some.0 some.1).refused
 
-  pub listing_reported : (listing : AsmListing) → ListingAnswered before after source (Ok listing) → RefusedCauses listing.refused before after
+  pub listing_reported : (listing : AsmListing) → ListAnswered Lists before after source (Ok listing) → RefusedCauses listing.refused before after
       → ListReported before after source (rows_report (rows_of listing) (model_of_refusal listing.refused))
   listing_reported listing answered causes = record {
     questions = answered.questions;

@@ -1,25 +1,21 @@
 //! `list`: the lines of an assembler source and of the files that it copies, with their places and what they place, and
 //! its names.
 
-ghost use Rattle.std.specs.Prelude.{◌≡◌, ◌≤◌, length, Err, IfSome};
-ghost use Rattle.source_defs.specs.Refusals.{map_ok};
+ghost use Rattle.std.specs.Prelude.{◌≡◌, ◌≤◌, length, IfSome};
 ghost use Rattle.report_defs.specs.Report.{largest_input};
-ghost use Rattle.report_defs.specs.FileReports.{copy_report};
 ghost use Rattle.debug_report_defs.specs.Listings.{rows_report};
 ghost use Rattle.bench_shelf.specs.Causes.{CountsGrew};
 ghost use Rattle.bench_shelf.specs.Listed.{GivesReport};
-ghost use Rattle.reports.specs.Answers.{error_answer};
 ghost use Rattle.reports.specs.Outputs.{EndsWith};
-ghost use Rattle.file_commands.specs.Copying.{copy_refusal};
 ghost use Rattle.asm_list.specs.Listings.{rows_of};
 ghost use Rattle.debug_commands.specs.Listed.{EndsListed, model_of_refusal};
 
 use asm_list::{AsmListing, list_source};
 use bench_io::Sink;
-use bench_shelf::{CopyError, Shelf};
-use file_commands::copy_line;
-use report_defs::{Fault, Status};
-use reports::{CommandError, finish};
+use bench_shelf::Shelf;
+use file_commands::command_error;
+use report_defs::Status;
+use reports::finish;
 use std::alloc::Global;
 
 /// Lists a source with the files of a shelf that it copies. Of one that is refused the lines before the refused one are
@@ -62,17 +58,5 @@ fn finish_list<O: Sink, E: Sink>(listing: &AsmListing, out: &mut O, err: &mut E)
     match listing.refused() {
         Some(error) => finish(&Err(command_error(error)), out, err),
         None => Status::Done,
-    }
-}
-
-/// Why a source is refused, or is not listed.
-fn command_error(error: CopyError) -> CommandError
-    ensures { error_answer result ≡ map_ok (λ refusal. copy_report (Err refusal)) (copy_refusal error) }
-{
-    match error {
-        CopyError::At { file, line, cause } => CommandError::Refused(copy_line(file, line, cause)),
-        CopyError::TooLarge => CommandError::Fault(Fault::TooLarge),
-        CopyError::Fault => CommandError::ReadFault,
-        CopyError::Memory => CommandError::Memory,
     }
 }

@@ -26,7 +26,7 @@ number_front n = front_all (replicate (6 - length (decimal n)) 0x20) (decimal n)
 
 -- ---- a number that blanks are before
 
-word_then : (word rest : List ℕ) → list_all in_word word ≡ true → (first_word (word ++ 0x20 ∷ rest) ≡ word) × (after_word (word ++ 0x20 ∷ rest) ≡ rest)
+pub word_then : (word rest : List ℕ) → list_all in_word word ≡ true → (first_word (word ++ 0x20 ∷ rest) ≡ word) × (after_word (word ++ 0x20 ∷ rest) ≡ rest)
 word_then [] rest e = (refl, refl)
 word_then (byte ∷ word) rest e =
     let own = not_true (byte == 0x20) (and_left (in_word byte) (list_all in_word word) e) in
@@ -53,25 +53,25 @@ first_some k n =
     let acc = digit_glyph false (n % 10) ∷ [] in
     cond_both (λ text. 0 < length text) (nat_eq (n / 10) 0) acc _ (omega arith) (onto_some k (n / 10) acc (omega arith))
 
-decimal_some : (n : ℕ) → 0 < length (decimal n)
+pub decimal_some : (n : ℕ) → 0 < length (decimal n)
 unfolding digits
 decimal_some n = first_some 63 n
 
-number_there : (n : ℕ) (rest : List ℕ) → after_blanks (right_in 6 n ++ 0x20 ∷ rest) ≡ decimal n ++ 0x20 ∷ rest
+pub number_there : (columns n : ℕ) (rest : List ℕ) → after_blanks (right_in columns n ++ 0x20 ∷ rest) ≡ decimal n ++ 0x20 ∷ rest
 unfolding right_in
-number_there n rest =
-    ap after_blanks (append_assoc (replicate (6 - length (decimal n)) 0x20) (decimal n) (0x20 ∷ rest))
-    ∙ skip_blanks (6 - length (decimal n)) (decimal n ++ 0x20 ∷ rest)
+number_there columns n rest =
+    ap after_blanks (append_assoc (replicate (columns - length (decimal n)) 0x20) (decimal n) (0x20 ∷ rest))
+    ∙ skip_blanks (columns - length (decimal n)) (decimal n ++ 0x20 ∷ rest)
     ∙ at_word (decimal n) (0x20 ∷ rest) (decimal_some n) (decimal_passes in_word n refl)
 
 pub number_found : (n : ℕ) (rest : List ℕ) → n < 2 ^ 64 → number_in (right_in 6 n ++ 0x20 ∷ rest) ≡ n
 number_found n rest lt =
-    ap (λ l. decimal_value (first_word l)) (number_there n rest)
+    ap (λ l. decimal_value (first_word l)) (number_there 6 n rest)
     ∙ ap decimal_value (word_then (decimal n) rest (decimal_passes in_word n refl)).0
     ∙ decimal_back n lt
 
-pub rest_found : (n : ℕ) (rest : List ℕ) → after_number (right_in 6 n ++ 0x20 ∷ rest) ≡ rest
-rest_found n rest = ap after_word (number_there n rest) ∙ (word_then (decimal n) rest (decimal_passes in_word n refl)).1
+pub rest_found : (columns n : ℕ) (rest : List ℕ) → after_number (right_in columns n ++ 0x20 ∷ rest) ≡ rest
+rest_found columns n rest = ap after_word (number_there columns n rest) ∙ (word_then (decimal n) rest (decimal_passes in_word n refl)).1
 
 -- ---- words at their places
 

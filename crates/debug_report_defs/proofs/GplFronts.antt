@@ -89,7 +89,7 @@ gpl_front_read number s lt =
     let shown =
     (hex_word s.pc ++ (codes " S" ++ (byte_digits status ++ (codes " D" ++ (byte_digits values ++ (codes " R" ++ byte_digits returns)))))) ++
     (codes " " ++ text) in
-    let rest = rest_found number shown in
+    let rest = rest_found 6 number shown in
     record {
       number_is = λ small. number_found number shown small;
       pc_is = ap (λ l. (gpl_front_in 0 l).pc) rest ∙ state_pc_at s.pc status values returns text lt;

@@ -20,3 +20,5 @@ pub mod MachineFitting
 pub mod MachineLines
 pub mod LineRows
 mod CommandRows
+pub mod ListingRead
+pub mod ListedSources

@@ -1,12 +1,13 @@
 -- Lines that are read by hand: some of docs/REPORTS, and one with a change of each kind.
 use Rattle.std.proofs.Common.{◌≡◌, ℕ, true, List, [], ◌∷◌, ◌++◌, Some, None, refl}
-use Rattle.std.specs.Prelude.{codes}
+use Rattle.std.specs.Prelude.{codes, drop}
 use Rattle.tms_defs.specs.Status.{status_at}
 use Rattle.change_defs.specs.Changes.{Change}
 use Rattle.debug_report_defs.specs.LineParts.{front_part, changes_part}
 use Rattle.debug_report_defs.specs.LineFronts.{machine_front, gpl_front}
 use Rattle.debug_report_defs.specs.Reader.{changes_of_line}
 use Rattle.debug_report_defs.specs.MachineReader.{no_changes, machine_changes}
+use Rattle.debug_report_defs.specs.ListingReader.{column_bytes, address_columns, is_name_line, name_in, texts_read}
 
 abbrev change : ℕ → ℕ → ℕ → Change
 change at byte count = record { at = at; byte = byte; count = count }
@@ -81,3 +82,32 @@ copies = refl
 
 pub selects_nothing : changes_part (codes "     6 >6035 S00 D9F R80 CASE @>8300\n") ≡ codes "\n"
 selects_nothing = refl
+
+-- ---- `glist`
+
+abbrev few_bytes : List ℕ
+few_bytes = codes "      2 >6000 AA 01 01 00                    BYTE >AA,1,1,0\n"
+
+pub few_after_number : address_columns few_bytes ≡ codes ">6000 AA 01 01 00                    BYTE >AA,1,1,0\n"
+few_after_number = refl
+
+pub few_in_columns : column_bytes 8 (drop 5 (address_columns few_bytes)) ≡ 0xAA ∷ 1 ∷ 1 ∷ 0 ∷ []
+few_in_columns = refl
+
+-- eight bytes are followed by the text of the line, whatever it looks like
+pub eight_in_columns : column_bytes 8 (drop 5 (address_columns (codes "     14 >6104 01 02 03 04 05 06 07 08 AB     BYTE 1,2,3\n")))
+    ≡ 1 ∷ 2 ∷ 3 ∷ 4 ∷ 5 ∷ 6 ∷ 7 ∷ 8 ∷ []
+eight_in_columns = refl
+
+pub ninth_in_columns : column_bytes 8 (drop 5 (address_columns (codes "        >610C 09\n"))) ≡ 9 ∷ []
+ninth_in_columns = refl
+
+pub names_line : is_name_line (codes "name >600C       4 MENU\n") ≡ true
+names_line = refl
+
+pub named : name_in (codes "name >600C       4 MENU\n") ≡ codes "MENU"
+named = refl
+
+-- a line has its text; one of further bytes and one of a name have none
+pub text_of_line : texts_read (few_bytes ∷ codes "        >610C 09\n" ∷ codes "name >600C       4 MENU\n" ∷ []) ≡ codes "       BYTE >AA,1,1,0" ∷ []
+text_of_line = refl

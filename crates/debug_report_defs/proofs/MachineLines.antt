@@ -60,7 +60,7 @@ front_read number x fit =
     let status = status_word cpu.status in
     let text = instruction_text cpu in
     let shown = (hex_word cpu.pc ++ (codes " WP" ++ (word_digits cpu.wp ++ (codes " ST" ++ word_digits status)))) ++ (codes " " ++ text) in
-    let rest = rest_found number shown in
+    let rest = rest_found 6 number shown in
     record {
       number_is = λ lt. number_found number shown lt;
       pc_is = ap (λ l. (machine_front_in 0 l).pc) rest ∙ pc_at cpu.pc cpu.wp status text fit.pc;

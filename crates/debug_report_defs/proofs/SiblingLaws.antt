@@ -1,5 +1,5 @@
 -- What `ti_debug` reports beside what `ti_bench` reports on the same input.
-use Rattle.std.proofs.Common.{◌≡◌, ℕ, List, [], ◌++◌, length, Bool, true, false, Option, Some, None, refl, sym, ap, ◌∙◌, subst, append-nil}
+use Rattle.std.proofs.Common.{◌≡◌, ℕ, List, [], ◌++◌, length, Bool, true, false, Option, Some, None, refl, sym, ap, subst, append-nil}
 use Rattle.std.specs.Prelude.{Result, Ok, Err, MatchBool, nat_lt}
 use Rattle.source_defs.specs.Refusals.{Refusal, ◌>>=◌}
 use Rattle.object_defs.specs.Modules.{Module}
@@ -25,7 +25,7 @@ use Rattle.report_defs.specs.Exec.{exec_lines, end_status}
 use Rattle.report_defs.specs.ObjectInput.{linked_input}
 use Rattle.report_defs.specs.Program.{program_status}
 use Rattle.report_defs.specs.Trace.{step_lines}
-use Rattle.report_defs.specs.Report.{Report, Whole, Faulty, largest_input, status_of, gasm_report}
+use Rattle.report_defs.specs.Report.{Report, Whole, Faulty, largest_input, gasm_report}
 use Rattle.report_defs.specs.Report.{ReportsExecution, ExecReport, ProgramRun, ReportsProgram, EnteredReport, ProgramReport}
 use Rattle.report_defs.specs.Report.{run_lines, shown_lines}
 use Rattle.report_defs.specs.FileReports.{copy_report, AsmReport}
@@ -42,7 +42,7 @@ use Rattle.gpl_list_defs.proofs.RowLaws.{listings_give_programs}
 use Rattle.asm_list_defs.specs.Listed.{listing, listing_by, listing_after}
 use Rattle.asm_list_defs.specs.Rows.{listing_rows}
 use Rattle.debug_report_defs.specs.Listings.{rows_report, list_report}
-use Rattle.debug_report_defs.specs.SiblingLaws.{error_line_of, RefuseAlike, Holds, SiblingsReportAlike}
+use Rattle.debug_report_defs.specs.SiblingLaws.{RefuseAlike, Holds, SiblingsReportAlike}
 
 -- what is refused, if anything is
 abbrev refusal_of : {A : Type 0} → Result A CopyRefusal → Option CopyRefusal

@@ -8,3 +8,5 @@ pub mod Laws
 pub mod SiblingLaws
 pub mod MachineReader
 pub mod MachineLaws
+pub mod ListingReader
+pub mod ListingLaws

@@ -2,6 +2,7 @@
 
 ghost use Rattle.debug_report_defs.specs.Laws.{DebugFrontsBeginReports, GrunReportsAsRun, LinesGiveStates};
 ghost use Rattle.debug_report_defs.specs.Laws.{OneDebugReport};
+ghost use Rattle.debug_report_defs.specs.ListingLaws.{ListingsAreRead};
 ghost use Rattle.debug_report_defs.specs.MachineLaws.{MachineLinesGiveStates};
 ghost use Rattle.debug_report_defs.specs.SiblingLaws.{SiblingsReportAlike};
 
@@ -42,4 +43,11 @@ pub fn lines_give_states()
 #[tactic(auto, using(crate::proofs::MachineLines::machine_lines_give_states))]
 pub fn machine_lines_give_states()
     ensures { MachineLinesGiveStates }
+{}
+
+/// From the lines of `glist` alone the image, the names and the texts are read, and the texts are again a source of the
+/// same program.
+#[tactic(auto, using(crate::proofs::ListedSources::listings_are_read))]
+pub fn listings_are_read()
+    ensures { ListingsAreRead }
 {}

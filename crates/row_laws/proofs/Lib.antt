@@ -1,2 +1,7 @@
 pub mod StillImage
 pub mod StandingRows
+pub mod ValidLines
+pub mod AssembledRows
+pub mod StandingNames
+pub mod ListedNames
+pub mod ThreeLines

@@ -32,7 +32,7 @@ use Rattle.gpl_source_defs.specs.SecondChecks.{Outcome, Bytes, outcome}
 use Rattle.gpl_source_defs.specs.Programs.{AssembledLine, Program, program_of_source, assembled_line, overlaps, image, bytes_in, program_by, program_after}
 use Rattle.gpl_list_defs.specs.Rows.{Row, address, outcome_bytes, placed_bytes, row_of, rows}
 use Rattle.gpl_list_defs.specs.Listing.{assembled_listing, laid_listing, listing_of}
-use Rattle.row_laws.specs.Laws.{RowStands, ShowsRow, RowsStandInRuns}
+use Rattle.row_laws.specs.Laws.{RowStands, ShowsRow}
 use Rattle.row_laws.proofs.StillImage.{run_still}
 
 -- ---- bytes at their addresses
@@ -40,7 +40,7 @@ use Rattle.row_laws.proofs.StillImage.{run_still}
 abbrev Holds : Image → ℕ → List ℕ → Type 0
 Holds image at bytes = (k : ℕ) → k < length bytes → get image (at + k) ≡ Some (slice_index bytes k)
 
-get_other : (image : Image) (at byte k : ℕ) → k ≢ at → get (insert image at byte) k ≡ get image k
+pub get_other : (image : Image) (at byte k : ℕ) → k ≢ at → get (insert image at byte) k ≡ get image k
 get_other image at byte k other = get-insert nat_cmp_total image at byte k ∙ rw (ties-other k at other) refl
 
 ties_self : (k : ℕ) → eq_by_cmp nat_cmp k k ≡ true
@@ -54,7 +54,7 @@ get_before [] image at k lt = refl
 get_before (byte ∷ bytes) image at k lt =
     get_before bytes (insert image at byte) (at + 1) k (omega (arith, lt)) ∙ get_other image at byte k (omega (arith, lt))
 
-new_hold : (bytes : List ℕ) (image : Image) (at : ℕ) → Holds (placed image at bytes) at bytes
+pub new_hold : (bytes : List ℕ) (image : Image) (at : ℕ) → Holds (placed image at bytes) at bytes
 new_hold [] image at k lt = absurd (omega (arith, lt))
 new_hold (byte ∷ bytes) image at zero lt =
     let here : at + 0 ≡ at = omega arith in
@@ -63,7 +63,7 @@ new_hold (byte ∷ bytes) image at (suc k) lt =
     let there : at + suc k ≡ at + 1 + k = omega arith in
     ap (get (placed image at (byte ∷ bytes))) there ∙ new_hold bytes (insert image at byte) (at + 1) k (omega (arith, lt))
 
-none_of_two : (a b : Bool) → (a || b) ≡ false → (a ≡ false) × (b ≡ false)
+pub none_of_two : (a b : Bool) → (a || b) ≡ false → (a ≡ false) × (b ≡ false)
 none_of_two true b e = cc e
 none_of_two false b e = (refl, e)
 
@@ -98,7 +98,7 @@ more_hold [] image at bytes room all = tt
 more_hold (row ∷ found) image at bytes room all =
     (λ k lt. old_hold bytes image at (row.at + k) (slice_index row.bytes k) room (all.0 k lt), more_hold found image at bytes room all.1)
 
-all_append : {A : Type 0} (P : A → Type 0) (first second : List A) → AllByRecursion P first → AllByRecursion P second → AllByRecursion P (first ++ second)
+pub all_append : {A : Type 0} (P : A → Type 0) (first second : List A) → AllByRecursion P first → AllByRecursion P second → AllByRecursion P (first ++ second)
 all_append P [] second all others = others
 all_append P (item ∷ first) second all others = (all.0, all_append P first second all.1 others)
 
@@ -195,7 +195,7 @@ stand_from (byte ∷ next ∷ bytes) image at each le =
           (omega (arith, le))),
     )
 
-row_shows : (s : GplState) (row : Row) → RowStands s.image row → ShowsRow s row
+pub row_shows : (s : GplState) (row : Row) → RowStands s.image row → ShowsRow s row
 row_shows s row stands instr bytes valid lies at =
     let inside : (k : ℕ) → k < length row.bytes → row.at + k < 65536 = λ k lt. omega (arith, lt, lies.begins, lies.ends) in
     let each = stand_from row.bytes s.image row.at (λ k lt. stands k lt (inside k lt)) lies.ends in
@@ -204,21 +204,13 @@ row_shows s row stands instr bytes valid lies at =
     (subst (λ bytes. Stand s.image bytes row.at (end_of row.bytes row.at)) bytes each) in
     ap (λ found. read_text found s.pc) (bytes_read instr valid s.image s.pc (end_of row.bytes row.at) there)
 
-all_show : (s : GplState) (found : List Row) → AllByRecursion (RowStands s.image) found → AllByRecursion (ShowsRow s) found
+pub all_show : (s : GplState) (found : List Row) → AllByRecursion (RowStands s.image) found → AllByRecursion (ShowsRow s) found
 all_show s [] all = tt
 all_show s (row ∷ found) all = (row_shows s row all.0, all_show s found all.1)
 
-rows_stand : (source : List ℕ) (program : Program) (bytes : List ℕ) (entry made : ℕ) → program_of_source source ≡ Ok program → AreBytesOf program.image bytes
+pub rows_stand : (source : List ℕ) (program : Program) (bytes : List ℕ) (entry made : ℕ) → program_of_source source ≡ Ok program
+    → AreBytesOf program.image bytes
     → AllByRecursion (RowStands (run made (start bytes entry)).last.image) (listing_of source).rows
 rows_stand source program bytes entry made is are =
     subst (λ bytes. AllByRecursion (RowStands bytes) (listing_of source).rows) (sym (run_still made (start bytes entry)))
     (all_stand program.image bytes (listing_of source).rows are (laid_rows (line_texts source) (laid check (line_texts source)) program is))
-
-pub rows_stand_in_runs : RowsStandInRuns
-rows_stand_in_runs =
-    record {
-      image = λ s made. run_still made s;
-      rows = rows_stand;
-      shows = λ source program bytes entry made is are.
-          all_show (run made (start bytes entry)).last (listing_of source).rows (rows_stand source program bytes entry made is are);
-    }

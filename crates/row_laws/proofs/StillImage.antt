@@ -214,7 +214,7 @@ step_still : (s : GplState) → IfOk (step s) (StillState s.image)
 step_still s = read_still (reading s.image s.pc) s
 
 -- a run from a state, by what its first step answers
-abbrev run_on : ℕ → GplState → Result GplState Reason → GplRun
+abbrev pub run_on : ℕ → GplState → Result GplState Reason → GplRun
 run_on limit s answer =
     elim answer [
       | Ok next ↦ one_more (run limit next)

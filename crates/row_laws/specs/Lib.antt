@@ -1,1 +1,3 @@
 pub mod Laws
+pub mod Listings
+pub mod OneTrace
