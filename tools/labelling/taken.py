@@ -4,6 +4,11 @@ All ways through a subroutine are followed up to its returns, each with what was
 each line on the ways says what it does to the return address, no two ways come to one line with different numbers, and
 all returns have one number. Nested calls take their own bytes. What a run has shown of a call, or what a person says of
 a subroutine, comes before that.
+
+A wrong number would show data as code, and an edit would change them as if they were addresses; so what is not certain
+ends the path. Three things are assumed, since all would be uncertain without them: code outside of the image, and what
+XML calls, takes no bytes; the stacks begin where the console has them, or where a store of a number puts them; and
+machine code does not reach its own registers through memory.
 """
 import typing
 

@@ -266,10 +266,10 @@ TABLE: typing.Dict[str, typing.Dict[str, Operation]] = {
 
 
 def sentences(language):
-    """The rows of a document's table, by name."""
-    yield '| Name | Operands | Code | Status bits | What it does |'
-    yield '|---|---|---|---|---|'
-    for it in sorted(TABLE[language].values()):
-        if not it.is_form:
-            operands = f'`{it.operands}`' if it.is_directive and language == GPL else it.operands
-            yield f'| `{it.name}` | {operands} | {it.code} | {it.status} | {it.does} |'
+    """The rows of a document's table, by name. A form of words, as DST, has the row of its form of bytes."""
+    yield '| Name | Code | Status bits | What it does |'
+    yield '|---|---|---|---|'
+    table = TABLE[language]
+    for it in sorted(table.values()):
+        if it.code and not (it.name[0] == 'D' and it.name[1:] in table):
+            yield f'| `{it.name}` | {it.code} | {it.status} | {it.does} |'

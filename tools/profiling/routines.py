@@ -1,4 +1,9 @@
-"""The routines of a run: the stack of calls at each step, and what each routine took by itself and with its calls."""
+"""The routines of a run: the stack of calls at each step, and what each routine took by itself and with its calls.
+
+A routine of GPL has ended once the pointer of the return addresses is lower than in its first step. RTN does not say
+it, since a program may drop a return address or set the pointer. Machine code has no such pointer: there a return is a
+jump of B or RTWP to the place after the call, or after the data that follow it.
+"""
 import dataclasses
 import typing
 
