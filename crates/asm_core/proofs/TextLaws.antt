@@ -31,7 +31,7 @@ use Rattle.asm_defs.specs.Modules.{assembled_line, module_by, module_of, definit
 use Rattle.asm_defs.proofs.CheckLaws.{bound, checked_few}
 use Rattle.module_image.proofs.TableLaws.{count_same, count_none}
 use Rattle.module_image.proofs.HoldingLaws.{content_some}
-use Rattle.count_defs.specs.Counts.{one_if}
+use Rattle.base_defs.specs.Counts.{one_if}
 use Rattle.source_defs.specs.Names.{same_text}
 
 -- words stand at even places

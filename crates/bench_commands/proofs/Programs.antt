@@ -15,7 +15,7 @@ use Rattle.trace_dump.proofs.Shown.{seen_by, same_pc, same_state}
 use Rattle.report_defs.specs.declared.summary.Summary.{Summary}
 use Rattle.report_defs.specs.Summary.{summary_of, summary_lines}
 use Rattle.report_defs.specs.Report.{Report, Whole, ReportsProgram, run_lines, demo_lines}
-use Rattle.list_defs.specs.Lists.{sum_bytes}
+use Rattle.base_defs.specs.Lists.{sum_bytes}
 use Rattle.reports.specs.declared.report.Report.TheVariants as reported
 use Rattle.bench_commands.specs.declared.commands.program.LoadedProgram.{LoadedProgram}
 use Rattle.bench_commands.specs.Loaded.{LoadsEntered}

@@ -2,17 +2,15 @@
 use Rattle.std.proofs.Common.{◌≡◌, ◌≢◌, ◌⊎◌, ◌<◌, ℕ, [], Option, Some, None, refl, sym, subst, inl, inr, arith}
 use Rattle.std.specs.Prelude.{Bool, true, false, List, MatchBool, if◌then◌else◌}
 use Rattle.bench_io.specs.Memory.{Supply}
-use Rattle.bench_io.specs.Stream.{SinkCounts}
-use Rattle.count_defs.specs.Counts.{Rose}
+use Rattle.bench_io.specs.Stream.{SinkCounts, SourceState}
+use Rattle.base_defs.specs.Counts.{Rose}
 use Rattle.report_defs.specs.declared.command.Command.{Command}
 use Rattle.report_defs.specs.declared.status.Status.{Status}
 use Rattle.report_defs.specs.declared.status.Status.TheVariants as status
-use Rattle.report_defs.specs.Commands.{command_of}
-use Rattle.bench_io.specs.Stream.{SourceState}
+use Rattle.report_defs.specs.Commands.{command_of, reads}
 use Rattle.reports.specs.Run.{Run, EndsSaid, EndsBy}
 use Rattle.reports.specs.RunLaws.{HasNoFault}
 use Rattle.reports.proofs.Runs.{written, usage_answer, no_miss}
-use Rattle.report_defs.specs.Commands.{reads}
 use Rattle.bench_commands.specs.InputRun.{Shows}
 use Rattle.bench_commands.specs.Bench.{bench_input, bench_program}
 use Rattle.bench_commands.specs.Steady.{AnswersSteadily, EndsSteadily, read_of, steady_source, steady_sink}

@@ -1,7 +1,7 @@
 -- Programs whose commands read one input or nothing: what they read of it, report and leave.
 use Rattle.std.specs.Prelude.{◌≡◌, ℕ, ◌+◌, ◌≤◌, nat_lt, Bool, IsTrue, IsFalse, MatchBool, if◌then◌else◌}
 use Rattle.std.specs.Prelude.{List, [], length, Some}
-use Rattle.count_defs.specs.Counts.{Rose}
+use Rattle.base_defs.specs.Counts.{Rose}
 use Rattle.bench_io.specs.Stream.{SourceState, IsAtEnd}
 use Rattle.bench_io.specs.ReadAll.{Took, ReadWhole}
 use Rattle.report_defs.specs.Report.{Report, largest_input, OnInput}

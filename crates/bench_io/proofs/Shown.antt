@@ -5,7 +5,7 @@ use Rattle.std.specs.Result.{is_ok}
 use Rattle.std.specs.Io.KnownBytes as known
 use Rattle.std.specs.Io.KnownBytes.{Consumes, Keeps, Appends, append_known}
 use Rattle.bench_io.specs.Stream.{Gave, Grew, GrewByPrefix, AppendsPrefix, IsAtEnd}
-use Rattle.count_defs.specs.Counts.{saturating_sum, Rose}
+use Rattle.base_defs.specs.Counts.{saturating_sum, Rose}
 use Rattle.bench_io.specs.Shown.{GoesOn, ShowsStream, Unbuffered, shown_since}
 
 pub shown_gave : (first old new : Option (List ℕ)) (bytes : List ℕ) → GoesOn first old → Consumes old new bytes

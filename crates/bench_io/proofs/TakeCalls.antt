@@ -2,7 +2,7 @@
 use Rattle.std.proofs.Common.{◌≡◌, ℕ, ◌+◌, ◌≤◌, max, List, [], ◌++◌, length, take, Option, Some, None, sym}
 use Rattle.std.proofs.Common.{refl, ap, ◌∙◌, append_assoc, append-nil, length-append, length-take, arith}
 use Rattle.std.specs.Option.{option_map}
-use Rattle.count_defs.specs.Counts.{saturating_sum, Rose}
+use Rattle.base_defs.specs.Counts.{saturating_sum, Rose}
 use Rattle.bench_io.specs.Stream.{SourceState, Gave, GaveMore, GaveNoMore, empty_calls}
 use Rattle.bench_io.specs.ReadAll.{Took}
 

@@ -5,7 +5,7 @@ use Rattle.std.specs.Prelude.{OnOk, OnErr}
 use Rattle.std.specs.Option.{option_map}
 use Rattle.std.specs.List.{concat}
 use Rattle.std.proofs.lemmas.List.Folds.{concat-append}
-use Rattle.count_defs.specs.Counts.{saturating_sum, Rose}
+use Rattle.base_defs.specs.Counts.{saturating_sum, Rose}
 use Rattle.bench_io.specs.Stream.{SinkState, Grew, GrewByPrefix}
 use Rattle.bench_io.specs.Written.{Wrote, Missed, Written}
 

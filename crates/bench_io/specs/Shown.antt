@@ -1,7 +1,7 @@
 -- What an adapter over a stream of std shows of its bytes.
 use Rattle.std.specs.Prelude.{◌≡◌, ℕ, ◌≤◌, List, Option, Some, None, IfSome, Bool, true, false}
 use Rattle.std.specs.Io.KnownBytes.{append_known}
-use Rattle.count_defs.specs.Counts.{Rose}
+use Rattle.base_defs.specs.Counts.{Rose}
 use Rattle.bench_io.specs.Stream.{SinkState}
 
 -- how many of a stream's bytes are shown: all as one list, or none

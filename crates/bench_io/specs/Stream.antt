@@ -2,7 +2,7 @@
 use Rattle.std.specs.Prelude.{◌≡◌, ℕ, ◌-◌, max, List, [], ◌++◌, take, Option, IfSome}
 use Rattle.std.specs.Option.{option_map}
 use Rattle.std.specs.Io.KnownBytes.{Appends}
-use Rattle.count_defs.specs.Counts.{saturating_sum}
+use Rattle.base_defs.specs.Counts.{saturating_sum}
 
 -- A source: the bytes that are left, if it shows them; how many calls of `take` were made, how many bytes they gave,
 -- how many of them gave no byte (at the end, or by failing), and how many failed. A source may be opened anew: how many

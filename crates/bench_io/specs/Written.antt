@@ -1,7 +1,7 @@
 -- Pieces that are written to a sink one after the other, each by one call of `put`, up to the first call that fails.
 use Rattle.std.specs.Prelude.{◌≡◌, ℕ, ◌+◌, ◌≤◌, List, ◌∷◌, ◌++◌, length, take, Result, Ok, Err}
 use Rattle.std.specs.List.{concat}
-use Rattle.count_defs.specs.Counts.{saturating_sum, Rose}
+use Rattle.base_defs.specs.Counts.{saturating_sum, Rose}
 use Rattle.bench_io.specs.Stream.{SinkState, Grew}
 
 -- a sink got all of the pieces

@@ -1,7 +1,7 @@
 //! Where the bytes of a report go.
 
 ghost use Rattle.std.specs.Prelude.{◌≡◌, ◌≤◌, OnOk, OnErr};
-ghost use Rattle.count_defs.specs.Counts.{saturating_sum, Rose};
+ghost use Rattle.base_defs.specs.Counts.{saturating_sum, Rose};
 ghost use Rattle.bench_io.specs.Stream.{SinkState, Grew, GrewByPrefix};
 
 use crate::Failed;

@@ -1,7 +1,7 @@
 //! Where bytes come from.
 
 ghost use Rattle.std.specs.Prelude.{◌≡◌, ◌<◌, ◌≤◌, length, take, IfOk, OnErr};
-ghost use Rattle.count_defs.specs.Counts.{saturating_sum, Rose};
+ghost use Rattle.base_defs.specs.Counts.{saturating_sum, Rose};
 ghost use Rattle.bench_io.specs.Stream.{SourceState, Gave, GaveMore, GaveNoMore, IsAtEnd, empty_calls};
 
 use crate::Failed;

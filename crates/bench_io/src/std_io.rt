@@ -1,7 +1,7 @@
 //! A source and a sink over the readers and writers of std.
 
 ghost use Rattle.std.specs.Prelude.{◌≡◌, ◌<◌, ◌≤◌, length, take, IfOk, OnOk, OnErr};
-ghost use Rattle.count_defs.specs.Counts.{saturating_sum, Rose};
+ghost use Rattle.base_defs.specs.Counts.{saturating_sum, Rose};
 ghost use Rattle.bench_io.specs.Stream.{AppendsPrefix, Gave, Grew, GrewByPrefix, IsAtEnd, opened_once, empty_calls};
 ghost use Rattle.bench_io.specs.Shown.{ShowsStream, Unbuffered};
 ghost use Rattle.std.specs.Io.KnownBytes.{Appends};

@@ -2,7 +2,7 @@
 
 ghost use Rattle.std.specs.Prelude.{◌≡◌, ◌<◌, ◌≤◌, ◌+◌, min, ℕ, List, [], ◌++◌, length, take, drop, vec_len, Option};
 ghost use Rattle.std.specs.Prelude.{Some, None, IsOk, IsOkAnd, IfOk};
-ghost use Rattle.count_defs.specs.Counts.{saturating_sum};
+ghost use Rattle.base_defs.specs.Counts.{saturating_sum};
 ghost use Rattle.bench_io.specs.Stream.{opened_once, empty_calls};
 
 use crate::memory::copy_front;

@@ -1,6 +1,6 @@
 -- How much is taken of the files that are asked for.
 use Rattle.std.proofs.Common.{◌≡◌, ◌≤◌, ℕ, ◌+◌, ◌-◌, ◌*◌, List, [], ◌∷◌, ◌++◌, length, subst, arith, mul-suc, mul-le-mul_left}
-use Rattle.count_defs.specs.Counts.{saturating_sum}
+use Rattle.base_defs.specs.Counts.{saturating_sum}
 use Rattle.shelf_defs.specs.Questions.{FileAnswer, Bytes, Question}
 use Rattle.shelf_defs.specs.Amounts.{IsTaken, AreTaken}
 use Rattle.bench_shelf.specs.States.{ShelfState}

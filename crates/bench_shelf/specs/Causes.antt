@@ -1,8 +1,7 @@
 -- What a result says of the shelf: its counts, and the files that it was asked for.
-use Rattle.std.specs.Prelude.{◌≡◌, ⊤, ℕ, ◌+◌, ◌<◌, ◌≤◌, max, List, [], ◌∷◌, length}
-use Rattle.std.specs.Prelude.{IfSome}
+use Rattle.std.specs.Prelude.{◌≡◌, ⊤, ℕ, ◌+◌, ◌<◌, ◌≤◌, max, List, [], ◌∷◌, length, IfSome}
 use Rattle.std.specs.FinMap.{get}
-use Rattle.count_defs.specs.Counts.{saturating_sum, Rose}
+use Rattle.base_defs.specs.Counts.{saturating_sum, Rose}
 use Rattle.shelf_defs.specs.Copied.{most_bytes}
 use Rattle.shelf_defs.specs.Questions.{FileAnswer, NoFile, OverLimit, Unanswered, Question, Fits, names_of}
 use Rattle.shelf_defs.specs.Amounts.{AreTaken}

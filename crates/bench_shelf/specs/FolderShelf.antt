@@ -1,6 +1,6 @@
 -- A shelf of the current folder, which shows nothing of its files.
 use Rattle.std.specs.Prelude.{◌≡◌, ℕ, Bool, true, false, None, Result, Ok, Err}
-use Rattle.count_defs.specs.Counts.{saturating_sum, Rose}
+use Rattle.base_defs.specs.Counts.{saturating_sum, Rose}
 use Rattle.bench_shelf.specs.States.{ShelfState}
 use Rattle.bench_shelf.specs.declared.error.OpenError.{OpenError}
 use Rattle.bench_shelf.specs.declared.error.OpenError.TheVariants.{Failed, Missing}

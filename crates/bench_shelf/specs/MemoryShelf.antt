@@ -1,7 +1,7 @@
 -- A shelf in memory.
 use Rattle.std.specs.Prelude.{◌≡◌, ℕ, ◌-◌, ◌≤◌, List, [], length, drop, map, Option, Some, None, Contains}
 use Rattle.std.specs.Prelude.{Result, Ok, Err}
-use Rattle.count_defs.specs.Counts.{saturating_sum, Rose}
+use Rattle.base_defs.specs.Counts.{saturating_sum, Rose}
 use Rattle.std.specs.FinMap.{get}
 use Rattle.bench_shelf.specs.States.{Shelved, by_name}
 use Rattle.bench_shelf.specs.declared.error.OpenError.{OpenError}

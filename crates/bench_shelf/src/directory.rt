@@ -1,7 +1,7 @@
 //! The current folder as a shelf.
 
 ghost use Rattle.std.specs.Prelude.{◌≡◌, ◌<◌, ◌≤◌, max, length, false, refl, is_some, IfOk, OnErr};
-ghost use Rattle.count_defs.specs.Counts.{saturating_sum, Rose};
+ghost use Rattle.base_defs.specs.Counts.{saturating_sum, Rose};
 ghost use Rattle.bench_io.specs.Stream.{empty_calls};
 ghost use Rattle.bench_shelf.specs.States.{FixedPart, fixed_part, same_files};
 ghost use Rattle.bench_shelf.specs.FolderShelf.{hidden_state, OpensFrom};

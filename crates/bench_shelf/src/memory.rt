@@ -3,7 +3,7 @@
 ghost use Rattle.std.specs.Prelude.{◌≡◌, ◌↔◌, ◌<◌, ◌≤◌, min, max, [], ◌++◌, length, take, drop, refl, IsTrue, IsFalse};
 ghost use Rattle.std.specs.Prelude.{IsErr, IfOk, OnOk, OnErr, IfErr, Contains, is_some, Option};
 ghost use Rattle.std.specs.Option.{option_map, unwrap_or};
-ghost use Rattle.count_defs.specs.Counts.{saturating_sum, Rose};
+ghost use Rattle.base_defs.specs.Counts.{saturating_sum, Rose};
 ghost use Rattle.bench_io.specs.Stream.{empty_calls};
 ghost use Rattle.bench_shelf.specs.States.{FixedPart, fixed_part, same_files, visible_state};
 ghost use Rattle.bench_shelf.specs.MemoryShelf.{named, file_bytes, OpensIn};

@@ -1,7 +1,6 @@
 //! The console's memory map, as one memory that the processor reads and writes.
 
-ghost use Rattle.std.specs.Prelude.{◌≡◌, ◌<◌, ◌≤◌, ℕ, ◌+◌, ◌-◌, ◌*◌, ◌/◌, ◌%◌, length, slice_index, slice_set, IfOk};
-ghost use Rattle.std.specs.Prelude.{OnErr};
+ghost use Rattle.std.specs.Prelude.{◌≡◌, ◌<◌, ◌≤◌, ℕ, ◌+◌, ◌-◌, ◌*◌, ◌/◌, ◌%◌, length, slice_index, slice_set, IfOk, OnErr};
 ghost use Rattle.tms_defs.specs.Words.{high, low, join, even};
 ghost use Rattle.tms_defs.specs.Bytes.{HoldsBytes, HoldsZeros, word_in, with_word_in};
 ghost use Rattle.tms_defs.specs.Accesses.{answer_of, written_by};
@@ -12,7 +11,7 @@ ghost use Rattle.console_defs.specs.Memory.{word_read, word_written};
 ghost use Rattle.console_defs.specs.Memory.{word_placed, cell_set};
 
 use crate::expansion::Expansion;
-use byte_lists::{holds_bytes, zeros};
+use memory_basics::{holds_bytes, zeros};
 use byteorder::{BigEndian, ByteOrder};
 use grom_counter::Grom;
 use std::alloc::{AllocError, Global};

@@ -2,13 +2,12 @@
 use Rattle.std.proofs.Common.{◌≡◌, ◌<◌, ℕ, zero, suc, ◌+◌, Bool, true, false, refl, sym, ap, ◌∙◌, arith, Option, Some}
 use Rattle.std.proofs.Common.{None}
 use Rattle.std.specs.Prelude.{eqb, if◌then◌else◌}
-use Rattle.count_defs.specs.Counts.{saturating_sum}
+use Rattle.base_defs.specs.Counts.{saturating_sum}
 use Rattle.tms_defs.specs.Accesses.{Answer, Gives, AtPort, NoInstruction, ◌>>=◌}
 use Rattle.console_defs.specs.Memory.{Memory, IsMemory, console}
 use Rattle.tms_defs.specs.Operand.{Cpu}
 use Rattle.tms_defs.specs.Step.{step}
-use Rattle.console_defs.specs.Machine.{MachineState, IsMachine, new_machine, counted, machine_step, given_by, done_step}
-use Rattle.console_defs.specs.Machine.{steps}
+use Rattle.console_defs.specs.Machine.{MachineState, IsMachine, new_machine, counted, machine_step, given_by, done_step, steps}
 use Rattle.console_defs.specs.Runs.{is_reached, end_of_step, after_steps, self_jumped, end_at, IsRun}
 use Rattle.tms_defs.specs.declared.step_end.StepEnd.{StepEnd}
 use Rattle.tms_defs.specs.declared.step_end.StepEnd.TheVariants.{Done, Refused, Port}

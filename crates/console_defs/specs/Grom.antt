@@ -2,7 +2,7 @@
 use Rattle.std.specs.Prelude.{◌<◌, ℕ, Bool, true, false, not, List, slice_index}
 use Rattle.tms_defs.specs.Words.{high, low, join}
 use Rattle.tms_defs.specs.Bytes.{HoldsBytes}
-use Rattle.grom_defs.specs.Addresses.{next_in_grom}
+use Rattle.base_defs.specs.Addresses.{next_in_grom}
 
 -- The state of the GROMs. `half_written` marks that one byte of an address was written and the other is to come.
 -- GPL Programmer's Guide, on the GROM ports.

@@ -1,4 +1,4 @@
-pub use Rattle.grom_defs.specs.Addresses
+pub use Rattle.base_defs.specs.Addresses
 pub mod Vdp
 pub mod Grom
 pub mod Memory

@@ -1,6 +1,6 @@
 -- The machine of the console: the processor over the console's memory, with a count of its instructions, and its steps.
 use Rattle.std.specs.Prelude.{◌≡◌, ◌<◌, ℕ, zero, suc, ◌^◌, Bool, ◌&&◌, nat_le, if◌then◌else◌, is_some, Option, Some, None}
-use Rattle.count_defs.specs.Counts.{saturating_sum}
+use Rattle.base_defs.specs.Counts.{saturating_sum}
 use Rattle.tms_defs.specs.Words.{even}
 use Rattle.tms_defs.specs.Status.{IsStatus, status_at}
 use Rattle.tms_defs.specs.Accesses.{Answer, Gives, AtPort, NoInstruction, ◌>>=◌}

@@ -30,7 +30,7 @@ use Rattle.gpl_counts.specs.Counts.{ReportsCounts}
 use Rattle.gpl_step_defs.specs.State.{start}
 use Rattle.gpl_step_defs.specs.Run.{run}
 use Rattle.machine_change_defs.specs.Reports.{StepsReport}
-use Rattle.steps_command.specs.Ends.{EndsInstructions}
+use Rattle.debug_commands.specs.Ends.{EndsInstructions}
 use Rattle.gpl_list_defs.specs.Text.{listing_lines}
 use Rattle.gpl_list_defs.specs.Listing.{listing_of, listing_report, report_by}
 use Rattle.debug_commands.specs.Answered.{EndsAnswered}

@@ -5,3 +5,4 @@ mod Shelved
 mod ShelfUse
 pub mod Laws
 pub mod CountEnds
+pub mod StepsCommandEnds

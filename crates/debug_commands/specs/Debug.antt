@@ -1,7 +1,6 @@
 -- `ti_debug` as a program: what its commands read of the input and of a shelf, report and leave.
-use Rattle.std.specs.Prelude.{◌≡◌, ◌⊎◌, ℕ, ◌+◌, ◌*◌, ◌≤◌, nat_lt, true, MatchBool, List, length}
-use Rattle.std.specs.Prelude.{Option, Some, None}
-use Rattle.count_defs.specs.Counts.{saturating_sum}
+use Rattle.std.specs.Prelude.{◌≡◌, ◌⊎◌, ℕ, ◌+◌, ◌*◌, ◌≤◌, nat_lt, true, MatchBool, List, length, Option, Some, None}
+use Rattle.base_defs.specs.Counts.{saturating_sum}
 use Rattle.bench_io.specs.ReadAll.{ReadWhole}
 use Rattle.shelf_defs.specs.Copied.{most_bytes, most_copies}
 use Rattle.bench_shelf.specs.States.{ShelfState}

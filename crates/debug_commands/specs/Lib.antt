@@ -4,3 +4,5 @@ pub mod Listed
 pub mod Debug
 pub mod Laws
 pub mod AssembledSteps
+pub mod Written
+pub mod Ends

@@ -7,8 +7,11 @@ mod grun;
 mod gsteps;
 mod list;
 mod running;
+mod shown;
+mod steps_command_running;
 mod streams;
 mod words;
 
 pub use crate::running::debug;
 pub use crate::streams::{debug_over, debug_through};
+pub use steps_command_running::steps;

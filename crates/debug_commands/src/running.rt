@@ -20,7 +20,7 @@ use debug_report_defs::DebugCommand;
 use report_defs::{LARGEST_INPUT, Status};
 use reports::{finish, tell};
 use std::alloc::Global;
-use steps_command::steps;
+use crate::steps;
 
 /// Runs the command that the words say. It reads all of `input` before it writes, and `list` reads the files that the
 /// source copies from `shelf` then. It writes the report to `out`, or a fault line or the usage line to `err`, and

@@ -5,7 +5,7 @@ use Rattle.std.specs.Prelude.{slice_index, IfSome}
 use Rattle.tms_defs.specs.Words.{even, high, low}
 use Rattle.tms_defs.specs.Bytes.{HoldsBytes, word_in, with_word_in}
 use Rattle.tms_defs.proofs.WordLaws.{join-fits, high-fits, low-fits}
-use Rattle.grom_defs.proofs.AddressLaws.{next-fits}
+use Rattle.base_defs.proofs.AddressLaws.{next-fits}
 use Rattle.console_defs.specs.Vdp.{VdpState, IsVdp, PairKind, ReadSetup, WriteSetup, RegisterWrite, NoOperation, pair_kind, pair_done, address_byte_taken}
 use Rattle.console_defs.specs.Grom.{GromState, IsGrom, grom_fetched_ahead, grom_half_taken}
 use Rattle.console_defs.specs.Memory.{Memory, IsMemory, console, Port, VdpDataRead, VdpStatusRead, VdpDataWrite, VdpAddressWrite, GromDataRead, GromAddressRead}

@@ -3,7 +3,7 @@
 ghost use Rattle.std.specs.Prelude.{◌≡◌, ◌≤◌, length, map};
 ghost use Rattle.bench_io.specs.Written.{Written};
 ghost use Rattle.interp_defs.specs.Match.{shown_by};
-ghost use Rattle.list_defs.specs.Lists as plain;
+ghost use Rattle.base_defs.specs.Lists as plain;
 ghost use Rattle.report_defs.specs.Summary as spec;
 
 use bench_io::{Failed, Sink};

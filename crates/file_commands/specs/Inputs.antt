@@ -1,6 +1,6 @@
 -- What a program with files reads.
 use Rattle.std.specs.Prelude.{◌≡◌, ◌⊎◌, ℕ, List}
-use Rattle.count_defs.specs.Counts.{Rose}
+use Rattle.base_defs.specs.Counts.{Rose}
 use Rattle.bench_io.specs.Stream.{SourceState}
 use Rattle.bench_io.specs.ReadAll.{ReadWhole}
 use Rattle.report_defs.specs.Report.{largest_input}

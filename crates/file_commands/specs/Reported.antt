@@ -3,7 +3,7 @@
 -- A report is the one of the definitions by the answers of the shelf. Each refusal has its cause: a file is too large
 -- exactly where more bytes of one were taken than it may have.
 use Rattle.std.specs.Prelude.{◌≡◌, List, ℕ, length, OnOk, Result, Ok, Err}
-use Rattle.count_defs.specs.Counts.{Rose}
+use Rattle.base_defs.specs.Counts.{Rose}
 use Rattle.source_defs.specs.Refusals.{◌>>=◌}
 use Rattle.object_defs.specs.Modules.{Module}
 use Rattle.shelf_defs.specs.Files.{Contents}
@@ -18,8 +18,7 @@ use Rattle.bench_shelf.specs.Dialogue.{CopyDialogue}
 use Rattle.report_defs.specs.declared.status.Status.{Status}
 use Rattle.report_defs.specs.declared.status.Status.TheVariants as status
 use Rattle.report_defs.specs.Report.{Report, largest_input}
-use Rattle.report_defs.specs.LinkedFiles.{FilesRefusal, Missing, TooLarge, InFile, Unlinked}
-use Rattle.report_defs.specs.LinkedFiles.{read_by, linked_texts}
+use Rattle.report_defs.specs.LinkedFiles.{FilesRefusal, Missing, TooLarge, InFile, Unlinked, read_by, linked_texts}
 use Rattle.report_defs.specs.FileReports.{copy_report, files_report}
 use Rattle.file_commands.specs.Reading.{LinkDialogue, EndsMissing}
 

@@ -25,7 +25,7 @@ use Rattle.gpl_asm.specs.Room.{HasRoom, AllHaveRoom}
 use Rattle.gpl_asm.specs.Keeping.{pending_of}
 use Rattle.gpl_asm.specs.Building.{IsAfter, whole}
 use Rattle.gpl_asm.proofs.LineLaws.{location_more, place_is, whole_more, kept_more}
-use Rattle.grom_defs.specs.declared.size.TheConstants.{GROM_SIZE}
+use Rattle.base_defs.specs.declared.size.TheConstants.{GROM_SIZE}
 
 -- a label that is new leaves the names before as they are
 none_is : {A : Type 0} (found : Option A) → is_some found ≡ false → found ≡ None

@@ -1,6 +1,6 @@
 -- The machines of a run are those of its beginnings, and their counts are their instructions.
 use Rattle.std.proofs.Common.{◌≡◌, ℕ, zero, suc, ◌+◌, ◌≤◌, List, Option, Some, None, Result, Ok, Err, refl, sym, ap, ◌∙◌, subst, arith}
-use Rattle.count_defs.specs.Counts.{saturating_sum}
+use Rattle.base_defs.specs.Counts.{saturating_sum}
 use Rattle.console_defs.specs.Machine.{MachineState}
 use Rattle.console_defs.proofs.RunLaws.{steps-count}
 use Rattle.gpl_step_defs.specs.declared.reason.Reason.{Reason}

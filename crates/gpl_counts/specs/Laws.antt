@@ -1,6 +1,6 @@
 -- Laws of counts.
 use Rattle.std.specs.Prelude.{◌≡◌, ℕ, ◌+◌, ◌*◌, ◌<◌, ◌≤◌, List, None}
-use Rattle.count_defs.specs.Counts.{saturating_sum}
+use Rattle.base_defs.specs.Counts.{saturating_sum}
 use Rattle.console_defs.specs.Machine.{MachineState}
 use Rattle.gpl_defs.specs.Image.{Image}
 use Rattle.gpl_step_defs.specs.State.{start}

@@ -4,7 +4,7 @@ use Rattle.std.proofs.Common.{List, [], ◌∷◌, refl, ap, ◌∙◌, arith, S
 use Rattle.std.specs.Prelude.{◌==◌, slice_index, IsTrue}
 use Rattle.std.proofs.lemmas.Bool.Decides.{nat_tests}
 use Rattle.tms_defs.specs.Words.{high, low, join}
-use Rattle.grom_defs.specs.Addresses.{next_in_grom}
+use Rattle.base_defs.specs.Addresses.{next_in_grom}
 use Rattle.gpl_defs.specs.declared.instruction.GplOperand.{GplOperand}
 use Rattle.gpl_defs.specs.declared.instruction.GplSource.{GplSource}
 use Rattle.gpl_defs.specs.declared.instruction.GplSource.TheVariants as source
@@ -34,7 +34,7 @@ use Rattle.gpl_defs.specs.Reading.{reading}
 use Rattle.gpl_defs.proofs.CodeLaws.{found, rows_fit, row_fits, row_begins, row_ends}
 use Rattle.gpl_defs.proofs.StandLaws.{holds_part}
 use Rattle.gpl_defs.proofs.OperandLaws.{operand_back}
-use Rattle.count_defs.specs.Counts.{one_if}
+use Rattle.base_defs.specs.Counts.{one_if}
 
 -- ---- from the spelling to what is read
 

@@ -4,16 +4,15 @@ use Rattle.std.proofs.Common.{refl, arith, Option, Some, None}
 use Rattle.std.specs.Prelude.{◌==◌, if◌then◌else◌, nat_lt, slice_index, IsTrue, is_some}
 use Rattle.std.proofs.lemmas.Bool.Decides.{nat_tests}
 use Rattle.tms_defs.specs.Words.{high, low, join}
-use Rattle.grom_defs.specs.Addresses.{next_in_grom}
+use Rattle.base_defs.specs.Addresses.{next_in_grom}
 use Rattle.gpl_defs.specs.declared.instruction.Space.{Space}
 use Rattle.gpl_defs.specs.declared.instruction.Space.TheVariants.{Cpu, Vdp}
 use Rattle.gpl_defs.specs.declared.instruction.GplOperand.{GplOperand}
-use Rattle.gpl_defs.specs.Bytes.{is_vdp, form_bits, index_bytes}
-use Rattle.gpl_defs.specs.Bytes.{fits_one_byte}
+use Rattle.gpl_defs.specs.Bytes.{is_vdp, form_bits, index_bytes, fits_one_byte}
 use Rattle.gpl_defs.specs.Spellings.{Spelling, OneByte, TwelveBits, SixteenBits, may_have, spelled, SpellsOperand, Stand, Holds}
 use Rattle.gpl_defs.specs.Reading.{Read, ◌>>=◌, give, read_as, byte_at, space_of, address_at, index_by, plain_operand}
 use Rattle.gpl_defs.specs.Reading.{word_at, operand_at}
-use Rattle.count_defs.specs.Counts.{one_if}
+use Rattle.base_defs.specs.Counts.{one_if}
 
 abbrev pub index_at : ℕ → Read (Option ℕ)
 index_at first = index_by (first / 64 % 2 == 1)

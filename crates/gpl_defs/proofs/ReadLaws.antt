@@ -4,7 +4,7 @@ use Rattle.std.proofs.Common.{refl, sym, ap, arith, Some}
 use Rattle.std.specs.Prelude.{◌==◌, slice_index, IsTrue}
 use Rattle.std.proofs.lemmas.Bool.Decides.{nat_tests}
 use Rattle.tms_defs.specs.Words.{high, low, join}
-use Rattle.grom_defs.specs.Addresses.{next_in_grom}
+use Rattle.base_defs.specs.Addresses.{next_in_grom}
 use Rattle.gpl_defs.specs.declared.instruction.MoveKind.{MoveKind}
 use Rattle.gpl_defs.specs.declared.instruction.MoveKind.TheVariants.{
   GromToMemory,
@@ -18,13 +18,12 @@ use Rattle.gpl_defs.specs.declared.instruction.GplOperation.TheVariants as opera
 use Rattle.gpl_defs.specs.Valid.{is_valid, is_valid_source, is_valid_move, has_immediate}
 use Rattle.gpl_defs.specs.Bytes.{word_bytes, value_bytes, from_bytes, kind_of, operation_of, is_immediate, is_counted}
 use Rattle.gpl_defs.specs.Bytes.{code_of}
-use Rattle.gpl_defs.specs.Spellings.{SpellsSource, SpellsLength, SpellsTarget, SpellsFrom, SpellsRest}
-use Rattle.gpl_defs.specs.Spellings.{Stand, Holds}
+use Rattle.gpl_defs.specs.Spellings.{SpellsSource, SpellsLength, SpellsTarget, SpellsFrom, SpellsRest, Stand, Holds}
 use Rattle.gpl_defs.specs.Reading.{word_at, value_at, source_at, length_at, target_at, from_at, move_at, instr_at, operand_at}
 use Rattle.gpl_defs.proofs.CodeLaws.{row_fits}
 use Rattle.gpl_defs.proofs.StandLaws.{holds_join}
 use Rattle.gpl_defs.proofs.OperandLaws.{operand_read}
-use Rattle.count_defs.specs.Counts.{one_if}
+use Rattle.base_defs.specs.Counts.{one_if}
 
 module _ (image : List ℕ) (fits : (k : ℕ) → slice_index image k < 256) where
   word_read : (at : ℕ) → Stand image (word_bytes (word_at image at).0) at (word_at image at).1

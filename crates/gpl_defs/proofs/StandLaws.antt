@@ -1,6 +1,6 @@
 -- Bytes that stand after one another in a GROM.
 use Rattle.std.proofs.Common.{ℕ, List, [], ◌∷◌, ◌++◌, refl}
-use Rattle.grom_defs.specs.Addresses.{next_in_grom}
+use Rattle.base_defs.specs.Addresses.{next_in_grom}
 use Rattle.gpl_defs.specs.Spellings.{Stand, Holds, Joined}
 
 -- bytes after other bytes, and the address between them

@@ -26,7 +26,7 @@ use Rattle.gpl_defs.specs.declared.instruction.GplInstr.TheVariants.{Plain, Byte
 use Rattle.gpl_defs.specs.declared.instruction.GplOperation.{GplOperation}
 use Rattle.gpl_defs.specs.declared.instruction.GplOperation.TheVariants as operation
 use Rattle.gpl_defs.specs.Codes.{row_of}
-use Rattle.count_defs.specs.Counts.{one_if}
+use Rattle.base_defs.specs.Counts.{one_if}
 
 abbrev pub is_vdp : Space → Bool
 is_vdp Cpu = false

@@ -1,5 +1,5 @@
-pub use Rattle.grom_defs.specs.Addresses
-pub use Rattle.count_defs.specs.Counts
+pub use Rattle.base_defs.specs.Addresses
+pub use Rattle.base_defs.specs.Counts
 pub mod Codes
 pub mod Valid
 pub mod Bytes

@@ -3,7 +3,7 @@ use Rattle.std.specs.Prelude.{◌≡◌, ℕ, ◌/◌, ◌%◌, ◌==◌, ◌&&�
 use Rattle.std.specs.Prelude.{slice_index, Option, Some, None}
 use Rattle.tms_defs.specs.Words.{join}
 use Rattle.tms_defs.specs.Status.{is_set}
-use Rattle.grom_defs.specs.Addresses.{next_in_grom}
+use Rattle.base_defs.specs.Addresses.{next_in_grom}
 use Rattle.gpl_defs.specs.declared.instruction.Space.{Space}
 use Rattle.gpl_defs.specs.declared.instruction.Space.TheVariants.{Cpu, Vdp}
 use Rattle.gpl_defs.specs.declared.instruction.GplOperand.{GplOperand}
@@ -16,8 +16,7 @@ use Rattle.gpl_defs.specs.declared.instruction.MoveTarget.TheVariants as target
 use Rattle.gpl_defs.specs.declared.instruction.MoveSource.{MoveSource}
 use Rattle.gpl_defs.specs.declared.instruction.MoveSource.TheVariants as from
 use Rattle.gpl_defs.specs.declared.instruction.MoveKind.{MoveKind}
-use Rattle.gpl_defs.specs.declared.instruction.MoveKind.TheVariants.{GromIndexedToMemory, MemoryToMemory}
-use Rattle.gpl_defs.specs.declared.instruction.MoveKind.TheVariants.{GromToRegisters}
+use Rattle.gpl_defs.specs.declared.instruction.MoveKind.TheVariants.{GromIndexedToMemory, MemoryToMemory, GromToRegisters}
 use Rattle.gpl_defs.specs.declared.instruction.GplInstr.{GplInstr}
 use Rattle.gpl_defs.specs.declared.instruction.GplInstr.TheVariants.{Plain, Byte, Jump, Branch, One, Two, Move}
 use Rattle.gpl_defs.specs.declared.instruction.GplOperation.{GplOperation}

@@ -10,7 +10,7 @@ ghost use Rattle.gpl_listing_defs.specs.Listing as spec;
 use crate::text::{push_byte_text, push_instr};
 use arrayvec::ArrayString;
 use gpl_forms::{GplInstr, GplRead, read_instr, size_between, size_of};
-use grom_defs::GROM_SIZE;
+use base_defs::GROM_SIZE;
 
 /// A line, with room for its line feed.
 pub(crate) type Line = ArrayString<80>;

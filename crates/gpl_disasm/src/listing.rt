@@ -11,7 +11,7 @@ use crate::line::{Line, MARGIN, list_line};
 use asm_text::push_word;
 use bench_io::{Failed, Sink, put_chunk};
 use gpl_forms::GromImage;
-use grom_defs::GROM_SIZE;
+use base_defs::GROM_SIZE;
 
 /// Writes the listing of an image from its lowest to its highest written address, each line by one call. A line for
 /// GROM and one for AORG stand before the first byte, and again where a byte begins a GROM; the last line is END. An

@@ -15,7 +15,7 @@ use asm_text::{push_byte, push_word};
 use gpl_forms::{
     GplInstr, GplOperation, GplRead, MoveLength, MoveSource, MoveTarget, name_of, read_instr,
 };
-use grom_defs::GROM_SIZE;
+use base_defs::GROM_SIZE;
 
 /// The text of a valid instruction that stands at the address `at`: the operation, and its operands after a blank. The
 /// GROM of `at` completes the target of a BR or BS. GPL Programmer's Guide, the statements.

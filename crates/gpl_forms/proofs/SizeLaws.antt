@@ -3,7 +3,7 @@ use Rattle.std.proofs.Common.{◌≡◌, ◌≢◌, ℕ, suc, ◌+◌, ◌*◌, 
 use Rattle.std.proofs.Common.{List, [], ◌∷◌, ◌++◌, length, length-append, refl, sym, ◌∙◌, arith}
 use Rattle.std.specs.Prelude.{slice_index, ◌==◌, ◌&&◌, IsTrue, Option, Some, None}
 use Rattle.std.proofs.lemmas.Bool.Decides.{nat_tests}
-use Rattle.grom_defs.specs.Addresses.{next_in_grom}
+use Rattle.base_defs.specs.Addresses.{next_in_grom}
 use Rattle.gpl_defs.specs.declared.instruction.GplOperand.{GplOperand}
 use Rattle.gpl_defs.specs.declared.instruction.GplSource.{GplSource}
 use Rattle.gpl_defs.specs.declared.instruction.GplSource.TheVariants as source
@@ -18,8 +18,7 @@ use Rattle.gpl_defs.specs.declared.instruction.GplInstr.TheVariants.{One, Two, M
 use Rattle.gpl_defs.specs.declared.instruction.GplRead.TheVariants.{Instr}
 use Rattle.gpl_defs.specs.Valid.{is_valid}
 use Rattle.gpl_defs.specs.Bytes.{index_bytes, value_bytes, bytes_of}
-use Rattle.gpl_defs.specs.Spellings.{Spelling, OneByte, spelled}
-use Rattle.gpl_defs.specs.Spellings.{SpellsOperand, SpellsSource, SpellsLength}
+use Rattle.gpl_defs.specs.Spellings.{Spelling, OneByte, spelled, SpellsOperand, SpellsSource, SpellsLength}
 use Rattle.gpl_defs.specs.Spellings.{SpellsTarget, SpellsFrom, SpellsRest, Spells, Stand}
 use Rattle.gpl_defs.specs.Reading.{reading, stand, ReadsInstr}
 use Rattle.gpl_forms.specs.Sizes.{size_between}

@@ -1,6 +1,6 @@
 -- How many bytes lie between addresses of a GROM.
 use Rattle.std.specs.Prelude.{ℕ, ◌+◌, ◌-◌, ◌%◌}
-use Rattle.grom_defs.specs.declared.size.TheConstants.{GROM_SIZE}
+use Rattle.base_defs.specs.declared.size.TheConstants.{GROM_SIZE}
 
 -- From an address up to one after it in the same GROM, in which a GROM's first address follows its last.
 abbrev pub size_between : ℕ → ℕ → ℕ

@@ -5,7 +5,7 @@ ghost use Rattle.std.specs.Prelude.{IsFalse, length, take, drop, replicate, slic
 ghost use Rattle.std.specs.FinMap.{empty, insert, contains_key};
 ghost use Rattle.gpl_defs.specs.Image.{byte_at, low_of, high_of, placed, written_bytes};
 
-use byte_lists::zeros;
+use memory_basics::zeros;
 use std::alloc::{AllocError, Global};
 use std::marker::Model;
 

@@ -7,12 +7,12 @@ ghost use Rattle.gpl_defs.specs.Reading as spec;
 
 use crate::operations::operation_at;
 use crate::write::write_instr;
-use byte_lists::holds_bytes;
+use memory_basics::holds_bytes;
 use gpl_defs::{
     GplInstr, GplOperand, GplOperation, GplRead, GplSource, MoveKind, MoveLength, MoveSource,
     MoveTarget, Space,
 };
-use grom_addresses::next_in_grom;
+use memory_basics::next_in_grom;
 
 /// The instruction at an address of 65,536 bytes, in any of its spellings, with the address after it; or the code
 /// byte there, exactly where it is no instruction's. After the last address of a GROM comes its first.

@@ -3,7 +3,7 @@ ghost use Rattle.std.specs.Prelude.{◌≡◌};
 ghost use Rattle.gpl_defs.specs.Valid as spec;
 
 use gpl_defs::{GplInstr, GplSource, MoveSource, MoveTarget, OneName, TwoName};
-use grom_defs::GROM_SIZE;
+use base_defs::GROM_SIZE;
 
 /// Whether an instruction has bytes: the offset of a BR or BS is below `>2000`, FETCH and PUSH are no words, an
 /// immediate source of a form of bytes is below 256, EX has no immediate source, and MOVE loads registers of the

@@ -14,7 +14,7 @@ use crate::statement::Statement;
 use crate::values::{Scope, address_of};
 use asm_text::{Name, SplitLine, Symbols, fields};
 use gpl_source_defs::{GplCause, Location};
-use grom_defs::GROM_SIZE;
+use base_defs::GROM_SIZE;
 
 /// What the first checks leave of a line.
 #[derive(Clone, Copy)]

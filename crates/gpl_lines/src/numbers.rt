@@ -8,7 +8,7 @@ ghost use Rattle.gpl_source_defs.specs.declared.causes.GplCause.TheVariants.{Bad
 
 use gpl_defs::Space;
 use gpl_source_defs::{GplCause, Location};
-use grom_defs::GROM_SIZE;
+use base_defs::GROM_SIZE;
 
 /// The first address of the scratchpad.
 const SCRATCHPAD: u16 = 0x8300;

@@ -1,7 +1,7 @@
 -- Bytes that are placed one after the other, where nothing is placed, and what is listed at an address.
 use Rattle.std.proofs.Common.{◌≡◌, ℕ, ◌/◌, ◌%◌, ◌<◌, Bool, true, false, List, refl, subst, Option, Some, None, arith}
 use Rattle.std.specs.Prelude.{◌==◌, if◌then◌else◌, nat_lt, slice_index, is_some, IsTrue, nat_le}
-use Rattle.grom_defs.specs.Addresses.{next_in_grom}
+use Rattle.base_defs.specs.Addresses.{next_in_grom}
 use Rattle.gpl_defs.specs.declared.instruction.MoveKind.{MoveKind}
 use Rattle.gpl_defs.specs.declared.instruction.MoveKind.TheVariants.{GromIndexedToMemory, MemoryToMemory, GromToRegisters}
 use Rattle.gpl_defs.specs.declared.instruction.GplInstr.{GplInstr}
@@ -10,7 +10,7 @@ use Rattle.gpl_defs.specs.declared.instruction.GplOperation.TheVariants as opera
 use Rattle.gpl_defs.specs.declared.instruction.GplRead.{GplRead}
 use Rattle.gpl_defs.specs.declared.instruction.GplRead.TheVariants.{Instr, Refused}
 use Rattle.gpl_defs.specs.Codes.{operation_at}
-use Rattle.gpl_defs.specs.Reading.{word_at, address_at, index_by, operand_at}
+use Rattle.gpl_defs.specs.Reading.{word_at, address_at, index_by, operand_at, stand, IsReadAt, ReadsInstr}
 use Rattle.gpl_defs.specs.Reading.{source_at, length_at, target_at, from_at, instr_at, read_by, reading}
 use Rattle.gpl_listing_defs.proofs.Operands.{IndexFits, OperandFits}
 use Rattle.gpl_listing_defs.proofs.Instructions.{SourceFits, LengthFits, TargetFits, FromFits, InstrFits}
@@ -22,7 +22,6 @@ use Rattle.std.proofs.lemmas.List.{drop_more, take-append-drop, take-take, drop-
 use Rattle.std.proofs.lemmas.Bool.Decides.{nat_tests}
 use Rattle.std.proofs.lemmas.Grind.{common_steps}
 use Rattle.gpl_defs.specs.Image.{Image, placed}
-use Rattle.gpl_defs.specs.Reading.{stand, IsReadAt, ReadsInstr}
 use Rattle.gpl_defs.proofs.ImageLaws.{ties-other}
 use Rattle.gpl_defs.proofs.OperandLaws.{address_by, operand_by}
 use Rattle.gpl_source_defs.specs.Programs.{overlaps}

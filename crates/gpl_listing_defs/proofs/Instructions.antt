@@ -7,8 +7,8 @@ use Rattle.std.specs.List.{list_all}
 use Rattle.std.proofs.lemmas.Bool.Decides.{nat_tests}
 use Rattle.source_defs.specs.Digits.{hex_byte, hex_word}
 use Rattle.expression_defs.specs.Expression.{Value}
-use Rattle.grom_defs.specs.Addresses.{in_grom_of}
-use Rattle.grom_defs.specs.declared.size.TheConstants.{GROM_SIZE}
+use Rattle.base_defs.specs.Addresses.{in_grom_of}
+use Rattle.base_defs.specs.declared.size.TheConstants.{GROM_SIZE}
 use Rattle.gpl_defs.specs.declared.scratchpad.TheConstants.{SCRATCHPAD}
 use Rattle.gpl_defs.specs.declared.instruction.PlainOp.TheVariants.{RTN}
 use Rattle.gpl_defs.specs.declared.instruction.ByteOp.TheVariants.{RAND}

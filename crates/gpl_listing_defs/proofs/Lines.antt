@@ -9,7 +9,7 @@ use Rattle.source_defs.specs.Lines.{numbered}
 use Rattle.expression_defs.specs.Layout.{laid_after, assembled_lines}
 use Rattle.source_defs.specs.ListedLines.{listed, with_operands}
 use Rattle.expression_defs.specs.Symbols.{Names, look_up, predefined}
-use Rattle.grom_defs.specs.declared.size.TheConstants.{GROM_SIZE}
+use Rattle.base_defs.specs.declared.size.TheConstants.{GROM_SIZE}
 use Rattle.gpl_defs.specs.declared.instruction.GplInstr.{GplInstr}
 use Rattle.gpl_defs.specs.Image.{Image, placed}
 use Rattle.gpl_defs.specs.Valid.{is_valid}

@@ -9,7 +9,7 @@ use Rattle.std.proofs.lemmas.Bool.{cases_eq}
 use Rattle.std.proofs.lemmas.Bool.Decides.{nat_tests}
 use Rattle.source_defs.specs.ListedLines.{listed}
 use Rattle.expression_defs.specs.Symbols.{predefined}
-use Rattle.grom_defs.specs.declared.size.TheConstants.{GROM_SIZE}
+use Rattle.base_defs.specs.declared.size.TheConstants.{GROM_SIZE}
 use Rattle.gpl_defs.specs.Image.{Image, placed}
 use Rattle.gpl_defs.specs.Bytes.{bytes_of}
 use Rattle.gpl_source_defs.specs.declared.location.Location.{Location}

@@ -21,7 +21,7 @@ use Rattle.gpl_defs.specs.declared.instruction.MoveSource.{MoveSource}
 use Rattle.gpl_defs.specs.declared.instruction.MoveSource.TheVariants as from
 use Rattle.gpl_defs.specs.declared.instruction.GplInstr.{GplInstr}
 use Rattle.gpl_defs.specs.declared.instruction.GplInstr.TheVariants as instr
-use Rattle.grom_defs.specs.Addresses.{in_grom_of}
+use Rattle.base_defs.specs.Addresses.{in_grom_of}
 use Rattle.gpl_source_defs.specs.Forms.{Form, Memory, form_of, has_index, address_text}
 use Rattle.gpl_source_defs.specs.Forms as forms
 use Rattle.gpl_source_defs.specs.Skeletons.{written_form}

@@ -9,7 +9,7 @@ use Rattle.gpl_defs.specs.declared.instruction.GplRead.TheVariants.{Instr, Refus
 use Rattle.gpl_defs.specs.Bytes.{bytes_of}
 use Rattle.gpl_defs.specs.Reading.{reading, stand}
 use Rattle.gpl_listing_defs.specs.Texts.{instr_text}
-use Rattle.grom_defs.specs.declared.size.TheConstants.{GROM_SIZE}
+use Rattle.base_defs.specs.declared.size.TheConstants.{GROM_SIZE}
 
 -- the first address of the next GROM
 abbrev pub boundary : ℕ → ℕ

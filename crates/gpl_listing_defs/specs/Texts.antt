@@ -2,8 +2,7 @@
 --
 -- Profile: values and addresses are hexadecimal words, and bytes have two digits; BR and BS name their target's
 -- address.
-use Rattle.std.specs.Prelude.{ℕ, ◌+◌, ◌%◌, Bool, true, false, List, [], ◌++◌, codes}
-use Rattle.std.specs.Prelude.{Option, Some, None}
+use Rattle.std.specs.Prelude.{ℕ, ◌+◌, ◌%◌, Bool, true, false, List, [], ◌++◌, codes, Option, Some, None}
 use Rattle.source_defs.specs.Digits.{hex_word, hex_byte}
 use Rattle.source_defs.specs.ListedLines.{two_texts, with_operands}
 use Rattle.gpl_defs.specs.declared.instruction.Space.{Space}
@@ -24,7 +23,7 @@ use Rattle.gpl_defs.specs.declared.instruction.GplRead.TheVariants.{Instr, Refus
 use Rattle.gpl_source_defs.specs.declared.mnemonic.Mnemonic.{Mnemonic}
 use Rattle.gpl_source_defs.specs.declared.mnemonic.Mnemonic.TheVariants as named
 use Rattle.gpl_source_defs.specs.Mnemonics.{name_of}
-use Rattle.grom_defs.specs.Addresses.{in_grom_of}
+use Rattle.base_defs.specs.Addresses.{in_grom_of}
 use Rattle.gpl_defs.specs.declared.scratchpad.TheConstants.{SCRATCHPAD}
 
 -- what an operand begins with

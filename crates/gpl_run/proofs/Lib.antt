@@ -1,3 +1,4 @@
 pub mod SessionEnds
 pub mod Built
 pub mod FurtherLines
+pub mod Placed

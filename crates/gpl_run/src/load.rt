@@ -7,7 +7,7 @@ ghost use Rattle.link_loader.specs.View.{model_of_linked};
 
 use interp_build_defs::loaded_interpreters_boot;
 use link_loader::Linked;
-use machine_load::load_machine;
+use crate::load_machine;
 use native_interp::{GBOOT, WORKSPACE};
 use std::alloc::{AllocError, Global};
 use tms_step::Machine;

@@ -10,7 +10,7 @@ ghost use Rattle.sim_steps.specs.Starting.{StartsProgram};
 ghost use Rattle.gpl_run.specs.Sessions.{IsSession, IsNew, image_of, entry_of, ended_by, address_in};
 
 use gpl_step_defs::Reason;
-use grom_addresses::previous_in_grom;
+use memory_basics::previous_in_grom;
 use interp_defs::Turn;
 use sim_steps::{gpl_turn, machines_start, run_turns, start_program};
 use sim_view::register;

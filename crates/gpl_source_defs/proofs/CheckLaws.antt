@@ -13,7 +13,7 @@ use Rattle.gpl_source_defs.specs.declared.location.Location.{Location}
 use Rattle.gpl_source_defs.specs.Statements.{Statement, Nothing, Grom, Aorg, Equ, Bss, End, statement_at, declared_size}
 use Rattle.gpl_source_defs.specs.Locations.{address_of, origin_of, after, passes, IsInGrom}
 use Rattle.gpl_source_defs.specs.FirstChecks.{Checked, as_text, checked, is_bad, is_full, is_taken, parsed}
-use Rattle.grom_defs.specs.declared.size.TheConstants.{GROM_SIZE}
+use Rattle.base_defs.specs.declared.size.TheConstants.{GROM_SIZE}
 
 let_through : {A : Type 0} (against : Bool) (cause : GplCause) (value found : A) → unless against cause value ≡ Ok found → (against ≡ false) × (value ≡ found)
 let_through true cause value found e = cc e

@@ -19,7 +19,7 @@ use Rattle.gpl_source_defs.specs.declared.causes.GplCause.TheVariants.{Duplicate
 use Rattle.gpl_source_defs.specs.declared.location.Location.{Location}
 use Rattle.gpl_source_defs.specs.Statements.{Statement, Grom, Aorg, Equ, End, statement_at, declared_size}
 use Rattle.gpl_source_defs.specs.Locations.{Line, location, address_of, origin_of, passes}
-use Rattle.grom_defs.specs.declared.size.TheConstants.{GROM_SIZE}
+use Rattle.base_defs.specs.declared.size.TheConstants.{GROM_SIZE}
 
 -- a line that has no fields is refused for the cause that it has none
 abbrev pub as_text : {A : Type 0} → Result A TextError → Result A GplCause

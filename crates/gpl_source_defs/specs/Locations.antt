@@ -11,7 +11,7 @@ use Rattle.gpl_source_defs.specs.declared.causes.GplCause.{GplCause}
 use Rattle.gpl_source_defs.specs.declared.causes.GplCause.TheVariants.{OtherGrom}
 use Rattle.gpl_source_defs.specs.declared.location.Location.{Location}
 use Rattle.gpl_source_defs.specs.Statements.{Statement, Grom, Aorg}
-use Rattle.grom_defs.specs.declared.size.TheConstants.{GROM_SIZE}
+use Rattle.base_defs.specs.declared.size.TheConstants.{GROM_SIZE}
 
 -- a line of a GPL source
 abbrev pub Line : Type 0

@@ -13,10 +13,10 @@ use Rattle.tms_defs.specs.Bytes.{HoldsBytes}
 use Rattle.tms_defs.specs.Status.{is_set}
 use Rattle.tms_defs.specs.Flags.{Width, Byte, Word, modulus, half, size_of, sum_of, sum_flags, difference_of, difference_flags, negation_of, negation_flags}
 use Rattle.tms_defs.specs.Flags.{absolute_of, absolute_flags}
-use Rattle.grom_defs.specs.Addresses.{next_in_grom}
+use Rattle.base_defs.specs.Addresses.{next_in_grom}
 use Rattle.tms_defs.specs.Logic.{complement_of, swapped}
 use Rattle.tms_defs.proofs.WordLaws.{join-fits, plus-fits}
-use Rattle.grom_defs.proofs.AddressLaws.{next-fits}
+use Rattle.base_defs.proofs.AddressLaws.{next-fits}
 use Rattle.gpl_defs.specs.declared.instruction.PlainOp.{PlainOp}
 use Rattle.gpl_defs.specs.declared.instruction.PlainOp.TheVariants.{RTN, RTNC, H, GT, EXIT, CARRY, OVF}
 use Rattle.gpl_defs.specs.declared.instruction.ByteOp.{ByteOp}

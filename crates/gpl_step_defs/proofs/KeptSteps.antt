@@ -4,10 +4,10 @@ use Rattle.std.specs.Prelude.{nat_lt, not, ◌||◌, ◌==◌, slice_index, slic
 use Rattle.std.proofs.lemmas.Bool.Decides.{nat_tests}
 use Rattle.tms_defs.specs.Bytes.{HoldsBytes}
 use Rattle.tms_defs.proofs.ByteLaws.{replicated_zeros}
-use Rattle.grom_defs.specs.Addresses.{next_in_grom}
+use Rattle.base_defs.specs.Addresses.{next_in_grom, in_grom_of}
 use Rattle.tms_defs.specs.Flags.{Width, modulus, size_of}
 use Rattle.tms_defs.proofs.WordLaws.{join-fits}
-use Rattle.grom_defs.proofs.AddressLaws.{next-fits}
+use Rattle.base_defs.proofs.AddressLaws.{next-fits}
 use Rattle.gpl_defs.specs.declared.instruction.GplSource.{GplSource}
 use Rattle.gpl_defs.specs.declared.instruction.GplSource.TheVariants as source
 use Rattle.gpl_defs.specs.declared.instruction.MoveLength.{MoveLength}
@@ -32,7 +32,6 @@ use Rattle.gpl_step_defs.specs.declared.cells.TheConstants.{VISIBLE_CELLS, VALUE
 use Rattle.gpl_step_defs.specs.Laws.{StepsKeepStates}
 use Rattle.gpl_step_defs.specs.Place.{place_of, value_at}
 use Rattle.gpl_step_defs.specs.Changes.{Changes, unchanged, shown, finished}
-use Rattle.grom_defs.specs.Addresses.{in_grom_of}
 use Rattle.gpl_step_defs.specs.Copy.{From, FromMemory, FromGrom, To, ToMemory, ToRegisters, byte_from, next_from, with_byte_to, next_to, copied}
 use Rattle.gpl_step_defs.specs.Copy.{move_found, moved}
 use Rattle.gpl_step_defs.specs.Step.{word_or_byte, destination_size, source_of, changes_of, after, executed, step}

@@ -1,7 +1,7 @@
 -- MOVE: a number of bytes go from one place to another. GPL Programmer's Guide, MOVE.
 use Rattle.std.specs.Prelude.{ℕ, zero, suc, ◌+◌, nat_lt, nat_le, if◌then◌else◌, slice_index, Some, Result, Ok, Err}
 use Rattle.tms_defs.specs.Flags.{Word}
-use Rattle.grom_defs.specs.Addresses.{next_in_grom}
+use Rattle.base_defs.specs.Addresses.{next_in_grom}
 use Rattle.source_defs.specs.Refusals.{◌>>=◌}
 use Rattle.gpl_defs.specs.declared.instruction.MoveLength.{MoveLength}
 use Rattle.gpl_defs.specs.declared.instruction.MoveLength.TheVariants as counted

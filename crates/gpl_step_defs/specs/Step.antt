@@ -3,12 +3,11 @@
 -- GPL Programmer's Guide, the statements.
 -- Profile: all checks come before all changes, and all operands are read before anything is stored. A stop leaves the
 -- state as it was, so it is a reason and nothing else.
-use Rattle.std.specs.Prelude.{ℕ, ◌*◌, ◌==◌, Bool, true, false, List, ◌++◌, replicate, drop, Some, None}
-use Rattle.std.specs.Prelude.{Result, Ok, Err}
+use Rattle.std.specs.Prelude.{ℕ, ◌*◌, ◌==◌, Bool, true, false, List, ◌++◌, replicate, drop, Some, None, Result, Ok, Err}
 use Rattle.tms_defs.specs.Status.{is_set}
 use Rattle.tms_defs.specs.Flags.{Width, Byte, Word, size_of}
 use Rattle.tms_defs.specs.Logic.{complement_of}
-use Rattle.grom_defs.specs.Addresses.{in_grom_of}
+use Rattle.base_defs.specs.Addresses.{in_grom_of}
 use Rattle.source_defs.specs.Refusals.{◌>>=◌}
 use Rattle.gpl_defs.specs.declared.instruction.PlainOp.{PlainOp}
 use Rattle.gpl_defs.specs.declared.instruction.PlainOp.TheVariants.{RTN, RTNC, H, GT, EXIT, CARRY, OVF}
@@ -36,8 +35,7 @@ use Rattle.gpl_defs.specs.declared.instruction.TwoName.TheVariants.{MUL, DIV}
 use Rattle.gpl_defs.specs.declared.instruction.GplSource.{GplSource}
 use Rattle.gpl_defs.specs.declared.instruction.GplSource.TheVariants as source
 use Rattle.gpl_defs.specs.declared.instruction.GplInstr.{GplInstr}
-use Rattle.gpl_defs.specs.declared.instruction.GplInstr.TheVariants.{Plain, Byte as OfByte, Jump, Branch, One, Two}
-use Rattle.gpl_defs.specs.declared.instruction.GplInstr.TheVariants.{Move}
+use Rattle.gpl_defs.specs.declared.instruction.GplInstr.TheVariants.{Plain, Byte as OfByte, Jump, Branch, One, Two, Move}
 use Rattle.gpl_defs.specs.declared.instruction.GplRead.{GplRead}
 use Rattle.gpl_defs.specs.declared.instruction.GplRead.TheVariants.{Instr, Refused}
 use Rattle.gpl_defs.specs.Reading.{reading}
@@ -46,8 +44,7 @@ use Rattle.gpl_step_defs.specs.declared.reason.Reason.{Reason}
 use Rattle.gpl_step_defs.specs.declared.reason.Reason.TheVariants.{Exit, Opcode}
 use Rattle.gpl_step_defs.specs.State.{GplState}
 use Rattle.gpl_step_defs.specs.Place.{Place, place_of, value_at}
-use Rattle.gpl_step_defs.specs.Changes.{Changes, unchanged, with_pc, with_register, with_value}
-use Rattle.gpl_step_defs.specs.Changes.{with_condition, status_of}
+use Rattle.gpl_step_defs.specs.Changes.{Changes, unchanged, with_pc, with_register, with_value, with_condition, status_of}
 use Rattle.gpl_step_defs.specs.Changes.{finished}
 use Rattle.gpl_step_defs.specs.Arithmetic.{Source, added, subtracted, negated, made_absolute, two}
 use Rattle.gpl_step_defs.specs.Flow.{branched, selected, called, returned, pushed, fetched, drawn}

@@ -4,4 +4,4 @@
 mod grom;
 
 pub use grom::Grom;
-pub use grom_addresses::next_in_grom;
+pub use memory_basics::next_in_grom;

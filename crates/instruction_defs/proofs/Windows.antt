@@ -2,14 +2,13 @@
 use Rattle.std.proofs.Common.{◌≡◌, ℕ, zero, suc, ◌+◌, ◌≤◌, List, [], ◌∷◌, length, take, refl, ap, arith, Bool, true, false}
 use Rattle.std.specs.Prelude.{◌==◌, nat_le, if◌then◌else◌, slice_index, Option, Some, None}
 use Rattle.std.proofs.lemmas.Bool.Decides.{nat_tests}
-use Rattle.tms_defs.specs.Instructions.{instr_at, operation_of}
+use Rattle.tms_defs.specs.Instructions.{instr_at, operation_of, name_of}
 use Rattle.tms_defs.specs.declared.instruction.Place.{Place}
 use Rattle.tms_defs.specs.declared.instruction.Instr.{Instr}
 use Rattle.tms_defs.specs.declared.instruction.Instr.TheVariants.{Two, Reg, One, Imm, Bare}
-use Rattle.tms_defs.specs.Instructions.{name_of}
 use Rattle.instruction_defs.specs.Operands.{following_words, has_immediate, has_value, size_in_words}
 use Rattle.instruction_defs.specs.Printed.{printed, printed_where, operands_text, operand_text, two_texts, with_operands}
-use Rattle.count_defs.specs.Counts.{one_if}
+use Rattle.base_defs.specs.Counts.{one_if}
 
 following_few : (place : Place) → following_words place ≤ 1
 following_few place = by (place.mode == 2)

@@ -14,9 +14,8 @@ use Rattle.tms_defs.specs.declared.instruction.Operation.TheVariants as operatio
 use Rattle.tms_defs.specs.declared.instruction.Instr.{Instr}
 use Rattle.tms_defs.specs.declared.instruction.Instr.TheVariants.{Two, Reg, Shift, One, Jump, Imm, Bare}
 use Rattle.instruction_defs.specs.declared.operand_kind.OperandKind.{OperandKind}
-use Rattle.instruction_defs.specs.declared.operand_kind.OperandKind.TheVariants.{General, Register, Count, Immediate}
-use Rattle.instruction_defs.specs.declared.operand_kind.OperandKind.TheVariants.{Target, Displacement}
-use Rattle.count_defs.specs.Counts.{one_if}
+use Rattle.instruction_defs.specs.declared.operand_kind.OperandKind.TheVariants.{General, Register, Count, Immediate, Target, Displacement}
+use Rattle.base_defs.specs.Counts.{one_if}
 
 -- The operation on a register takes a word that follows.
 -- TMS9900 data manual, "Immediate register instructions", "Internal register store instructions".

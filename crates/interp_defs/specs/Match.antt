@@ -1,7 +1,7 @@
 -- The match of a machine that runs the interpreter with a state of GPL.
 use Rattle.std.specs.Prelude.{◌≡◌, IsTrue, take, slice_index}
 use Rattle.console_defs.specs.Vdp.{is_vdp_idle}
-use Rattle.grom_defs.specs.Addresses.{previous_in_grom}
+use Rattle.base_defs.specs.Addresses.{previous_in_grom}
 use Rattle.console_defs.specs.Grom.{GromState, is_grom_idle}
 use Rattle.console_defs.specs.Memory.{Memory}
 use Rattle.console_defs.specs.Machine.{MachineState}

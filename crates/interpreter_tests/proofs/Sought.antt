@@ -1,7 +1,7 @@
 -- What SEEK leaves of the GROMs.
 use Rattle.std.proofs.Common.{ℕ, sym, ap, subst}
 use Rattle.std.specs.Prelude.{slice_index}
-use Rattle.grom_defs.proofs.AddressLaws.{previous-next}
+use Rattle.base_defs.proofs.AddressLaws.{previous-next}
 use Rattle.console_defs.specs.Machine.{MachineState}
 use Rattle.interp_defs.specs.Match.{IsFetched}
 use Rattle.sim_view.specs.View.{View, view, view_of}

@@ -8,7 +8,7 @@ use Rattle.std.proofs.lemmas.Bool.Decides.{nat_tests}
 use Rattle.std.proofs.lemmas.List.Sums.{prefix_len-le-length, prefix_len_passes, prefix_len_stops}
 use Rattle.std.proofs.lemmas.Option.{slice_get_past, slice_get-get_or}
 use Rattle.std.proofs.lemmas.Slice.Zip.{get_or-zip, length-zip}
-use Rattle.list_defs.specs.Lists.{is_same, common_length, first_difference, IsFirstDifference}
+use Rattle.base_defs.specs.Lists.{is_same, common_length, first_difference, IsFirstDifference}
 
 same_byte : (x y : ℕ) → nat_eq x y ≡ true → x ≡ y
 same_byte x y e = grind (arith, nat_tests)

@@ -14,7 +14,7 @@ use Rattle.std.specs.Int.RustNames.{count_ones}
 use Rattle.std.specs.List.{zip, prefix_len, count_by}
 use lib.Lanes.{chunk, mask_l, zip2, top}
 use lib.Count.{count_trailing_zeros}
-use Rattle.list_defs.specs.Lists.{is_same, is_different}
+use Rattle.base_defs.specs.Lists.{is_same, is_different}
 
 zip-none : (a : List ℕ) → zip {X = ℕ} a [] ≡ []
 zip-none [] = refl

@@ -1,1 +1,1 @@
-pub use Rattle.list_defs.specs.Lists
+pub use Rattle.base_defs.specs.Lists

@@ -2,7 +2,7 @@
 
 ghost use Rattle.std.specs.Prelude.{◌≡◌, ◌≤◌, length, drop};
 ghost use Rattle.std.specs.List.{zip, count_by};
-ghost use Rattle.list_defs.specs.Lists.{is_different, count_differences};
+ghost use Rattle.base_defs.specs.Lists.{is_different, count_differences};
 
 use crate::lanes::{LANES, differing_lanes};
 

@@ -2,7 +2,7 @@
 
 ghost use Rattle.std.specs.Prelude.{◌≡◌, ◌+◌, ◌≤◌, ◌<◌, length, drop, min, IfSome};
 ghost use Rattle.std.specs.List.{zip, prefix_len};
-ghost use Rattle.list_defs.specs.Lists.{is_same, common_length, first_difference, IsFirstDifference};
+ghost use Rattle.base_defs.specs.Lists.{is_same, common_length, first_difference, IsFirstDifference};
 
 use crate::lanes::{LANES, differing_lanes};
 

@@ -3,7 +3,7 @@
 ghost use Rattle.std.specs.Prelude.{◌≡◌, ◌+◌, ◌≤◌, length, map};
 ghost use Rattle.std.specs.List.{zip};
 ghost use Rattle.std.specs.Simd.Lanes.{chunk, mask_l};
-ghost use Rattle.list_defs.specs.Lists.{is_different};
+ghost use Rattle.base_defs.specs.Lists.{is_different};
 
 use std::simd::prelude::*;
 

@@ -1,7 +1,7 @@
 //! Whether two rows of a list of bytes are equal.
 
 ghost use Rattle.std.specs.Prelude.{◌≡◌, ◌+◌, ◌*◌, ◌≤◌, length};
-ghost use Rattle.list_defs.specs.Lists.{rows_equal};
+ghost use Rattle.base_defs.specs.Lists.{rows_equal};
 
 use std::simd::prelude::*;
 

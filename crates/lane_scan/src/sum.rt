@@ -3,7 +3,7 @@
 ghost use Rattle.std.specs.Prelude.{◌≡◌, ◌+◌, ◌*◌, ◌≤◌, ◌<◌, ◌^◌, length, drop};
 ghost use Rattle.std.specs.List.{sum};
 ghost use Rattle.std.specs.Simd.Lanes.{chunk};
-ghost use Rattle.list_defs.specs.Lists.{sum_bytes};
+ghost use Rattle.base_defs.specs.Lists.{sum_bytes};
 
 use crate::lanes::LANES;
 use std::simd::prelude::*;

@@ -21,7 +21,7 @@ use Rattle.asm_defs.specs.Memory.{content_at, any_from, count_from, has_word, wo
 use Rattle.line_laws.specs.KnownLines.{numbers_of, outcome_words, is_at, is_absolute}
 use Rattle.source_defs.specs.OperandLists.{is_empty}
 use Rattle.line_laws.proofs.Small.{both, chosen, get_past}
-use Rattle.count_defs.specs.Counts.{one_if}
+use Rattle.base_defs.specs.Counts.{one_if}
 
 -- the bytes of absolute words
 abbrev pub cells : List ℕ → List Content

@@ -3,7 +3,7 @@
 ghost use Rattle.std.specs.Prelude.{◌≡◌, IfOk};
 ghost use Rattle.machine_change_defs.specs.Seen as spec;
 
-use byte_lists::zeros;
+use memory_basics::zeros;
 use grom_counter::Grom;
 use machine_change_defs::Latches;
 use std::alloc::{AllocError, Global};

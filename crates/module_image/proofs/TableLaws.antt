@@ -8,7 +8,7 @@ use Rattle.std.proofs.lemmas.List.{get_or-set_same, get_or-set_other}
 use Rattle.asm_defs.specs.declared.content.Content.{Content}
 use Rattle.asm_defs.specs.Memory.{count_from, any_from, part_words}
 use Rattle.module_image.specs.Tables.{cell, is_taken, is_taken_word, words_taken}
-use Rattle.count_defs.specs.Counts.{one_if}
+use Rattle.base_defs.specs.Counts.{one_if}
 
 pub count_same : (f g : ℕ → Bool) (from n : ℕ) → ((w : ℕ) → from ≤ w → g w ≡ f w) → count_from g from n ≡ count_from f from n
 count_same f g from zero same = refl

@@ -1,7 +1,7 @@
 //! Cases of the three ports, worked out by hand from their rules.
 
 use crate::grom_ports::Access::{ReadAddress, ReadData, WriteAddress};
-use grom_addresses::next_in_grom;
+use memory_basics::next_in_grom;
 use grom_counter::Grom;
 use std::alloc::{AllocError, Global};
 use std::test::Fail;

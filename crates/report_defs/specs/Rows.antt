@@ -3,7 +3,7 @@ use Rattle.std.specs.Prelude.{ℕ, ◌+◌, ◌-◌, ◌*◌, ◌/◌, Bool, not
 use Rattle.std.specs.Prelude.{◌++◌, length, codes}
 use Rattle.std.specs.List.{flat_map, range_with_len}
 use Rattle.source_defs.specs.Digits.{byte_digits, hex_word}
-use Rattle.list_defs.specs.Lists.{row, rows_equal}
+use Rattle.base_defs.specs.Lists.{row, rows_equal}
 
 -- Profile: bytes are shown by two digits, each byte after a blank.
 abbrev pub spaced_bytes : List ℕ → List ℕ

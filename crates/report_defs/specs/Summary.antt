@@ -2,7 +2,7 @@
 use Rattle.std.specs.Prelude.{ℕ, ◌+◌, List, [], ◌∷◌, ◌++◌, codes, Option, Some, None}
 use Rattle.std.specs.Fmt.{decimal}
 use Rattle.console_defs.specs.Machine.{MachineState}
-use Rattle.list_defs.specs.Lists.{sum_bytes}
+use Rattle.base_defs.specs.Lists.{sum_bytes}
 use Rattle.gpl_step_defs.specs.declared.reason.Reason.{Reason}
 use Rattle.gpl_step_defs.specs.declared.reason.Reason.TheVariants.{Exit}
 use Rattle.gpl_step_defs.specs.Reasons.{number_of}

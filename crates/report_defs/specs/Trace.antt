@@ -1,7 +1,6 @@
 -- The line of a step: its number, the state before it with the instruction there, and what it changed. `trace` shows of
 -- what changed how many bytes they are, and the first.
-use Rattle.std.specs.Prelude.{ℕ, ◌+◌, List, [], ◌∷◌, ◌++◌, codes, map, slice_index}
-use Rattle.std.specs.Prelude.{Option, Some, None}
+use Rattle.std.specs.Prelude.{ℕ, ◌+◌, List, [], ◌∷◌, ◌++◌, codes, map, slice_index, Option, Some, None}
 use Rattle.std.specs.List.{range_with_len}
 use Rattle.std.specs.Fmt.{decimal}
 use Rattle.source_defs.specs.Digits.{hex_word, byte_digits, right_in}
@@ -9,7 +8,7 @@ use Rattle.gpl_defs.specs.Reading.{reading}
 use Rattle.gpl_listing_defs.specs.Texts.{read_text}
 use Rattle.gpl_step_defs.specs.State.{GplState}
 use Rattle.gpl_step_defs.specs.Run.{run}
-use Rattle.list_defs.specs.Lists.{first_difference, count_differences}
+use Rattle.base_defs.specs.Lists.{first_difference, count_differences}
 use Rattle.report_defs.specs.Program.{state_text}
 
 -- Profile: the line of a step begins with its number right in six columns, the state before it, and the instruction

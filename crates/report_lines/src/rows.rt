@@ -1,7 +1,7 @@
 //! Bytes in rows of 16.
 
 ghost use Rattle.std.specs.Prelude.{◌≡◌, ◌≤◌, ◌<◌, ◌+◌, ◌*◌, ◌/◌, length};
-ghost use Rattle.list_defs.specs.Lists.{row};
+ghost use Rattle.base_defs.specs.Lists.{row};
 ghost use Rattle.report_defs.specs.Rows as rows;
 ghost use Rattle.bench_io.specs.Written.{Written};
 

@@ -3,7 +3,7 @@ use Rattle.std.proofs.Common.{◌≡◌, ◌≢◌, Option, Some, None, refl, sy
 use Rattle.report_defs.specs.declared.status.Status.{Status}
 use Rattle.report_defs.specs.declared.status.Status.TheVariants as status
 use Rattle.report_defs.specs.Report.{Report, Whole, Faulty, Rejected, RejectedAfter, status_of}
-use Rattle.count_defs.specs.Counts.{Rose}
+use Rattle.base_defs.specs.Counts.{Rose}
 use Rattle.reports.specs.Outputs.{Outputs, EndsWith, WroteReport, MissedReport}
 use Rattle.reports.specs.Answers.{EndsByLine}
 use Rattle.reports.specs.Run.{Program, Run, EndsByUsage, EndsSaid}

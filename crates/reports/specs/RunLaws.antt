@@ -1,6 +1,6 @@
 -- What holds of all runs of a program that end as `EndsBy` says.
 use Rattle.std.specs.Prelude.{◌≡◌, ◌≢◌, Some}
-use Rattle.count_defs.specs.Counts.{Rose}
+use Rattle.base_defs.specs.Counts.{Rose}
 use Rattle.report_defs.specs.declared.status.Status.{Status}
 use Rattle.report_defs.specs.declared.status.Status.TheVariants.{Memory}
 use Rattle.report_defs.specs.Report.{Report, status_of}

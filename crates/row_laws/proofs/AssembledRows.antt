@@ -7,7 +7,7 @@ use Rattle.source_defs.specs.Lines.{line_texts}
 use Rattle.source_defs.proofs.RefusalLaws.{bound}
 use Rattle.expression_defs.specs.Symbols.{Names, look_up}
 use Rattle.expression_defs.specs.Layout.{laid, assembled_lines}
-use Rattle.grom_defs.specs.declared.size.TheConstants.{GROM_SIZE}
+use Rattle.base_defs.specs.declared.size.TheConstants.{GROM_SIZE}
 use Rattle.gpl_defs.specs.Bytes.{bytes_of, rest_of}
 use Rattle.gpl_defs.specs.Valid.{is_valid}
 use Rattle.gpl_step_defs.specs.State.{GplState, start}

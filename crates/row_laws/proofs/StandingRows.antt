@@ -13,7 +13,7 @@ use Rattle.source_defs.proofs.RefusalLaws.{bound}
 use Rattle.expression_defs.specs.Expression.{Value}
 use Rattle.expression_defs.specs.Symbols.{Names, look_up}
 use Rattle.expression_defs.specs.Layout.{laid, assembled_lines}
-use Rattle.grom_defs.specs.Addresses.{next_in_grom}
+use Rattle.base_defs.specs.Addresses.{next_in_grom}
 use Rattle.gpl_defs.specs.Bytes.{bytes_of}
 use Rattle.gpl_defs.specs.Spellings.{Stand}
 use Rattle.gpl_defs.specs.Image.{Image, placed, AreBytesOf}

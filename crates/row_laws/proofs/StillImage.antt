@@ -3,7 +3,7 @@ use Rattle.std.proofs.Common.{◌≡◌, ℕ, zero, suc, ◌*◌, ◌%◌, ◌/�
 use Rattle.std.specs.Prelude.{Option, Result, IfOk, ⊤, if◌then◌else◌}
 use Rattle.tms_defs.specs.Words.{high, low, plus}
 use Rattle.tms_defs.specs.Flags.{Width, Byte, Word, size_of}
-use Rattle.grom_defs.specs.Addresses.{in_grom_of, next_in_grom}
+use Rattle.base_defs.specs.Addresses.{in_grom_of, next_in_grom}
 use Rattle.gpl_defs.specs.declared.instruction.Space.{Space}
 use Rattle.gpl_defs.specs.declared.instruction.Space.TheVariants.{Cpu, Vdp}
 use Rattle.gpl_defs.specs.declared.instruction.PlainOp.{PlainOp}

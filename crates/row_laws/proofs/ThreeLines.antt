@@ -42,7 +42,7 @@ use Rattle.gpl_step_defs.specs.Step.{step, after}
 use Rattle.gpl_step_defs.specs.Run.{GplRun, one_more, run}
 use Rattle.gpl_listing_defs.specs.Texts.{operand_text, instr_text}
 use Rattle.source_defs.specs.Digits.{hex_word, byte_digits, word_digits, right_in}
-use Rattle.list_defs.specs.Lists.{is_same, first_difference, count_differences}
+use Rattle.base_defs.specs.Lists.{is_same, first_difference, count_differences}
 use Rattle.console_defs.specs.Machine.{MachineState}
 use Rattle.report_defs.specs.declared.status.Status.TheVariants.{Done}
 use Rattle.report_defs.specs.Dump.{dump_lines}

@@ -5,3 +5,4 @@ pub mod MadeResults
 pub mod Frames
 pub mod StoredResults
 pub mod Dispatch
+pub mod Bytes

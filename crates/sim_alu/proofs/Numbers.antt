@@ -3,7 +3,7 @@ use Rattle.std.proofs.Common.{ℕ, ◌<◌, ◌≡◌, ap, arith, refl}
 use Rattle.sim_rows.proofs.Common.{absolute_flags, absolute_of, Byte, complement_of, conjunction_of, difference_flags, difference_of, exclusive_or_of}
 use Rattle.sim_rows.proofs.Common.{in_register, modulus, negation_flags, negation_of, of_register, ones_cleared, ones_set, status_byte, sum_flags, sum_of}
 use Rattle.sim_rows.proofs.Common.{Width, Word}
-use Rattle.byte_laws.proofs.Bytes
+use Rattle.sim_alu.proofs.Bytes
 
 -- ---- the numbers
 

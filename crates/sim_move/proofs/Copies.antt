@@ -6,7 +6,7 @@ use Rattle.sim_rows.proofs.Common.{MemoryToMemory, Move, MOVEB, MoveKind, MOVEL,
 use Rattle.sim_rows.proofs.Common.{Reason, ReachesWithin, Stands, state_at_dispatch, StoppedBy, To, ToMemory, ToRegisters, View, view, word_at}
 use Rattle.sim_rows.specs.sim_view.Prelude.{HoldsBytes}
 use Rattle.sim_rows.proofs.sim_operands.Ends.{EndsBy, not_at}
-use Rattle.sim_copy.specs.Copying.{StandsTo}
+use Rattle.sim_move.specs.Copying.{StandsTo}
 use Rattle.sim_move.specs.Family.{is_move}
 use Rattle.sim_move.specs.Moves.{BeforeCopy, FindsCopy, found_in, length_read, source_read, target_read}
 use Rattle.sim_move.specs.Rows.{find_length, find_places, index_source, turn_to_source}

@@ -3,7 +3,7 @@ use Rattle.std.proofs.Common.{ℕ, ◌*◌, ◌+◌, ◌≡◌, ap, arith, Err, 
 use Rattle.sim_rows.proofs.Common.{bound, bound_stop, Changes, comes_on, fetched_of, finished, From, FromGrom, FromMemory, GOMOVE, GplState, grom_at, GSTOP}
 use Rattle.sim_rows.proofs.Common.{idle_of, is_exit, is_turn_end, MachineState, matches, most_to_dispatch, Move, MOVEB, MoveKind, Moving, never_exits, number_of, operation_in, reaches, ReachesWithin, Reason, StoppedBy}
 use Rattle.sim_rows.proofs.Common.{from_dispatch, ShowsState, Stands, Stepped, Stopped, stops, Turned, turned_by, View, view, WORKSPACE}
-use Rattle.sim_copy.specs.Copying.{CopiesBytes, MayCopy, StandsFrom}
+use Rattle.sim_move.specs.Copying.{CopiesBytes, MayCopy, StandsFrom}
 use Rattle.sim_move.specs.Family.{is_move}
 use Rattle.sim_move.specs.Moves.{BeforeCopy, begun, FindsCopy, found_in, source_read, target_read}
 use Rattle.sim_move.proofs.Arrivals.{came, Comes, stopped}

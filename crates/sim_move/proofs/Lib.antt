@@ -12,3 +12,13 @@ pub mod Copies
 pub mod Ranges
 pub mod MoveSteps
 pub mod Dispatch
+pub mod SimCopyPaths
+pub mod Places
+pub mod VideoPort
+pub mod CopyPaths
+pub mod Routines
+pub mod CopiedBytes
+pub mod Turns
+pub mod Marks
+pub mod CopyStart
+pub mod CopyEnds

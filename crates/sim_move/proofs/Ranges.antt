@@ -4,7 +4,7 @@ use Rattle.std.proofs.lemmas.Bool.{leb-true}
 use Rattle.sim_rows.proofs.Common.{◌>>=◌, Changes, From, FromGrom, FromMemory, GplState, indexed, visible_when_found, MoveSource, MoveTarget, number_of_space, origin_of}
 use Rattle.sim_rows.proofs.Common.{place_found_visible, place_of, Reason, space_small, target_of, To, ToMemory, ToRegisters, View}
 use Rattle.sim_rows.proofs.Common.{pick}
-use Rattle.sim_copy.specs.Copying.{StandsFrom, StandsTo}
+use Rattle.sim_move.specs.Copying.{StandsFrom, StandsTo}
 use Rattle.sim_rows.specs.gpl_defs.declared.instruction.MoveTarget.TheVariants as target
 use Rattle.sim_rows.specs.gpl_defs.declared.instruction.MoveSource.TheVariants as source
 

@@ -3,7 +3,7 @@ use Rattle.std.specs.Prelude.{ℕ, ◌%◌, ◌==◌, ◌≡◌, Err, Ok, Result
 use Rattle.sim_rows.specs.Prelude.{after_code, Changes, code_byte, from_at, GplState, GSTOP, length_at, MachineState}
 use Rattle.sim_rows.specs.Prelude.{Move, move_found, MOVEB, MoveKind, MoveLength, MoveSource, MoveTarget, Moving}
 use Rattle.sim_rows.specs.Prelude.{operation_in, ReachesWithin, Reason, StoppedBy, target_at, unchanged, View}
-use Rattle.sim_copy.specs.Copying.{Copying}
+use Rattle.sim_move.specs.Copying.{Copying}
 use Rattle.sim_rows.specs.sim_view.Bounds.{most_to_copy}
 
 -- What the bytes after the code byte say, each part with the address after it.

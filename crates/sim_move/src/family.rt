@@ -11,7 +11,7 @@ use crate::length::find_length;
 use crate::reason::reason_of;
 use crate::source::{index_source, turn_to_source};
 use crate::target::find_places;
-use sim_copy::copy_bytes;
+use crate::copy_bytes;
 use sim_rows::labels::{GSTOP, MOVEL, MOVES};
 use sim_rows::processor::{Machine, Steps};
 use sim_rows::{Turn, register};

@@ -1,10 +1,12 @@
 //! MOVE, run on the machine: the length, the target and the source, each with its checks, and then the copy.
 #![tactic(auto)]
 
+mod copy;
 mod family;
 mod length;
 mod pieces;
 mod reason;
+mod sim_copy_pieces;
 mod source;
 mod target;
 
@@ -12,4 +14,9 @@ pub use family::run_move;
 pub use pieces::{
     ask_index, ask_length, ask_next, ask_source, check_registers, keep_length, keep_target,
     load_length, seek_source, turn_to_grom,
+};
+pub use copy::copy_bytes;
+pub use sim_copy_pieces::{
+    begin_copy, copy_cell, copy_cell_to_video, copy_grom, copy_grom_to_video, copy_in_video,
+    copy_video, count_byte, leave_copy, next_byte, set_source, set_target, store_byte,
 };

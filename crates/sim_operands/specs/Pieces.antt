@@ -1,8 +1,7 @@
 -- What the pieces of the subroutines come to: how many instructions they have, where they end, and what they change of
 -- the view, in the words of the processor. Registers, cells and ports that are not named stay.
-use Rattle.std.specs.Prelude.{ℕ, ◌+◌, ◌==◌, if◌then◌else◌, nat_lt, slice_index}
-use Rattle.std.specs.Prelude.{slice_set}
-pub use Rattle.sim_view.specs.count_defs.Counts.{one_if}
+use Rattle.std.specs.Prelude.{ℕ, ◌+◌, ◌==◌, if◌then◌else◌, nat_lt, slice_index, slice_set}
+pub use Rattle.sim_view.specs.base_defs.Counts.{one_if}
 use Rattle.sim_view.specs.Prelude.{APTR, ASPACE, conjunction_of, even, Exit, grom_address_written, grom_data_read}
 use Rattle.sim_view.specs.Prelude.{GromState, GSTOP, high, INDEX, join, last_out, LDATA, low, SDATA, shifted, SLA}
 use Rattle.sim_view.specs.Prelude.{SREG, SRL, STREAM, sum_of, vdp_address_written, vdp_data_read, vdp_data_written}

@@ -9,7 +9,7 @@ use Rattle.sim_operands.proofs.Paths.{rest_is}
 use Rattle.sim_rows.proofs.Facts.{from_limit, spot_rows, spot_table}
 use Rattle.sim_rows.specs.Pieces as pieces
 use Rattle.sim_view.specs.native_interp.declared.addresses.TheConstants.{GBACK, GCODE, OPSDST, OPSTWO, OPSVAL, STDST, STROW, WIDDST, WIDVAL}
-use Rattle.sim_view.specs.grom_defs.declared.size.TheConstants.{GROM_SIZE}
+use Rattle.sim_view.specs.base_defs.declared.size.TheConstants.{GROM_SIZE}
 
 pub ask_first : (v : View) → Leads (ADDR ∷ []) v ROW (pieces.ask_first v)
 ask_first v = record { by = λ f q. refl }

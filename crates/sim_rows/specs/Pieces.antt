@@ -5,7 +5,7 @@ use Rattle.std.specs.Prelude.{ℕ, Bool, ◌+◌, ◌-◌, ◌/◌, ◌==◌, if
 use Rattle.sim_view.specs.Prelude.{ADDR, CHARACTER, COLUMN, conjunction_of, difference_of, even, Exit, GO}
 use Rattle.sim_view.specs.Prelude.{grom_address_read, GromState, GSTEP, INTERP, join, last_out, LOAD, low, OPTAB}
 use Rattle.sim_view.specs.Prelude.{OPVAL, origin, shifted, SHOW, SLA, SRL, STORE, STREAM, sum_of, TABLE, View, Word}
-use Rattle.sim_view.specs.grom_defs.declared.size.TheConstants.{GROM_SIZE}
+use Rattle.sim_view.specs.base_defs.declared.size.TheConstants.{GROM_SIZE}
 use Rattle.sim_view.specs.gpl_step_defs.declared.cells.TheConstants.{ROW}
 use Rattle.sim_operands.specs.Pieces.{exit, one_if, past, return_of, with_grom_address}
 use Rattle.sim_view.specs.native_interp.declared.addresses.TheConstants.{OPSDST, OPSTWO, OPSVAL, STDST, WIDDST, WIDVAL}

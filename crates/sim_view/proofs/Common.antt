@@ -1,6 +1,6 @@
 -- The names that the proofs of a piece cite, passed on from one place. Declares nothing.
 pub use Rattle.gpl_defs.proofs.OperandLaws.{index_at, with_index}
-pub use Rattle.grom_defs.proofs.AddressLaws.{next-previous, previous-next}
+pub use Rattle.base_defs.proofs.AddressLaws.{next-previous, previous-next}
 pub use Rattle.interp_defs.proofs.Machines.{no_turns, one_more_turn, runs_steps, TurnsMade}
 pub use Rattle.sim_view.proofs.Answers.{given}
 pub use Rattle.sim_view.proofs.Bridge.{holds_register, is_view, IsView, Leads, piece, reg_word}

@@ -1,8 +1,7 @@
-pub use Rattle.count_defs.specs as count_defs
+pub use Rattle.base_defs.specs as base_defs
 pub use Rattle.tms_defs.specs as tms_defs
 pub use Rattle.console_defs.specs as console_defs
 pub use Rattle.source_defs.specs as source_defs
-pub use Rattle.grom_defs.specs as grom_defs
 pub use Rattle.gpl_defs.specs as gpl_defs
 pub use Rattle.gpl_step_defs.specs as gpl_step_defs
 pub use Rattle.native_interp.specs as native_interp

@@ -4,10 +4,9 @@ pub use Rattle.tms_defs.specs.Bytes.{HoldsBytes, with_word_in, word_in}
 pub use Rattle.tms_defs.specs.Flags.{absolute_flags, absolute_of, Byte, difference_flags, difference_of, modulus}
 pub use Rattle.tms_defs.specs.Flags.{negation_flags, negation_of, signed, size_of, sum_flags, sum_of, Width, Word}
 pub use Rattle.console_defs.specs.Grom.{grom_address_read, grom_address_written, grom_data_read, GromState}
-pub use Rattle.grom_defs.specs.Addresses.{in_grom_of, next_in_grom, previous_in_grom}
+pub use Rattle.base_defs.specs.Addresses.{in_grom_of, next_in_grom, previous_in_grom}
 pub use Rattle.console_defs.specs.Grom.{is_grom_idle, new_grom}
-pub use Rattle.tms_defs.specs.Logic.{complement_of, conjunction_of, exclusive_or_of, ones_cleared, ones_set}
-pub use Rattle.tms_defs.specs.Logic.{swapped}
+pub use Rattle.tms_defs.specs.Logic.{complement_of, conjunction_of, exclusive_or_of, ones_cleared, ones_set, swapped}
 pub use Rattle.console_defs.specs.Machine.{IsMachine, MachineState, steps}
 pub use Rattle.console_defs.specs.Memory.{IsMemory, Memory}
 pub use Rattle.tms_defs.specs.MultiplyDivide.{division_of, double_word, product_of}
@@ -37,21 +36,18 @@ pub use Rattle.gpl_defs.specs.declared.instruction.GplOperation.TheVariants.{Bra
 pub use Rattle.gpl_defs.specs.declared.instruction.GplRead.{GplRead}
 pub use Rattle.gpl_defs.specs.declared.instruction.GplSource.{GplSource}
 pub use Rattle.gpl_defs.specs.declared.instruction.MoveKind.{MoveKind}
-pub use Rattle.gpl_defs.specs.declared.instruction.MoveKind.TheVariants.{GromIndexedToMemory, GromToMemory}
-pub use Rattle.gpl_defs.specs.declared.instruction.MoveKind.TheVariants.{GromToRegisters, MemoryToMemory}
+pub use Rattle.gpl_defs.specs.declared.instruction.MoveKind.TheVariants.{GromIndexedToMemory, GromToMemory, GromToRegisters, MemoryToMemory}
 pub use Rattle.gpl_defs.specs.declared.instruction.MoveLength.{MoveLength}
 pub use Rattle.gpl_defs.specs.declared.instruction.MoveSource.{MoveSource}
 pub use Rattle.gpl_defs.specs.declared.instruction.MoveTarget.{MoveTarget}
 pub use Rattle.gpl_defs.specs.declared.instruction.OneName.{OneName}
-pub use Rattle.gpl_defs.specs.declared.instruction.OneName.TheVariants.{ABS, CASE, CLR, CZ, DEC, DECT, INC, INCT, INV}
-pub use Rattle.gpl_defs.specs.declared.instruction.OneName.TheVariants.{NEG, PUSH}
+pub use Rattle.gpl_defs.specs.declared.instruction.OneName.TheVariants.{ABS, CASE, CLR, CZ, DEC, DECT, INC, INCT, INV, NEG, PUSH}
 pub use Rattle.gpl_defs.specs.declared.instruction.PlainOp.{PlainOp}
 pub use Rattle.gpl_defs.specs.declared.instruction.PlainOp.TheVariants.{CARRY, EXIT, GT, H, OVF, RTN, RTNC}
 pub use Rattle.gpl_defs.specs.declared.instruction.Space.{Space}
 pub use Rattle.gpl_defs.specs.declared.instruction.Space.TheVariants.{Cpu, Vdp}
 pub use Rattle.gpl_defs.specs.declared.instruction.TwoName.{TwoName}
-pub use Rattle.gpl_defs.specs.declared.instruction.TwoName.TheVariants.{ADD, AND, CEQ, CGE, CGT, CH, CHE, CLOG, DIV}
-pub use Rattle.gpl_defs.specs.declared.instruction.TwoName.TheVariants.{EX, MUL, OR, SLL, ST, SUB, XOR}
+pub use Rattle.gpl_defs.specs.declared.instruction.TwoName.TheVariants.{ADD, AND, CEQ, CGE, CGT, CH, CHE, CLOG, DIV, EX, MUL, OR, SLL, ST, SUB, XOR}
 pub use Rattle.gpl_step_defs.specs.Arithmetic.{count_of, divided, exchanged, has_quotient, repeated, repeated_sign}
 pub use Rattle.gpl_step_defs.specs.Arithmetic.{shifted_left, shifted_right, Source, two, with_quotient}
 pub use Rattle.gpl_step_defs.specs.Changes.{Changes, condition, finished, shown, status_byte, status_of, unchanged}
@@ -71,16 +67,13 @@ unfoldable pub use Rattle.gpl_step_defs.specs.State.{zeros}
 pub use Rattle.gpl_step_defs.specs.Step.{destination_size, executed, jump, one, plain, source_of, step, with_immediate}
 pub use Rattle.gpl_step_defs.specs.Step.{with_tested, word_or_byte}
 unfoldable pub use Rattle.gpl_step_defs.specs.Step.{after}
-pub use Rattle.gpl_step_defs.specs.declared.cells.TheConstants.{CHARACTER, COLUMN, RANDOM, RETURN_STACK, SEED, STATUS}
-pub use Rattle.gpl_step_defs.specs.declared.cells.TheConstants.{VALUE_STACK, VISIBLE_CELLS}
+pub use Rattle.gpl_step_defs.specs.declared.cells.TheConstants.{CHARACTER, COLUMN, RANDOM, RETURN_STACK, SEED, STATUS, VALUE_STACK, VISIBLE_CELLS}
 pub use Rattle.gpl_step_defs.specs.declared.reason.Reason.{Reason}
 pub use Rattle.gpl_step_defs.specs.declared.reason.Reason.TheVariants.{Cell, Length, Opcode, Register, Stack}
-pub use Rattle.gpl_step_defs.specs.declared.status_bits.TheConstants.{CARRY_BIT, CONDITION_BIT, GREATER_BIT, HIGHER_BIT}
-pub use Rattle.gpl_step_defs.specs.declared.status_bits.TheConstants.{OVERFLOW_BIT}
+pub use Rattle.gpl_step_defs.specs.declared.status_bits.TheConstants.{CARRY_BIT, CONDITION_BIT, GREATER_BIT, HIGHER_BIT, OVERFLOW_BIT}
 pub use Rattle.native_interp.specs.Entries.{operation_entry, row_entry}
 pub use Rattle.native_interp.specs.Words.{origin}
-pub use Rattle.native_interp.specs.declared.addresses.TheConstants.{ABSV, ADDR, ADDV, ANDV, APTR, ASPACE, BRANCH}
-pub use Rattle.native_interp.specs.declared.addresses.TheConstants.{BTARG, CALLN, CALLS, CASEN, CASET, CASEV}
+pub use Rattle.native_interp.specs.declared.addresses.TheConstants.{ABSV, ADDR, ADDV, ANDV, APTR, ASPACE, BRANCH, BTARG, CALLN, CALLS, CASEN, CASET, CASEV}
 pub use Rattle.native_interp.specs.declared.addresses.TheConstants.{CEQV, CFALSE, CGEV, CGTV, CHEV, CHV, CLOGV, CLRV}
 pub use Rattle.native_interp.specs.declared.addresses.TheConstants.{COPY, COPYN, COPYS, COUNT, CTRUE, CZV, DECTV}
 pub use Rattle.native_interp.specs.declared.addresses.TheConstants.{DIVBY, DIVE, DIVL, DIVQ, DIVS, DIVV, DIVW, EXB}

@@ -1,7 +1,7 @@
 //! Runs of steps up to an address, a jump to itself, a limit or a stop.
 
 ghost use Rattle.std.specs.Prelude.{◌≡◌, ◌≤◌, ◌+◌, ◌-◌};
-ghost use Rattle.count_defs.specs.Counts.{saturating_sum};
+ghost use Rattle.base_defs.specs.Counts.{saturating_sum};
 ghost use Rattle.tms_defs.specs.Accesses.{Gives};
 ghost use Rattle.console_defs.specs.Machine.{machine_step};
 ghost use Rattle.console_defs.specs.Machine as machine;

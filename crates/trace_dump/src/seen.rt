@@ -8,7 +8,7 @@ ghost use Rattle.change_defs.specs.Text.{size_of};
 ghost use Rattle.trace_dump.specs.FirstChanges.{part_label, part_place, first_text};
 
 use asm_text::byte_digits;
-use byte_lists::zeros;
+use memory_basics::zeros;
 use change_defs::Part;
 use gpl_step_defs::VISIBLE_CELLS;
 use lane_scan::{count_differences, first_difference};

@@ -6,7 +6,7 @@ ghost use Rattle.console_defs.specs.Vdp.{IsVdp, IsNewVdp, is_vdp_idle, next_in_v
 ghost use Rattle.console_defs.specs.Vdp.{pair_address, pair_done};
 ghost use Rattle.console_defs.specs.Vdp.{vdp_address_written, vdp_data_written, vdp_data_read, vdp_status_read};
 
-use byte_lists::{holds_bytes, zeros};
+use memory_basics::{holds_bytes, zeros};
 use std::alloc::{AllocError, Global};
 use std::marker::Model;
 

@@ -9,7 +9,7 @@ use Rattle.std.proofs.lemmas.List.Sums.{prefix_len-le-length, prefix_len_passes,
 use Rattle.std.proofs.lemmas.Slice.Zip.{get_or-zip, length-zip}
 use Rattle.gpl_defs.specs.declared.instruction.Space.{Space}
 use Rattle.gpl_defs.specs.declared.instruction.Space.TheVariants.{Cpu, Vdp}
-use Rattle.list_defs.specs.Lists.{is_same, common_length, first_difference}
+use Rattle.base_defs.specs.Lists.{is_same, common_length, first_difference}
 use Rattle.gpl_step_defs.specs.State.{GplState, IsState}
 use Rattle.watch_defs.specs.Items.{bytes_in, base_of, size_of, IsRange}
 use Rattle.watch_defs.specs.RangeLaw.{byte_at, IsChange, RangesHoldByTheirBytes}

@@ -14,7 +14,7 @@ use Rattle.tms_defs.specs.declared.instruction.BareOp.TheVariants.{LWPI}
 use Rattle.tms_defs.specs.declared.instruction.Operation.{Operation}
 use Rattle.tms_defs.specs.declared.instruction.Operation.TheVariants.{Two, Reg, Shift, One, Jump, Imm, Bare}
 use Rattle.instruction_defs.specs.declared.mnemonic.Mnemonic.TheVariants.{Of}
-use Rattle.tms_defs.specs.Instructions.{name_of}
+use Rattle.tms_defs.specs.Instructions.{name_of, HasRoom, HasSignedByte, operation_of, word_of}
 use Rattle.instruction_defs.specs.Operations.{mnemonic}
 use Rattle.asm_defs.specs.Directives.{directive}
 use Rattle.listed_lines.proofs.LineTexts.{plain_byte, field_of}
@@ -24,7 +24,6 @@ use Rattle.source_defs.specs.Refusals.{◌>>=◌}
 use Rattle.source_defs.specs.Digits.{hex_word}
 use Rattle.expression_defs.specs.Expression.{Value, Absolute}
 use Rattle.source_defs.specs.ListedLines.{two_texts}
-use Rattle.tms_defs.specs.Instructions.{HasRoom, HasSignedByte, operation_of, word_of}
 use Rattle.tms_defs.specs.declared.instruction.Place.{Place}
 use Rattle.tms_defs.specs.declared.instruction.RegOp.{RegOp}
 use Rattle.tms_defs.specs.declared.instruction.JumpOp.{JumpOp}
@@ -50,7 +49,7 @@ use Rattle.listed_lines.proofs.OperandLines.{whole, one_text, two_operands}
 use Rattle.word_listings.specs.Modules.{jump_wraps, leads_out, wraps}
 use Rattle.word_listings.proofs.Slots.{known}
 use Rattle.word_listings.proofs.Slots.{SlotBack, letter, followed, place_back, register_back, count_back, immediate_back, bit_back, target_back}
-use Rattle.count_defs.specs.Counts.{one_if}
+use Rattle.base_defs.specs.Counts.{one_if}
 use Rattle.std.specs.Option.{option_map}
 use Rattle.std.proofs.lemmas.Int.{ints}
 use Rattle.tms_defs.specs.Instructions.{operation_at, operands_at, instr_at}

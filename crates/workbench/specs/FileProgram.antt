@@ -1,12 +1,10 @@
 -- The program with files: what its commands read of the input and of a shelf, report and leave.
-use Rattle.std.specs.Prelude.{◌≡◌, ◌⊎◌, ℕ, ◌+◌, ◌*◌, ◌≤◌, nat_lt, MatchBool, List, length}
-use Rattle.std.specs.Prelude.{Option, Some, None}
-use Rattle.count_defs.specs.Counts.{saturating_sum}
+use Rattle.std.specs.Prelude.{◌≡◌, ◌⊎◌, ℕ, ◌+◌, ◌*◌, ◌≤◌, nat_lt, MatchBool, List, length, Option, Some, None}
+use Rattle.base_defs.specs.Counts.{saturating_sum}
 use Rattle.bench_io.specs.ReadAll.{ReadWhole}
 use Rattle.report_defs.specs.declared.fault.Fault.TheVariants.{TooLarge}
 use Rattle.report_defs.specs.Report.{Report, Faulty, OnInput, largest_input}
-use Rattle.report_defs.specs.ProgramCommands.{AsmFiles, LinkFiles, Watch, ProgramCommand}
-use Rattle.report_defs.specs.ProgramCommands.{OverFiles, Plain, program_usage}
+use Rattle.report_defs.specs.ProgramCommands.{AsmFiles, LinkFiles, Watch, ProgramCommand, OverFiles, Plain, program_usage}
 use Rattle.report_defs.specs.FileReports.{WatchReport, ReportWith}
 use Rattle.shelf_defs.specs.Copied.{most_bytes, most_copies}
 use Rattle.shelf_defs.specs.Questions.{Question}

@@ -10,10 +10,10 @@ ghost use Rattle.reports.specs.Answers.{answer, WantsMemory, Reported};
 ghost use Rattle.bench_commands.specs.LinkedInput.{StartsInput};
 
 use crate::object_input::link_input;
-use byte_lists::zeros;
+use memory_basics::zeros;
 use console_defs::RunEnd;
 use link_loader::Linked;
-use machine_load::load_machine;
+use gpl_run::load_machine;
 use report_defs::Command;
 use reports::{CommandError, Report};
 use std::alloc::{AllocError, Global};

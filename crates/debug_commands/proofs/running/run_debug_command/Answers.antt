@@ -8,7 +8,7 @@ use Rattle.report_defs.specs.Report.{AcceptedReport}
 use Rattle.report_defs.specs.declared.command.Command.TheVariants.{Run}
 use Rattle.gpl_list_defs.specs.Listing.{listing_of, listing_report}
 use Rattle.bench_commands.proofs.Ends.{by_unread}
-use Rattle.steps_command.specs.Ends.{EndsInstructions}
+use Rattle.debug_commands.specs.Ends.{EndsInstructions}
 use Rattle.debug_commands.specs.Debug.{debug_input, debug_program}
 use Rattle.debug_commands.specs.Answered.{EndsAnswered}
 use Rattle.debug_commands.specs.Gsteps.{EndsCounts, EndsSteps}

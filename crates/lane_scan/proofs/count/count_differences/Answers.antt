@@ -3,7 +3,7 @@ use Rattle.std.proofs.lemmas.List.Sums.{count_by-le-length}
 use Rattle.std.proofs.lemmas.Slice.Zip.{length-zip}
 use Rattle.std.specs.Int.RustNames.{count_ones}
 use Rattle.std.specs.List.{zip}
-use Rattle.list_defs.specs.Lists.{is_different}
+use Rattle.base_defs.specs.Lists.{is_different}
 use Rattle.lane_scan.proofs.Places.{counted}
 use Rattle.lane_scan.proofs.count.count_differences.Goals as goal
 

@@ -1,6 +1,6 @@
 use Rattle.std.proofs.Common.{◌≡◌, ◌+◌, ◌≤◌, drop}
 use Rattle.std.specs.List.{zip, count_by}
-use Rattle.list_defs.specs.Lists.{is_different}
+use Rattle.base_defs.specs.Lists.{is_different}
 use Rattle.lane_scan.proofs.count.count_from.Given as goal
 
 abbrev pub invariant-loop-at : goal.invariant-loop-at

@@ -1,6 +1,6 @@
 use Rattle.std.proofs.Common.{◌-◌, ◌≡◌, ◌+◌, ◌≤◌, length, drop, min}
 use Rattle.std.specs.List.{zip, prefix_len}
-use Rattle.list_defs.specs.Lists.{is_same}
+use Rattle.base_defs.specs.Lists.{is_same}
 use Rattle.lane_scan.proofs.difference.common_end.Given as goal
 
 abbrev pub invariant-loop-at : goal.invariant-loop-at

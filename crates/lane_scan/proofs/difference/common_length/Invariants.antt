@@ -1,6 +1,6 @@
 use Rattle.std.proofs.Common.{◌-◌, ◌≡◌, ◌+◌, ◌≤◌, length, drop, min}
 use Rattle.std.specs.List.{zip, prefix_len}
-use Rattle.list_defs.specs.Lists.{is_same, common_length}
+use Rattle.base_defs.specs.Lists.{is_same, common_length}
 use Rattle.lane_scan.proofs.difference.common_length.Given as goal
 
 abbrev pub invariant-loop-at : goal.invariant-loop-at

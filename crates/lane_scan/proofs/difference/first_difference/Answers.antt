@@ -1,5 +1,5 @@
 use Rattle.std.proofs.Common.{rules, ◌≡◌, ◌<◌, Some, None, IfSome, length, sym, subst}
-use Rattle.list_defs.specs.Lists.{first_difference, IsFirstDifference}
+use Rattle.base_defs.specs.Lists.{first_difference, IsFirstDifference}
 use Rattle.lane_scan.proofs.First.{first_is, first_within}
 use Rattle.lane_scan.proofs.difference.first_difference.Goals as goal
 

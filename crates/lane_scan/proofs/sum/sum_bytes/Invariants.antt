@@ -1,6 +1,6 @@
 use Rattle.std.proofs.Common.{◌≡◌, ◌+◌, ◌-◌, ◌*◌, ◌≤◌, length, drop}
 use Rattle.std.specs.List.{sum}
-use Rattle.list_defs.specs.Lists.{sum_bytes}
+use Rattle.base_defs.specs.Lists.{sum_bytes}
 use Rattle.lane_scan.proofs.sum.sum_bytes.Given as goal
 
 abbrev pub invariant-loop-at : goal.invariant-loop-at

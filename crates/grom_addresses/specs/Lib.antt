@@ -1,1 +1,0 @@
-pub use Rattle.grom_defs.specs.Addresses

@@ -1,6 +1,0 @@
-//! A machine that linked memory is loaded into.
-#![tactic(auto)]
-
-mod load;
-
-pub use load::load_machine;

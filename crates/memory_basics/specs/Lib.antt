@@ -1,0 +1,1 @@
+pub use Rattle.base_defs.specs.Addresses
