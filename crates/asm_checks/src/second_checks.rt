@@ -48,8 +48,8 @@ pub enum Outcome {
 
 impl Outcome {
     /// Whether a line that comes to this stands as it is, whatever names are still to come.
-    pub fn stands(&self) -> bool
-        ensures { result ≡ growing.stands (model_of_outcome self.now) }
+    pub fn is_resolved(&self) -> bool
+        ensures { result ≡ growing.is_resolved (model_of_outcome self.now) }
     {
         match self {
             Outcome::Instruction(placed) => all_own(placed.words.as_slice()),

@@ -37,6 +37,6 @@ gives at found given within is =
 
 pub fits_there : (at : Location) (text : List ℕ) (statement : parsed.Statement) → has_room at text ≡ true → parsed.parse_line text ≡ Ok statement
     → at.number + declared_size statement ≤ 65536
-fits_there at text statement room says =
-    let le : nat_le (at.number + declared_size statement) 65536 ≡ true = sym (ap (has_room_by at) says) ∙ room in
+fits_there at text statement room parses =
+    let le : nat_le (at.number + declared_size statement) 65536 ≡ true = sym (ap (has_room_by at) parses) ∙ room in
     grind (arith, nat_tests, le)

@@ -16,7 +16,7 @@ use Rattle.asm_defs.specs.FirstChecks.{EarlierLines, Checked, checked, parsed, m
 use Rattle.asm_defs.specs.SecondChecks as second
 use Rattle.asm_defs.specs.Memory.{AssembledLine, covers, is_placed, has_word, words_in, word_count, part_words, content_at, same_part, overlaps}
 use Rattle.asm_defs.specs.Modules.{with_room}
-use Rattle.module_image.specs.Standing.{AllStand}
+use Rattle.module_image.specs.ResolvedLines.{AreAllResolved}
 use Rattle.module_image.specs.Images.{IsImage}
 use Rattle.module_image.specs.declared.image.Image.{Image}
 use Rattle.module_image.proofs.TableLaws.{count_same, count_none}
@@ -32,10 +32,10 @@ here_again here =
     let same : here.number + 0 ≡ here.number = omega arith in
     ap (λ number. record { part = here.part; number = number }) same
 
-pub nothing_said : (before : EarlierLines) (text : List ℕ) → fields text ≡ Ok no_fields → is_in_part before.location ≡ true
+pub nothing_parsed : (before : EarlierLines) (text : List ℕ) → fields text ≡ Ok no_fields → is_in_part before.location ≡ true
     → checked before text ≡ Ok (nothing_at before.location)
 unfolding parsed moved statement_in
-nothing_said before text none here =
+nothing_parsed before text none here =
     let inside : is_in_part (after before.location 0) ≡ true = ap is_in_part (here_again before.location) ∙ here in
     rw (none, inside) refl
 
@@ -96,10 +96,10 @@ most_of words over line e = by (nat_lt 32768 words) refl e
     by true is e = cc e
     by false is e = grind (arith, nat_tests, is)
 
-most_words : (earlier founds : List AssembledLine) → word_count earlier ≤ 32768 → AllStand earlier founds → word_count (onto earlier founds) ≤ 32768
-most_words earlier [] most stand = most
-most_words earlier (found ∷ founds) most stand =
-    most_words (found ∷ earlier) founds (most_of (word_count (found ∷ earlier)) (overlaps earlier found) found stand.0.room) stand.1
+most_words : (earlier founds : List AssembledLine) → word_count earlier ≤ 32768 → AreAllResolved earlier founds → word_count (onto earlier founds) ≤ 32768
+most_words earlier [] most resolved = most
+most_words earlier (found ∷ founds) most resolved =
+    most_words (found ∷ earlier) founds (most_of (word_count (found ∷ earlier)) (overlaps earlier found) found resolved.0.room) resolved.1
 
 no_words : word_count [] ≤ 32768
 no_words = omega (
@@ -108,8 +108,8 @@ no_words = omega (
   count_none (has_word [] part.Absolute) 0 part_words (λ w. refl),
 )
 
-pub still_room : (at : Location) (founds : List AssembledLine) → AllStand [] founds → with_room (onto [] founds) (nothing_placed at) ≡ Ok (nothing_placed at)
-still_room at founds stand = room_for_nothing at (onto [] founds) (most_words [] founds no_words stand)
+pub still_room : (at : Location) (founds : List AssembledLine) → AreAllResolved [] founds → with_room (onto [] founds) (nothing_placed at) ≡ Ok (nothing_placed at)
+still_room at founds resolved = room_for_nothing at (onto [] founds) (most_words [] founds no_words resolved)
 
 -- no location is after the highest that was reached
 within_reach : (lines : List Line) → relocatable (location lines) ≤ reached lines

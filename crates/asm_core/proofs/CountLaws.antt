@@ -16,21 +16,21 @@ use Rattle.asm_core.specs.declared.pending.Refused.{Refused}
 use Rattle.asm_core.specs.declared.lines.AsmLines.{AsmLines}
 use Rattle.asm_core.specs.declared.taken.TakenLine.{TakenLine}
 use Rattle.asm_core.specs.TakenLines.{names_in}
-use Rattle.asm_defs.proofs.CheckLaws.{checked_said}
+use Rattle.asm_defs.proofs.CheckLaws.{checked_parses}
 use Rattle.asm_core.specs.Building.{ImageOf, IsWorked, IsAfter, Takes}
 use Rattle.asm_core.specs.Adding.{Counts}
-use Rattle.asm_core.proofs.BlankLaws.{nothing_at, nothing_said, here_again, image_still, still_reached}
+use Rattle.asm_core.proofs.BlankLaws.{nothing_at, nothing_parsed, here_again, image_still, still_reached}
 use Rattle.asm_core.proofs.LineLaws.{location_more}
 use Rattle.asm_core.proofs.WorkedLaws.{worked_stopped, nothing_more}
 
 unchanged : (names : Names) → Grows names names
 unchanged names name value is = is
 
-module _ (lines : List Line) (names : Names) (line : Line) (says : line.statement ≡ Nothing) (image image' : Option Image) (ready : IsSome image')
+module _ (lines : List Line) (names : Names) (line : Line) (parses : line.statement ≡ Nothing) (image image' : Option Image) (ready : IsSome image')
     (made : (founds : List AssembledLine) → ImageOf founds image → ImageOf founds image') (waiting : List Pending) where
   worked_on : (refused : Option Refused) → IsWorked lines names image waiting refused → IsWorked (line ∷ lines) names image' waiting refused
   worked_on None is =
-      nothing_more names names (unchanged names) lines line image waiting is image' says
+      nothing_more names names (unchanged names) lines line image waiting is image' parses
       (λ placed. image_still (place lines line) (onto [] is.founds) image' ready (made (onto [] is.founds) placed))
   worked_on (Some refused) is = worked_stopped names names (unchanged names) lines line (Some refused)
       (Some refused) image image' waiting waiting refl refl refl is
@@ -43,7 +43,7 @@ module _ (lines : List Line) (text : List ℕ) (old new : AsmLines) (none : fiel
   here = ap is_in_part (sym is.location) ∙ old.placed
 
   checks : check lines (length lines + 1) text ≡ Ok line
-  checks = ap (λ answer. answer >>= λ found. Ok (line_of (length lines + 1) found)) (nothing_said (known_of lines) text none here)
+  checks = ap (λ answer. answer >>= λ found. Ok (line_of (length lines + 1) found)) (nothing_parsed (known_of lines) text none here)
 
   stays : location (line ∷ lines) ≡ location lines
   stays = location_more (length lines + 1) (nothing_at (location lines)) lines ∙ here_again (location lines)
@@ -72,6 +72,6 @@ module _ (lines : List Line) (text : List ℕ) (old new : AsmLines) (none : fiel
       at = at ∙ (counts.location ∙ (is.location ∙ sym (here_again (location lines))));
       origin = no_origin;
       names = sym no_names;
-      parsed = checked_said (known_of lines) text (nothing_at (location lines)) (nothing_said (known_of lines) text none here);
+      parsed = checked_parses (known_of lines) text (nothing_at (location lines)) (nothing_parsed (known_of lines) text none here);
     },
   )

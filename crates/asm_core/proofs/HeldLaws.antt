@@ -14,4 +14,4 @@ pub has_room : (before : EarlierLines) (text : List ℕ) (found : Checked) → i
 has_room before text found here e =
     let room = checks.has_room before text found e here in
     let le : nat_le (before.location.number + found.move.gap + declared_size found.statement) 65536 ≡ true = grind (arith, nat_tests, room) in
-    ap (held.has_room_by (after before.location found.move.gap)) (checks.says before text found e) ∙ le
+    ap (held.has_room_by (after before.location found.move.gap)) (checks.parses before text found e) ∙ le

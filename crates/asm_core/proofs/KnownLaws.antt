@@ -16,7 +16,7 @@ use Rattle.asm_defs.specs.Modules.{assembled_line, with_room, entry}
 use Rattle.asm_defs.specs.Growing.{is_unresolved}
 use Rattle.asm_defs.proofs.GrowingLaws.{outcome_stays}
 use Rattle.asm_checks.specs.Answers.{Causes}
-use Rattle.module_image.specs.Standing.{StandsAfter, AllStand}
+use Rattle.module_image.specs.ResolvedLines.{IsResolvedAfter, AreAllResolved}
 use Rattle.module_image.proofs.SwapLaws.{uses_none, enters_none}
 use Rattle.asm_core.specs.declared.pending.Pending.{Pending}
 use Rattle.asm_core.specs.Building.{IsKnown, IsWaiting, AreKnown, Refuses}
@@ -25,10 +25,10 @@ pub onto_more : {A : Type 0} (before items : List A) (item : A) → onto before 
 onto_more before [] item = refl
 onto_more before (first ∷ items) item = onto_more (first ∷ before) items item
 
-pub stand_more : (earlier founds : List AssembledLine) (found : AssembledLine) → AllStand earlier founds → StandsAfter (onto earlier founds) found
-    → AllStand earlier (founds ++ found ∷ [])
-stand_more earlier [] found all more = (more, tt)
-stand_more earlier (first ∷ founds) found all more = (all.0, stand_more (first ∷ earlier) founds found all.1 more)
+pub resolved_more : (earlier founds : List AssembledLine) (found : AssembledLine) → AreAllResolved earlier founds → IsResolvedAfter (onto earlier founds) found
+    → AreAllResolved earlier (founds ++ found ∷ [])
+resolved_more earlier [] found all more = (more, tt)
+resolved_more earlier (first ∷ founds) found all more = (all.0, resolved_more (first ∷ earlier) founds found all.1 more)
 
 -- one line more, which comes to something, or waits
 pub known_more : (known : Names) (before order : List Line) (founds : List AssembledLine) (waiting : List Pending) (line : Line) (found : AssembledLine)
@@ -106,7 +106,7 @@ pub record NextHeld (names : Names) (unused : List Reference) (before rest : Lis
   pub all : onto before rest ≡ onto (line ∷ lines) left
   pub assembled_lines : assembled_lines (assembled_line names) lines ≡ Ok earlier
   pub is : IsWaiting lines line found (pending ∷ others) others
-  pub stand : AllStand earlier (found ∷ later)
+  pub resolved : AreAllResolved earlier (found ∷ later)
   pub known : AreKnown names (line ∷ lines) left later others
   pub founds : onto done all_founds ≡ onto earlier (found ∷ later)
   pub references : references_of unused earlier ≡ references_of unused done
@@ -128,13 +128,13 @@ module _ (known : Names) (unused : List Reference) where
 
   pub next_held : (before rest : List Line) (done founds : List AssembledLine) (pending : Pending) (others : List Pending)
       → AreKnown known before rest founds (pending ∷ others)
-      → AllStand done founds → assembled_lines (assembled_line known) before ≡ Ok done → NextHeld known unused before rest done founds pending others
-  next_held before [] done [] pending others are stand is = cc are
-  next_held before [] done (found ∷ founds) pending others are stand is = absurd are
-  next_held before (line ∷ rest) done [] pending others are stand is = absurd are
-  next_held before (line ∷ rest) done (found ∷ founds) pending others (inl (one, more)) stand is =
-      let assembled_here = assembled_more before line done found is (assembles before line done found one stand.0.room) in
-      let next = next_held (line ∷ before) rest (found ∷ done) founds pending others more stand.1 assembled_here in
+      → AreAllResolved done founds → assembled_lines (assembled_line known) before ≡ Ok done → NextHeld known unused before rest done founds pending others
+  next_held before [] done [] pending others are resolved is = cc are
+  next_held before [] done (found ∷ founds) pending others are resolved is = absurd are
+  next_held before (line ∷ rest) done [] pending others are resolved is = absurd are
+  next_held before (line ∷ rest) done (found ∷ founds) pending others (inl (one, more)) resolved is =
+      let assembled_here = assembled_more before line done found is (assembles before line done found one resolved.0.room) in
+      let next = next_held (line ∷ before) rest (found ∷ done) founds pending others more resolved.1 assembled_here in
       record {
         lines = next.lines;
         line = next.line;
@@ -145,13 +145,13 @@ module _ (known : Names) (unused : List Reference) where
         all = next.all;
         assembled_lines = next.assembled_lines;
         is = next.is;
-        stand = next.stand;
+        resolved = next.resolved;
         known = next.known;
         founds = next.founds;
-        references = next.references ∙ uses_none found.at (references_of unused done) found.outcome stand.0.stands;
-        entry = next.entry ∙ enters_none (entry done) found.outcome stand.0.stands;
+        references = next.references ∙ uses_none found.at (references_of unused done) found.outcome resolved.0.is_resolved;
+        entry = next.entry ∙ enters_none (entry done) found.outcome resolved.0.is_resolved;
       }
-  next_held before (line ∷ rest) done (found ∷ founds) pending others (inr (left, one, more)) stand is =
+  next_held before (line ∷ rest) done (found ∷ founds) pending others (inr (left, one, more)) resolved is =
       let same = same_tail pending one.first others left one.others in
       record {
         lines = before;
@@ -163,7 +163,7 @@ module _ (known : Names) (unused : List Reference) where
         all = refl;
         assembled_lines = is;
         is = subst (IsWaiting before line found (pending ∷ others)) same one;
-        stand = stand;
+        resolved = resolved;
         known = subst (AreKnown known (line ∷ before) rest founds) same more;
         founds = refl;
         references = refl;
@@ -176,17 +176,17 @@ module _ (known : Names) (unused : List Reference) where
     pub references : references_of unused (onto done founds) ≡ references_of unused done
     pub entry : entry (onto done founds) ≡ entry done
 
-  pub none_held : (before rest : List Line) (done founds : List AssembledLine) → AreKnown known before rest founds [] → AllStand done founds
+  pub none_held : (before rest : List Line) (done founds : List AssembledLine) → AreKnown known before rest founds [] → AreAllResolved done founds
       → assembled_lines (assembled_line known) before ≡ Ok done → AllAssembled before rest done founds
-  none_held before [] done [] are stand is = record { assembled_lines = is; references = refl; entry = refl }
-  none_held before [] done (found ∷ founds) are stand is = absurd are
-  none_held before (line ∷ rest) done [] are stand is = absurd are
-  none_held before (line ∷ rest) done (found ∷ founds) (inl (one, more)) stand is =
-      let assembled_here = assembled_more before line done found is (assembles before line done found one stand.0.room) in
-      let all = none_held (line ∷ before) rest (found ∷ done) founds more stand.1 assembled_here in
+  none_held before [] done [] are resolved is = record { assembled_lines = is; references = refl; entry = refl }
+  none_held before [] done (found ∷ founds) are resolved is = absurd are
+  none_held before (line ∷ rest) done [] are resolved is = absurd are
+  none_held before (line ∷ rest) done (found ∷ founds) (inl (one, more)) resolved is =
+      let assembled_here = assembled_more before line done found is (assembles before line done found one resolved.0.room) in
+      let all = none_held (line ∷ before) rest (found ∷ done) founds more resolved.1 assembled_here in
       record {
         assembled_lines = all.assembled_lines;
-        references = all.references ∙ uses_none found.at (references_of unused done) found.outcome stand.0.stands;
-        entry = all.entry ∙ enters_none (entry done) found.outcome stand.0.stands;
+        references = all.references ∙ uses_none found.at (references_of unused done) found.outcome resolved.0.is_resolved;
+        entry = all.entry ∙ enters_none (entry done) found.outcome resolved.0.is_resolved;
       }
-  none_held before (line ∷ rest) done (found ∷ founds) (inr (left, one, more)) stand is = cc one.others
+  none_held before (line ∷ rest) done (found ∷ founds) (inr (left, one, more)) resolved is = cc one.others

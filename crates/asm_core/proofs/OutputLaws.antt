@@ -9,7 +9,7 @@ use Rattle.asm_defs.specs.declared.location.Location.{Location}
 use Rattle.asm_defs.specs.SecondChecks.{Outcome, Nothing, Words, Bytes, Entry}
 use Rattle.asm_defs.specs.Memory.{AssembledLine, bytes_in, same_part, is_placed_in, contents_by, references_of, after_by}
 use Rattle.asm_defs.proofs.PlacedWords.{after_words}
-use Rattle.module_image.specs.Images.{IsEmpty, IsImage, IsLaid}
+use Rattle.module_image.specs.Images.{IsEmpty, IsImage, IsPut}
 use Rattle.module_image.specs.declared.image.Image.{Image}
 use Rattle.module_image.proofs.HoldingLaws.{contents_length}
 use Rattle.module_image.proofs.SwapLaws.{image_filled}
@@ -28,32 +28,32 @@ either_way : (b : Bool) (cells : List (Option Content)) → cells ≡ (if b then
 either_way true cells = refl
 either_way false cells = refl
 
-nothing_laid : (at : Location) (image : Image) → IsLaid at [] image image
-nothing_laid at image = record {
+nothing_put : (at : Location) (image : Image) → IsPut at [] image image
+nothing_put at image = record {
   relocatable = either_way (same_part at.part part.Relocatable) image.relocatable.cells.items;
   absolute = either_way (same_part at.part part.Absolute) image.absolute.cells.items;
 }
 
 module _ (unused : List Reference) (at : Location) (found : Outcome) (within : at.number + bytes_in found ≤ 65536) where
   pub dummy_filled : (output : Output) → is_placed_in at.part ≡ false → FillsBytes unused at found output output
-  dummy_filled output dummy = λ done others held stand fills holds.
+  dummy_filled output dummy = λ done others held resolved fills holds.
       let line : AssembledLine = record { at = at; outcome = found } in
       record {
-        image = image_filled unused done held line fills others stand [] (λ placed. cc (placed, dummy))
-            (omega (arith, within)) output.image output.image holds.image (nothing_laid at output.image);
+        image = image_filled unused done held line fills others resolved [] (λ placed. cc (placed, dummy))
+            (omega (arith, within)) output.image output.image holds.image (nothing_put at output.image);
         references = holds.references ∙ sym (dummy_uses at (references_of unused done) found dummy);
       }
 
   pub bytes_filled : (old new : Output) (given : List Content) → given ≡ contents_by at (map model_of_ref old.references.items) found
-      → map model_of_ref new.references.items ≡ after_by at (map model_of_ref old.references.items) found → IsLaid at given old.image new.image
+      → map model_of_ref new.references.items ≡ after_by at (map model_of_ref old.references.items) found → IsPut at given old.image new.image
       → FillsBytes unused at found old new
-  bytes_filled old new given contents uses laid = λ done others held stand fills holds.
+  bytes_filled old new given contents uses line_layout = λ done others held resolved fills holds.
       let line : AssembledLine = record { at = at; outcome = found } in
       let size : length given ≡ bytes_in found = ap length contents ∙ contents_length at (map model_of_ref old.references.items) found in
       record {
-        image = image_filled unused done held line fills others stand given
+        image = image_filled unused done held line fills others resolved given
             (λ placed. contents ∙ ap (λ references. contents_by at references found) holds.references)
-            (omega (arith, within, size)) old.image new.image holds.image laid;
+            (omega (arith, within, size)) old.image new.image holds.image line_layout;
         references = uses ∙ ap (λ references. after_by at references found) holds.references;
       }
 

@@ -13,8 +13,8 @@ use Rattle.asm_defs.specs.Growing.{held_place}
 use Rattle.asm_checks.specs.Answers.{Fails}
 use Rattle.asm_checks.specs.declared.failure.Failure.{Failure}
 use Rattle.module_image.specs.Images.{IsImage}
-use Rattle.module_image.specs.Standing.{AllStand, FillsPlace, SamePlaces}
-use Rattle.module_image.proofs.SwapLaws.{places_same, onto_same, stand_same}
+use Rattle.module_image.specs.ResolvedLines.{AreAllResolved, FillsPlace, SamePlaces}
+use Rattle.module_image.proofs.SwapLaws.{places_same, onto_same, resolved_same}
 use Rattle.asm_core.specs.declared.second_pass.Output.{Output}
 use Rattle.asm_core.specs.declared.pending.Pending.{Pending}
 use Rattle.asm_core.specs.Building.{IsOf, AreKnown, refusal_at}
@@ -34,13 +34,13 @@ pub record IsSoFar (unused : List Reference) (names : Names) (order : List Line)
   pub all : onto [] order ≡ onto before rest
   pub assembled_lines : assembled_lines (assembled_line names) before ≡ Ok done
   pub known : AreKnown names before rest left waiting
-  pub stand : AllStand done left
+  pub resolved : AreAllResolved done left
   pub places : SamePlaces (onto [] founds) (onto done left)
   pub output : IsOutput unused [] founds old → IsOutput unused done left new
 
 pub first_so_far : (unused : List Reference) (names : Names) (order : List Line) (founds : List AssembledLine) (waiting : List Pending) (output : Output)
-    → AreKnown names [] order founds waiting → AllStand [] founds → IsSoFar unused names order founds waiting output output
-first_so_far unused names order founds waiting output known stand = record {
+    → AreKnown names [] order founds waiting → AreAllResolved [] founds → IsSoFar unused names order founds waiting output output
+first_so_far unused names order founds waiting output known resolved = record {
   before = [];
   rest = order;
   done = [];
@@ -48,7 +48,7 @@ first_so_far unused names order founds waiting output known stand = record {
   all = refl;
   assembled_lines = refl;
   known = known;
-  stand = stand;
+  resolved = resolved;
   places = λ part p. refl;
   output = λ is. is;
 }
@@ -70,7 +70,7 @@ output_on unused done earlier left later found output founds references entry is
 module _ (unused : List Reference) (names : Names) (order : List Line) (founds : List AssembledLine) (pending : Pending) (others : List Pending)
     (first old new : Output) (so_far : IsSoFar unused names order founds (pending ∷ others) first old) where
   next : NextHeld names unused so_far.before so_far.rest so_far.done so_far.left pending others
-  next = next_held names unused so_far.before so_far.rest so_far.done so_far.left pending others so_far.known so_far.stand so_far.assembled_lines
+  next = next_held names unused so_far.before so_far.rest so_far.done so_far.left pending others so_far.known so_far.resolved so_far.assembled_lines
 
   abbrev pub are_pending : Pending → Pending → Type 0
   are_pending a b = a ≡ b
@@ -86,7 +86,7 @@ module _ (unused : List Reference) (names : Names) (order : List Line) (founds :
       let line = real names unused next.lines next.line pending waits old new by in
       let held = held_place (place next.lines next.line) next.line.statement in
       let fills : FillsPlace held line = fills_place names unused next.lines next.line pending waits old new by in
-      let stand : AllStand next.earlier (held ∷ next.later) = subst (λ found. AllStand next.earlier (found ∷ next.later)) next.is.held next.stand in
+      let resolved : AreAllResolved next.earlier (held ∷ next.later) = subst (λ found. AreAllResolved next.earlier (found ∷ next.later)) next.is.held next.resolved in
       let places : SamePlaces (held ∷ next.earlier) (line ∷ next.earlier) = places_same unused next.earlier held line fills in
       let founds_are : onto so_far.done so_far.left ≡ onto (held ∷ next.earlier) next.later =
       next.founds ∙ ap (λ (found : AssembledLine). onto (found ∷ next.earlier) next.later) next.is.held in
@@ -98,16 +98,16 @@ module _ (unused : List Reference) (names : Names) (order : List Line) (founds :
         all = so_far.all ∙ next.all;
         assembled_lines = assembled_more names next.lines next.line next.earlier line next.assembled_lines
             (assemble_filled names unused next.lines next.line pending waits old new by next.earlier
-            ∙ ap (λ answer. answer >>= λ held. Ok line) stand.0.room);
+            ∙ ap (λ answer. answer >>= λ held. Ok line) resolved.0.room);
         known = next.known;
-        stand = stand_same (held ∷ next.earlier) (line ∷ next.earlier) next.later places stand.1;
+        resolved = resolved_same (held ∷ next.earlier) (line ∷ next.earlier) next.later places resolved.1;
         places = λ part p.
             so_far.places part p
             ∙ (ap (λ lines. is_placed lines part p) founds_are
             ∙ onto_same (held ∷ next.earlier) (line ∷ next.earlier) next.later places part p);
         output = λ is.
             fills_held names unused next.lines next.line pending waits old new by next.earlier next.later next.found next.is.held
-            (subst (λ found. AllStand (found ∷ next.earlier) next.later) (sym next.is.held) stand.1)
+            (subst (λ found. AreAllResolved (found ∷ next.earlier) next.later) (sym next.is.held) resolved.1)
             (output_on unused so_far.done next.earlier so_far.left next.later next.found old next.founds next.references next.entry (so_far.output is));
       }
 
@@ -125,7 +125,7 @@ module _ (unused : List Reference) (names : Names) (order : List Line) (founds :
 pub all_assembled : (unused : List Reference) (names : Names) (order : List Line) (founds : List AssembledLine) (first output : Output)
     → IsSoFar unused names order founds [] first output → AreResolved unused order founds names first output
 all_assembled unused names order founds first output so_far =
-    let rest = none_held names unused so_far.before so_far.rest so_far.done so_far.left so_far.known so_far.stand so_far.assembled_lines in
+    let rest = none_held names unused so_far.before so_far.rest so_far.done so_far.left so_far.known so_far.resolved so_far.assembled_lines in
     record {
       done = onto so_far.done so_far.left;
       assembled_lines = ap (assembled_lines (assembled_line names)) so_far.all ∙ rest.assembled_lines;

@@ -21,7 +21,7 @@ use Rattle.asm_defs.specs.Growing.{declared_size, held_place}
 use Rattle.asm_checks.specs.Answers.{Fails}
 use Rattle.asm_checks.specs.declared.failure.Failure.{Failure}
 use Rattle.asm_checks.specs.declared.failure.Failure.TheVariants.{Refused, Memory}
-use Rattle.module_image.specs.Standing.{AllStand, FillsPlace, SamePlaces}
+use Rattle.module_image.specs.ResolvedLines.{AreAllResolved, FillsPlace, SamePlaces}
 use Rattle.module_image.proofs.SwapLaws.{room_same, room_filled}
 use Rattle.asm_core.specs.Building.{IsOf, refusal_at}
 use Rattle.asm_core.specs.Resolving.{IsOutput, IsResolved, answer_to}
@@ -76,13 +76,13 @@ module _ (known : Names) where
     abbrev are_statements : Statement → Statement → Type 0
     are_statements a b = a ≡ b
 
-    same_said : are_statements assembled_by.statement line.statement
-    same_said = let both : Ok assembled_by.statement ≡ Ok line.statement = sym assembled_by.parsed ∙ is.parsed in cc both
+    same_statements : are_statements assembled_by.statement line.statement
+    same_statements = let both : Ok assembled_by.statement ≡ Ok line.statement = sym assembled_by.parsed ∙ is.parsed in cc both
 
     pub fills_place : FillsPlace (held_place (place before line) line.statement) real
     fills_place = record {
       at = is.at;
-      size = assembled_by.size ∙ (ap declared_size same_said ∙ sym (length-replicate (declared_size line.statement) 0));
+      size = assembled_by.size ∙ (ap declared_size same_statements ∙ sym (length-replicate (declared_size line.statement) 0));
     }
 
     pub comes_there : outcome (look_up known) (place before line) line.statement ≡ Ok assembled_by.found
@@ -97,10 +97,10 @@ module _ (known : Names) where
         ∙ (ap (λ (at : Location). with_room done (record { at = at; outcome = assembled_by.found })) (sym is.at)
         ∙ room_filled done (held_place (place before line) line.statement) real fills_place)
 
-    pub fills_held : (done others : List AssembledLine) (held : AssembledLine) → held ≡ held_place (place before line) line.statement → AllStand (held ∷ done) others
+    pub fills_held : (done others : List AssembledLine) (held : AssembledLine) → held ≡ held_place (place before line) line.statement → AreAllResolved (held ∷ done) others
         → IsOutput unused done (held ∷ others) old → IsOutput unused (real ∷ done) others new
-    fills_held done others held same stand output =
-        assembled_by.fills done others held stand (subst (λ (held : AssembledLine). FillsPlace held real) (sym same) fills_place) output
+    fills_held done others held same resolved output =
+        assembled_by.fills done others held resolved (subst (λ (held : AssembledLine). FillsPlace held real) (sym same) fills_place) output
 
 -- a failure at a line refuses the whole
 pub refuses_by : {A B : Type 0} (failure : Failure) (number : ℕ) (answer : Result A AsmCause) (whole : Result B (Refusal AsmCause)) → Fails failure answer

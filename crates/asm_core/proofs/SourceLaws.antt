@@ -5,7 +5,7 @@ use Rattle.source_defs.specs.declared.text.Line.{Line as TextLine}
 use Rattle.source_defs.specs.declared.text.Span.{Span}
 use Rattle.source_defs.specs.Lines.{part, lines, lines_from, numbered_from}
 use Rattle.source_defs.specs.Refusals.{Refusal}
-use Rattle.expression_defs.specs.Layout.{laid_after}
+use Rattle.expression_defs.specs.Layout.{layout_after}
 use Rattle.asm_defs.specs.declared.causes.AsmCause.{AsmCause}
 use Rattle.asm_defs.specs.Locations.{Line}
 use Rattle.asm_defs.specs.FirstChecks.{check}
@@ -39,7 +39,7 @@ answers error = Err error
 
 module _ (text : List ℕ) (before : List Line) (line : TextLine) (rest : List TextLine) (is : line.number ≡ length before + 1) where
   abbrev whole : Result (List Line) (Refusal AsmCause)
-  whole = laid_after check before (texts_of text (line ∷ rest))
+  whole = layout_after check before (texts_of text (line ∷ rest))
 
   pub refused_there : (error : AsmError) (new : AsmLines) → Takes before (part text line.span) (answers error) new → RefusesAt error whole
   refused_there Memory new takes = tt
@@ -56,7 +56,7 @@ module _ (text : List ℕ) (before : List Line) (line : TextLine) (rest : List T
       rw there (rw last refl)
 
   pub goes_on : (found : Line) → check before (length before + 1) (part text line.span) ≡ Ok found → found.last ≡ false
-      → whole ≡ laid_after check (found ∷ before) (texts_of text rest)
+      → whole ≡ layout_after check (found ∷ before) (texts_of text rest)
   goes_on found e last =
       let there : check before line.number (part text line.span) ≡ Ok found = ap (λ number. check before number (part text line.span)) is ∙ e in
       rw there (rw last refl)

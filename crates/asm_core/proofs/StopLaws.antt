@@ -14,7 +14,7 @@ use Rattle.asm_checks.specs.Answers.{Fails, Causes}
 use Rattle.asm_checks.specs.declared.failure.Failure.{Failure}
 use Rattle.asm_checks.specs.declared.failure.Failure.TheVariants as failure
 use Rattle.asm_checks.proofs.Failures.{causes_on}
-use Rattle.module_image.specs.Standing.{SamePlaces}
+use Rattle.module_image.specs.ResolvedLines.{SamePlaces}
 use Rattle.module_image.proofs.SwapLaws.{room_same}
 use Rattle.asm_core.specs.declared.second_pass.Output.{Output}
 use Rattle.asm_core.specs.declared.pending.Pending.{Pending}

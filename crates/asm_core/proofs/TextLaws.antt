@@ -8,10 +8,10 @@ use Rattle.std.proofs.lemmas.List.{length-map}
 use Rattle.source_defs.specs.Refusals.{at_line}
 use Rattle.expression_defs.specs.Symbols.{Names, look_up}
 use Rattle.expression_defs.specs.Expression.{Value, Absolute, Relocatable, External}
-use Rattle.expression_defs.specs.Layout.{laid, laid_after, assembled_lines}
+use Rattle.expression_defs.specs.Layout.{line_layout, layout_after, assembled_lines}
 use Rattle.object_defs.specs.declared.spot.Spot.{Spot}
 use Rattle.object_defs.specs.declared.spot.Piece.{Piece}
-use Rattle.object_defs.specs.Modules.{Module, Definition, Reference, HasText, StandsEven, number_of}
+use Rattle.object_defs.specs.Modules.{Module, Definition, Reference, HasText, IsAtEvenPlace, number_of}
 use Rattle.asm_defs.specs.declared.causes.AsmCause.{AsmCause}
 use Rattle.asm_defs.specs.declared.causes.AsmCause.TheVariants.{Overflow, Overlap}
 use Rattle.asm_defs.specs.declared.content.Content.{Content}
@@ -43,14 +43,14 @@ spot_even : (at : Part) (w : ℕ) → number_of (spot_by at (2 * w)) % 2 ≡ 0
 spot_even part.Relocatable w = omega arith
 spot_even _ w = omega arith
 
-words_even : (at : Part) (w : ℕ) (words : List Spot) → AllByRecursion StandsEven (map (λ word. record { at = spot_by at (2 * w); word = word }) words)
+words_even : (at : Part) (w : ℕ) (words : List Spot) → AllByRecursion IsAtEvenPlace (map (λ word. record { at = spot_by at (2 * w); word = word }) words)
 words_even at w [] = tt
 words_even at w (word ∷ words) = (spot_even at w, words_even at w words)
 
-pieces_even : (content : ℕ → Option Content) (at : Part) (first n : ℕ) → AllByRecursion StandsEven (pieces_from content at first n)
+pieces_even : (content : ℕ → Option Content) (at : Part) (first n : ℕ) → AllByRecursion IsAtEvenPlace (pieces_from content at first n)
 pieces_even content at first zero = tt
 pieces_even content at first (suc n) =
-    all_append StandsEven (pieces_at content at first) (pieces_from content at (first + 1) n)
+    all_append IsAtEvenPlace (pieces_at content at first) (pieces_from content at (first + 1) n)
     (words_even at first (joined (content (2 * first)) (content (2 * first + 1)))) (pieces_even content at (first + 1) n)
 
 -- there are as many as words are placed
@@ -153,21 +153,21 @@ line_most before number text line most e =
     subst (λ (found : Line). AtMost (found ∷ before)) same (record { defs = fit.defs; refs = fit.refs })
 
 last_by : (b : Bool) (found : Line) (before lines : List Line) (rest : List (ℕ × List ℕ))
-    → (if b then Ok (found ∷ before) else laid_after check (found ∷ before) rest) ≡ Ok lines
-    → AtMost (found ∷ before) → (laid_after check (found ∷ before) rest ≡ Ok lines → AtMost (found ∷ before) → AtMost lines) → AtMost lines
+    → (if b then Ok (found ∷ before) else layout_after check (found ∷ before) rest) ≡ Ok lines
+    → AtMost (found ∷ before) → (layout_after check (found ∷ before) rest ≡ Ok lines → AtMost (found ∷ before) → AtMost lines) → AtMost lines
 last_by true found before lines rest e most next =
     let same : found ∷ before ≡ lines = cc e in
     subst AtMost same most
 last_by false found before lines rest e most next = next e most
 
-laid_most : (texts : List (ℕ × List ℕ)) (before lines : List Line) → laid_after check before texts ≡ Ok lines → AtMost before → AtMost lines
-laid_most [] before lines e most =
+layout_most : (texts : List (ℕ × List ℕ)) (before lines : List Line) → layout_after check before texts ≡ Ok lines → AtMost before → AtMost lines
+layout_most [] before lines e most =
     let same : before ≡ lines = cc e in
     subst AtMost same most
-laid_most (text ∷ texts) before lines e most =
+layout_most (text ∷ texts) before lines e most =
     let a = bound (at_line text.0 (check before text.0 text.1)) _ lines e in
     last_by a.0.last a.0 before lines texts a.2 (line_most before text.0 text.1 a.0 most (at_line_is text.0 (check before text.0 text.1) a.0 a.1))
-    (λ f more. laid_most texts (a.0 ∷ before) lines f more)
+    (λ f more. layout_most texts (a.0 ∷ before) lines f more)
 
 -- and no more words are placed
 room_by : (full overlap : Bool) (line found : AssembledLine) → (if full then Err Overflow else if overlap then Err Overlap else Ok line) ≡ Ok found
@@ -204,7 +204,7 @@ module_text lines found most room =
     let relocatable = pieces_in (content_at start found part.Relocatable) part.Relocatable in
     let absolute = pieces_in (content_at start found part.Absolute) part.Absolute in
     record {
-      even_places = all_append StandsEven relocatable absolute
+      even_places = all_append IsAtEvenPlace relocatable absolute
           (pieces_even (content_at start found part.Relocatable) part.Relocatable 0 part_words)
           (pieces_even (content_at start found part.Absolute) part.Absolute 0 part_words);
       words = all_fit relocatable absolute (words_in found part.Relocatable) (words_in found part.Absolute)
@@ -217,8 +217,8 @@ module_text lines found most room =
 
 pub module_has_text : (texts : List (ℕ × List ℕ)) (m : Module) → module_of texts ≡ Ok m → HasText m
 module_has_text texts m e =
-    let a = bound (laid check texts) _ m e in
+    let a = bound (line_layout check texts) _ m e in
     let b = bound (assembled_lines (assembled_line (names a.0)) a.0) _ m a.2 in
     let same : module_by a.0 b.0 ≡ m = cc b.2 in
     subst HasText same
-    (module_text a.0 b.0 (laid_most texts [] a.0 a.1 (record { defs = omega arith; refs = omega arith })) (assembled_room (names a.0) a.0 b.0 b.1))
+    (module_text a.0 b.0 (layout_most texts [] a.0 a.1 (record { defs = omega arith; refs = omega arith })) (assembled_room (names a.0) a.0 b.0 b.1))

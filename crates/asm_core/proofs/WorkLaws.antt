@@ -24,7 +24,7 @@ use Rattle.asm_core.specs.declared.error.AsmError.{AsmError}
 use Rattle.asm_core.specs.declared.error.AsmError.TheVariants.{Memory}
 use Rattle.asm_core.specs.declared.taken.TakenLine.{TakenLine}
 use Rattle.asm_core.specs.Building.{IsWorked, ImageOf, IsGoing, IsAfter, Takes, refusal_at}
-use Rattle.asm_core.specs.Keeping.{names_with, KnowsLabel, Keeps, IsUnchanged, SameWork, StandsStill}
+use Rattle.asm_core.specs.Keeping.{names_with, KnowsLabel, Keeps, IsUnchanged, SameWork, KeepsRest}
 use Rattle.asm_core.specs.Emitting.{SameLines, SameKnown, Emits}
 use Rattle.asm_core.specs.Adding.{Adds, IsAsBefore, WorksIn}
 use Rattle.asm_core.proofs.WorkedLaws.{worked_stopped, emits_worked}
@@ -61,7 +61,7 @@ going_by lines names image image' waiting made is = record {
   founds = is.founds;
   all = is.all;
   known = is.known;
-  stand = is.stand;
+  resolved = is.resolved;
   image = made _ is.image;
 }
 
@@ -90,7 +90,7 @@ unkept old between new before same work = record {
 }
 
 -- a line of which nothing was added
-pub still_after : (lines : List Line) (old new : AsmLines) → IsAsBefore old new → StandsStill old new → IsAfter lines old → IsAfter lines new
+pub still_after : (lines : List Line) (old new : AsmLines) → IsAsBefore old new → KeepsRest old new → IsAfter lines old → IsAfter lines new
 still_after lines old new before still is = record {
   names = before.names.symbols ∙ is.names;
   location = still.location ∙ is.location;
@@ -134,7 +134,7 @@ pub worked : (old ready kept new : AsmLines) (text : List ℕ) (checked : Checke
     → SameLines old ready → ((founds : List AssembledLine) → ImageOf founds old.image → ImageOf founds ready.image) → at ≡ after ready.location checked.moved.gap
     → AssemblesBy ready.symbols (ready.taken + 1) at text (model_of_statement checked.parsed.statement) waiting emitted → Keeps ready waiting checked kept
     → SameWork ready kept
-    → StandsStill ready kept → SameKnown kept new → Emits kept at emitted (is_some waiting) new → Adds old text checked new
+    → KeepsRest ready kept → SameKnown kept new → Emits kept at emitted (is_some waiting) new → Adds old text checked new
 worked old ready kept new text checked waiting emitted at none same made is_at assembles keeps work still known emits = record {
   defs = known.names.defs ∙ (keeps.defs ∙ ap (λ (names : List (List ℕ)). names ++ defs_in (model_of_statement checked.parsed.statement)) same.known.names.defs);
   refs = known.names.refs ∙ (keeps.refs ∙ ap (λ (names : List (List ℕ)). names ++ refs_in (model_of_statement checked.parsed.statement)) same.known.names.refs);

@@ -19,9 +19,9 @@ use Rattle.asm_defs.specs.Modules.{assembled_line, with_room}
 use Rattle.asm_defs.specs.Growing.{is_unresolved, held_place}
 use Rattle.asm_checks.specs.Answers.{Causes}
 use Rattle.asm_checks.proofs.Failures.{caused, causes_on}
-use Rattle.module_image.specs.Standing.{StandsAfter}
+use Rattle.module_image.specs.ResolvedLines.{IsResolvedAfter}
 use Rattle.module_image.specs.declared.image.Image.{Image}
-use Rattle.module_image.proofs.SwapLaws.{stands_alone, no_room, has_own_room, are_causes}
+use Rattle.module_image.proofs.SwapLaws.{resolved_alone, no_room, has_own_room, are_causes}
 use Rattle.asm_core.specs.declared.pending.Pending.{Pending}
 use Rattle.asm_core.specs.declared.pending.Refused.{Refused}
 use Rattle.asm_core.specs.declared.lines.AsmLines.{AsmLines}
@@ -31,7 +31,7 @@ use Rattle.asm_core.specs.Building.{IsOf, IsKnown, IsWaiting, AreKnown, ImageOf,
 use Rattle.asm_core.specs.Assembling.{ComesTo, IsHeld, IsRefused, AssemblesBy}
 use Rattle.asm_core.specs.Emitting.{AreContents, Stops, ByRoom, Emits}
 use Rattle.asm_core.proofs.BlankLaws.{nothing_placed, nothing_comes, still_room}
-use Rattle.asm_core.proofs.KnownLaws.{onto_more, stand_more, known_more, held_more, known_still, refuses_still, comes_still}
+use Rattle.asm_core.proofs.KnownLaws.{onto_more, resolved_more, known_more, held_more, known_still, refuses_still, comes_still}
 
 -- a line without room is refused for a cause that is no want of memory
 room_causes : (earlier : List AssembledLine) (line : AssembledLine) (cause : AsmCause) → with_room earlier line ≡ Err cause → Causes cause (with_room earlier line)
@@ -51,7 +51,7 @@ module _ (known more : Names) (grows : Grows known more) (lines : List Line) (li
     all = ap (λ lines. line ∷ lines) is.all ∙ sym (onto_more (is.line ∷ onto [] is.order) is.later line);
     number = is.number;
     known = known_still known more grows [] is.order is.founds waiting is.known;
-    stand = is.stand;
+    resolved = is.resolved;
     refuses = refuses_still known more grows (onto [] is.order) (onto [] is.founds) is.line refused.cause refused.waiting is.refuses;
   }
 
@@ -72,13 +72,13 @@ module _ (known more : Names) (grows : Grows known more) (lines : List Line) (li
 
     goes_on : (image' : Option Image) (waiting' : List Pending) (found : AssembledLine)
         → AreKnown more [] (going.order ++ line ∷ []) (going.founds ++ found ∷ []) waiting'
-        → StandsAfter earlier found → ImageOf (found ∷ earlier) image' → IsGoing (line ∷ lines) more image' waiting'
-    goes_on image' waiting' found known stand placed = record {
+        → IsResolvedAfter earlier found → ImageOf (found ∷ earlier) image' → IsGoing (line ∷ lines) more image' waiting'
+    goes_on image' waiting' found known resolved placed = record {
       order = going.order ++ line ∷ [];
       founds = going.founds ++ found ∷ [];
       all = ap (λ lines. line ∷ lines) going.all ∙ sym (onto_more [] going.order line);
       known = known;
-      stand = stand_more [] going.founds found going.stand stand;
+      resolved = resolved_more [] going.founds found going.resolved resolved;
       image = subst (λ lines. ImageOf lines image') (sym (onto_more [] going.founds found)) placed;
     }
 
@@ -86,14 +86,14 @@ module _ (known more : Names) (grows : Grows known more) (lines : List Line) (li
     pub nothing_more : (image' : Option Image) → line.statement ≡ parsed.Nothing
         → (ImageOf earlier image → ImageOf (nothing_placed (place lines line) ∷ earlier) image')
         → IsGoing (line ∷ lines) more image' waiting
-    nothing_more image' says made =
+    nothing_more image' parses made =
         let found = nothing_placed (place lines line) in
         let comes : outcome (look_up more) (place lines line) line.statement ≡ Ok found.outcome =
-        ap (outcome (look_up more) (place lines line)) says ∙ nothing_comes (look_up more) (place lines line) in
+        ap (outcome (look_up more) (place lines line)) parses ∙ nothing_comes (look_up more) (place lines line) in
         goes_on image' waiting found
         (known_more more [] going.order going.founds waiting line found still
         (subst (λ before. IsKnown more before line found) going.all (record { at = refl; comes = comes })))
-        (record { room = still_room (place lines line) going.founds going.stand; stands = refl })
+        (record { room = still_room (place lines line) going.founds going.resolved; is_resolved = refl })
         (made going.image)
 
     stops : (cause : AsmCause) (held : Option Pending) (number : ℕ) → number ≡ line.number → Refuses known lines earlier line cause held
@@ -106,12 +106,12 @@ module _ (known more : Names) (grows : Grows known more) (lines : List Line) (li
       all = ap (λ lines. line ∷ lines) going.all;
       number = same;
       known = still;
-      stand = going.stand;
+      resolved = going.resolved;
       refuses = refuses_still known more grows (onto [] going.order) earlier line cause held
           (subst (λ before. Refuses known before earlier line cause held) going.all refuses);
     }
 
-    module _ (old new : AsmLines) (at : Location) (text : List ℕ) (is_at : at ≡ place lines line) (is_said : parse_line text ≡ Ok line.statement)
+    module _ (old new : AsmLines) (at : Location) (text : List ℕ) (is_at : at ≡ place lines line) (is_parsed : parse_line text ≡ Ok line.statement)
         (is_number : old.taken + 1 ≡ line.number) (is_image : old.image ≡ image) (none : old.refused ≡ None) where
       abbrev Worked : Type 0
       Worked = IsWorked (line ∷ lines) more new.image new.waiting.items new.refused
@@ -146,7 +146,7 @@ module _ (known more : Names) (grows : Grows known more) (lines : List Line) (li
             (goes_on new.image new.waiting.items found
             (subst (AreKnown more [] (going.order ++ line ∷ []) (going.founds ++ found ∷ [])) (sym (by.1 ∙ is_waiting))
             (known_more more [] going.order going.founds waiting line found still is_known))
-            (record { room = has_own_room earlier found other room; stands = comes.stands }) by.2)
+            (record { room = has_own_room earlier found other room; is_resolved = comes.is_resolved }) by.2)
             by.0
         comes_by (Err cause) room by =
             by_refusal cause None (
@@ -162,7 +162,7 @@ module _ (known more : Names) (grows : Grows known more) (lines : List Line) (li
           sym is_at,
           λ references placed.
               comes.gives.bytes placed
-              ∙ (stands_alone at [] (references_of references earlier) comes.found comes.stands
+              ∙ (resolved_alone at [] (references_of references earlier) comes.found comes.is_resolved
               ∙ ap (λ (at : Location). contents_by at (references_of references earlier) comes.found) is_at),
         )
 
@@ -183,7 +183,7 @@ module _ (known more : Names) (grows : Grows known more) (lines : List Line) (li
         is_of = record {
           number = held.is.number ∙ is_taken;
           at = held.is.at ∙ is_at;
-          parsed = ap parse_line held.is.text ∙ is_said;
+          parsed = ap parse_line held.is.text ∙ is_parsed;
         }
 
         waits_by : (answer : Result AssembledLine AsmCause) → with_room earlier place_held ≡ answer → ByRoom old earlier place_held true new answer → Worked
@@ -194,7 +194,7 @@ module _ (known more : Names) (grows : Grows known more) (lines : List Line) (li
             (held_more more [] going.order going.founds waiting line place_held pending still
             (subst (λ before. IsWaiting before line place_held (pending ∷ []) []) going.all
             (record { first = pending; is = is_of; held = refl; others = refl }))))
-            (record { room = has_own_room earlier place_held other room; stands = refl }) by.2)
+            (record { room = has_own_room earlier place_held other room; is_resolved = refl }) by.2)
             by.0
         waits_by (Err cause) room by = by_refusal cause (Some pending) (is_of, room_causes earlier place_held cause room) (by waiting pending is_waiting)
 

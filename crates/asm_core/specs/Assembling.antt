@@ -7,7 +7,7 @@ use Rattle.asm_defs.specs.declared.location.Location.{Location}
 use Rattle.asm_defs.specs.Statements.{Statement}
 use Rattle.asm_defs.specs.SecondChecks.{Outcome, outcome}
 use Rattle.asm_defs.specs.Memory.{contents_by, is_placed_in}
-use Rattle.asm_defs.specs.Growing.{is_unresolved, stands, declared_size, held_place}
+use Rattle.asm_defs.specs.Growing.{is_unresolved, is_resolved, declared_size, held_place}
 use Rattle.asm_checks.specs.Answers.{Causes}
 use Rattle.asm_core.specs.Held.{has_room}
 use Rattle.asm_core.specs.declared.pending.Pending.{Pending}
@@ -35,7 +35,7 @@ pub record IsPending (count : ℕ) (place : Location) (line : List ℕ) (pending
 pub record ComesTo (known : Names) (at : Location) (statement : Statement) (given : List Content) : Type 0 where
   pub found : Outcome
   pub comes : outcome (look_up known) at statement ≡ Ok found
-  pub stands : IsTrue (stands found)
+  pub is_resolved : IsTrue (is_resolved found)
   pub gives : GivesBytes at found given
 
 -- or it waits, and zeros hold its places

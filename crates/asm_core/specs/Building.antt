@@ -6,7 +6,7 @@ use Rattle.source_defs.specs.Orders.{onto}
 use Rattle.expression_defs.specs.Symbols.{Names, look_up}
 use Rattle.expression_defs.specs.Growing.{is_closed}
 use Rattle.source_defs.specs.Lines.{numbered}
-use Rattle.expression_defs.specs.Layout.{laid, has_ended}
+use Rattle.expression_defs.specs.Layout.{line_layout, has_ended}
 use Rattle.object_defs.specs.Modules.{Reference}
 use Rattle.asm_defs.specs.declared.causes.AsmCause.{AsmCause}
 use Rattle.asm_defs.specs.Statements.{parse_line}
@@ -20,13 +20,13 @@ use Rattle.asm_checks.specs.Answers.{Causes}
 use Rattle.asm_checks.specs.declared.failure.Failure.{Failure}
 use Rattle.asm_checks.specs.declared.failure.Failure.TheVariants as failure
 use Rattle.module_image.specs.Images.{IsImage}
-use Rattle.module_image.specs.Standing.{AllStand}
+use Rattle.module_image.specs.ResolvedLines.{AreAllResolved}
 use Rattle.module_image.specs.declared.image.Image.{Image}
 use Rattle.asm_core.specs.declared.lines.AsmLines.{AsmLines}
 use Rattle.asm_core.specs.declared.error.AsmError.{AsmError}
 use Rattle.asm_core.specs.declared.error.AsmError.TheVariants as error
 use Rattle.asm_core.specs.declared.taken.TakenLine.{TakenLine}
-use Rattle.asm_core.specs.TakenLines.{Tells}
+use Rattle.asm_core.specs.TakenLines.{DescribesLine}
 use Rattle.asm_core.specs.declared.pending.Pending.{Pending}
 use Rattle.asm_core.specs.declared.pending.Refused.{Refused}
 
@@ -70,7 +70,7 @@ pub record IsGoing (lines : List Line) (names : Names) (placed : Option Image) (
   pub founds : List AssembledLine
   pub all : lines ≡ onto [] order
   pub known : AreKnown names [] order founds waiting
-  pub stand : AllStand [] founds
+  pub resolved : AreAllResolved [] founds
   pub image : ImageOf (onto [] founds) placed
 
 -- the second checks refuse a line after others, whatever names are still to come
@@ -90,7 +90,7 @@ pub record IsStopped (refused : Refused) (lines : List Line) (names : Names) (wa
   pub all : lines ≡ onto (line ∷ onto [] order) later
   pub number : refused.line ≡ line.number
   pub known : AreKnown names [] order founds waiting
-  pub stand : AllStand [] founds
+  pub resolved : AreAllResolved [] founds
   pub refuses : Refuses names (onto [] order) (onto [] founds) line refused.cause refused.waiting
 
 abbrev pub IsWorked : List Line → Names → Option Image → List Pending → Option Refused → Type 0
@@ -122,7 +122,7 @@ error_of refused = error.At refused.line refused.cause
 abbrev pub Takes : List Line → List ℕ → Result TakenLine AsmError → AsmLines → Type 0
 Takes lines text (Ok known) builder =
     (line : Line) × (check lines (length lines + 1) text ≡ Ok line) × IsAfter (line ∷ lines) builder
-    × Tells lines text line known
+    × DescribesLine lines text line known
 Takes lines text (Err (error.At number cause)) builder =
     (number ≡ length lines + 1) × Causes cause (check lines (length lines + 1) text) × IsAfter lines builder
 Takes lines text (Err error.Memory) builder = IsAfter lines builder
@@ -130,7 +130,7 @@ Takes lines text (Err error.Memory) builder = IsAfter lines builder
 -- The meaning of a builder: the texts of the lines that it has taken.
 pub record HasAccepted (texts : List (List ℕ)) (builder : AsmLines) : Type 0 where
   pub lines : List Line
-  pub laid : laid check (numbered 1 texts) ≡ Ok lines
+  pub line_layout : line_layout check (numbered 1 texts) ≡ Ok lines
   pub all : length lines ≡ length texts
   pub after_lines : IsAfter lines builder
 

@@ -9,7 +9,7 @@ use Rattle.asm_defs.specs.declared.location.Location.{Location}
 use Rattle.asm_defs.specs.Memory.{AssembledLine, contents, is_placed_in}
 use Rattle.asm_defs.specs.Modules.{with_room}
 use Rattle.module_image.specs.declared.image.Image.{Image}
-use Rattle.asm_core.specs.Keeping.{SameNames, StandsStill}
+use Rattle.asm_core.specs.Keeping.{SameNames, KeepsRest}
 use Rattle.asm_core.specs.Building.{ImageOf}
 use Rattle.asm_core.specs.declared.lines.AsmLines.{AsmLines}
 use Rattle.asm_core.specs.declared.first_pass.Emitted.{Emitted}
@@ -19,7 +19,7 @@ use Rattle.asm_core.specs.declared.pending.Pending.{Pending}
 -- all but the image, the lines that wait and the one that is refused are as before
 pub record SameKnown (old new : AsmLines) : Type 0 where
   pub names : SameNames old new
-  pub still : StandsStill old new
+  pub still : KeepsRest old new
 
 -- and so are those lines
 pub record SameLines (old new : AsmLines) : Type 0 where

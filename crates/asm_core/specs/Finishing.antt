@@ -4,7 +4,7 @@ use Rattle.source_defs.specs.Refusals.{Refusal}
 use Rattle.source_defs.specs.Orders.{onto}
 use Rattle.expression_defs.specs.Symbols.{Names}
 use Rattle.source_defs.specs.Lines.{numbered}
-use Rattle.expression_defs.specs.Layout.{assembled_lines, laid}
+use Rattle.expression_defs.specs.Layout.{assembled_lines, line_layout}
 use Rattle.expression_defs.specs.declared.causes.ExprError.TheVariants as expr
 use Rattle.instruction_defs.specs.declared.causes.FormError.TheVariants as form
 use Rattle.object_defs.specs.Modules as object
@@ -17,7 +17,7 @@ use Rattle.asm_defs.specs.Locations.{Line, reached}
 use Rattle.asm_defs.specs.Memory.{AssembledLine}
 use Rattle.asm_defs.specs.Modules.{assembled_line, title}
 use Rattle.asm_defs.specs.FirstChecks.{check, names, defs}
-use Rattle.module_image.specs.Standing.{SamePlaces}
+use Rattle.module_image.specs.ResolvedLines.{SamePlaces}
 use Rattle.asm_core.specs.Building.{HasAccepted}
 use Rattle.asm_core.specs.declared.lines.AsmLines.{AsmLines}
 use Rattle.asm_core.specs.declared.error.AsmError.{AsmError}
@@ -79,4 +79,4 @@ GivesModule (Err error) defined = RefusesAt error defined
 abbrev pub AcceptsText : {A : Type 0} → List (List ℕ) → List ℕ → Result A AsmError → AsmLines → Type 0
 AcceptsText texts text (Ok _) builder = HasAccepted (texts ++ text ∷ []) builder
 AcceptsText texts text (Err error) builder =
-    RefusesAt error (laid check (numbered 1 (texts ++ text ∷ []))) × HasAccepted texts builder
+    RefusesAt error (line_layout check (numbered 1 (texts ++ text ∷ []))) × HasAccepted texts builder

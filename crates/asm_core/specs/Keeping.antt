@@ -71,7 +71,7 @@ pub record SameWork (old new : AsmLines) : Type 0 where
   pub refused : new.refused ≡ old.refused
 
 -- the location and the rest are as before
-pub record StandsStill (old new : AsmLines) : Type 0 where
+pub record KeepsRest (old new : AsmLines) : Type 0 where
   pub location : new.location ≡ old.location
   pub reached : new.reached ≡ old.reached
   pub title : new.title ≡ old.title

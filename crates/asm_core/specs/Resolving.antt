@@ -15,7 +15,7 @@ use Rattle.asm_defs.specs.Growing.{declared_size}
 use Rattle.asm_checks.specs.Answers.{Fails}
 use Rattle.asm_checks.specs.declared.failure.Failure.{Failure}
 use Rattle.module_image.specs.Images.{IsImage}
-use Rattle.module_image.specs.Standing.{AllStand, FillsPlace}
+use Rattle.module_image.specs.ResolvedLines.{AreAllResolved, FillsPlace}
 use Rattle.asm_core.specs.declared.second_pass.Output.{Output}
 use Rattle.asm_core.specs.declared.pending.Pending.{Pending}
 
@@ -32,14 +32,14 @@ pub record IsOutput (unused : List Reference) (done others : List AssembledLine)
 -- a line comes to the place that was held for it
 abbrev pub FillsBytes : List Reference → Location → Outcome → Output → Output → Type 0
 FillsBytes unused at found old new =
-    (done others : List AssembledLine) (held : AssembledLine) → AllStand (held ∷ done) others
+    (done others : List AssembledLine) (held : AssembledLine) → AreAllResolved (held ∷ done) others
     → FillsPlace held (record { at = at; outcome = found })
     → HoldsBytes unused done (held ∷ others) old → HoldsBytes unused
     (record { at = at; outcome = found } ∷ done) others new
 
 abbrev pub Fills : List Reference → Location → Outcome → Output → Output → Type 0
 Fills unused at found old new =
-    (done others : List AssembledLine) (held : AssembledLine) → AllStand (held ∷ done) others
+    (done others : List AssembledLine) (held : AssembledLine) → AreAllResolved (held ∷ done) others
     → FillsPlace held (record { at = at; outcome = found })
     → IsOutput unused done (held ∷ others) old → IsOutput unused (record { at = at; outcome = found } ∷ done) others new
 

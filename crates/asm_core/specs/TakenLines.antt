@@ -10,7 +10,7 @@ abbrev pub names_in : TakenLine → List (List ℕ)
 names_in known = label_in known.label ++ known.refs.items
 
 -- what is returned of a line that was taken after others
-pub record Tells (before : List Line) (text : List ℕ) (line : Line) (known : TakenLine) : Type 0 where
+pub record DescribesLine (before : List Line) (text : List ℕ) (line : Line) (known : TakenLine) : Type 0 where
   pub at : known.at ≡ place before line
   pub origin : known.origin ≡ line.origin
   pub names : map (λ entry. entry.0) line.names ≡ names_in known

@@ -10,7 +10,7 @@ ghost use Rattle.asm_defs.specs.Memory.{AssembledLine};
 ghost use Rattle.asm_defs.specs.Modules.{unused, module_by, module_after, definition_in};
 ghost use Rattle.asm_checks.specs.Outcomes.{model_of_spot};
 ghost use Rattle.asm_core.specs.declared.pending.Pending.{Pending};
-ghost use Rattle.module_image.specs.Standing.{AllStand};
+ghost use Rattle.module_image.specs.ResolvedLines.{AreAllResolved};
 ghost use Rattle.asm_core.specs.Building.{AreKnown, ImageOf, IsStopped, IsAfter, refusal_at, error_of};
 ghost use Rattle.asm_core.specs.Resolving.{IsOutput};
 ghost use Rattle.asm_core.specs.Finishing.{GivesModule, Knows, SameEnd, ResolvesAll, StopsAfter};
@@ -63,7 +63,7 @@ impl AsmLines {
     /// Resolves the lines that wait in their order, up to the first that is refused.
     fn resolve_all(&self, output: &mut Output) -> Result<(), AsmError>
         ensures { (unused : List Reference) (order : List Line) (founds : List AssembledLine) →
-            AreKnown self.now.symbols [] order founds self.now.waiting.items → AllStand [] founds →
+            AreKnown self.now.symbols [] order founds self.now.waiting.items → AreAllResolved [] founds →
             ResolvesAll unused order founds self.now.symbols result output.old output.new }
     {
         for pending in self.waiting.as_slice() {

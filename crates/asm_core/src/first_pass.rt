@@ -64,7 +64,7 @@ impl FirstPass<'_> {
         };
         match scope.outcome(&parsed.statement) {
             Ok(outcome) => {
-                if outcome.stands() {
+                if outcome.is_resolved() {
                     let bytes = self.bytes_of(&outcome)?;
                     return Ok(Assembled {
                         waiting: None,

@@ -7,7 +7,7 @@ ghost use Rattle.asm_checks.specs.Defined.{model_of_statement};
 ghost use Rattle.asm_checks.specs.Checks.{model_of_earlier_lines, KnowsPlaces, ListsNames};
 ghost use Rattle.asm_core.specs.Keeping.{known_in, names_with, KnowsLabel, Keeps, IsUnchanged, StartsAs, SameLists};
 ghost use Rattle.asm_core.specs.Keeping.{SameNames};
-ghost use Rattle.asm_core.specs.Keeping.{SameWork, StandsStill};
+ghost use Rattle.asm_core.specs.Keeping.{SameWork, KeepsRest};
 
 use crate::define::define_line;
 use crate::lines::AsmLines;
@@ -45,7 +45,7 @@ impl AsmLines {
         ensures known { IfErr result (KnowsLabel self.old.symbols checked.now.parsed.label) }
         ensures unchanged { OnErr result (IsUnchanged self.old self.new) }
         ensures work { SameWork self.old self.new }
-        ensures still { StandsStill self.old self.new }
+        ensures still { KeepsRest self.old self.new }
     {
         let others = self.waiting.len();
         let defs = self.defs.len();
@@ -68,7 +68,7 @@ impl AsmLines {
         ensures names { OnErr result (self.new.symbols ≡ self.old.symbols) }
         ensures starts { OnErr result (StartsAs self.old self.new) }
         ensures work { SameWork self.old self.new }
-        ensures still { StandsStill self.old self.new }
+        ensures still { KeepsRest self.old self.new }
     {
         self.wait(waiting)?;
         self.list_names(checked)?;
@@ -81,7 +81,7 @@ impl AsmLines {
         ensures unchanged { OnErr result (self.new.waiting.items ≡ self.old.waiting.items) }
         ensures names { SameNames self.old self.new }
         ensures work { SameWork self.old self.new }
-        ensures still { StandsStill self.old self.new }
+        ensures still { KeepsRest self.old self.new }
     {
         match waiting {
             Some(line) => {
@@ -102,7 +102,7 @@ impl AsmLines {
         ensures unchanged { OnErr result (self.new.symbols ≡ self.old.symbols) }
         ensures lists { SameLists self.old self.new }
         ensures work { SameWork self.old self.new }
-        ensures still { StandsStill self.old self.new }
+        ensures still { KeepsRest self.old self.new }
     {
         let refs = match checked.parsed.statement {
             Statement::Ref(_) => checked.parsed.listed.as_slice(),
@@ -128,7 +128,7 @@ impl AsmLines {
         ensures waiting { self.new.waiting ≡ self.old.waiting }
         ensures symbols { self.new.symbols ≡ self.old.symbols }
         ensures work { SameWork self.old self.new }
-        ensures still { StandsStill self.old self.new }
+        ensures still { KeepsRest self.old self.new }
     {
         match checked.parsed.statement {
             Statement::Def(_) => self

@@ -10,7 +10,7 @@ ghost use Rattle.asm_checks.specs.Defined.{model_of_statement};
 ghost use Rattle.asm_checks.specs.Moves.{model_of_move, MovesWithin};
 ghost use Rattle.asm_checks.specs.Checks.{IsParsed, ListsNames};
 ghost use Rattle.asm_core.specs.Assembling.{HasRoom};
-ghost use Rattle.asm_core.specs.Keeping.{KnowsLabel, IsUnchanged, SameWork, StandsStill};
+ghost use Rattle.asm_core.specs.Keeping.{KnowsLabel, IsUnchanged, SameWork, KeepsRest};
 ghost use Rattle.asm_core.specs.Adding.{Adds, Counts, IsAsBefore};
 ghost use Rattle.asm_core.specs.Building.{IsAfter, Takes, refusal_at};
 
@@ -67,7 +67,7 @@ impl AsmLines {
         requires { self.old.taken < 2 ^ 32 - 1 }
         ensures counted { OnOk result (Counts self.old self.new) }
         ensures unchanged { OnErr result (IsAsBefore self.old self.new) }
-        ensures still { OnErr result (StandsStill self.old self.new) }
+        ensures still { OnErr result (KeepsRest self.old self.new) }
     {
         self.prepare()?;
         self.taken += 1;
@@ -88,7 +88,7 @@ impl AsmLines {
             (IsFalse (spec.any_known self.old.symbols (spec.label_in checked.now.parsed.label))) }
         ensures known { IfErr result (KnowsLabel self.old.symbols checked.now.parsed.label) }
         ensures unchanged { OnErr result (IsAsBefore self.old self.new) }
-        ensures still { StandsStill self.old self.new }
+        ensures still { KeepsRest self.old self.new }
     {
         if self.refused.is_some() {
             return self.keep(None, checked);

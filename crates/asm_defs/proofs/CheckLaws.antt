@@ -28,9 +28,9 @@ bound (Ok value) make made e = (value, refl, e)
 bound (Err error) make made e = cc e
 
 -- nothing speaks against what is let through
-let_through : {A : Type 0} (b : Bool) (cause : AsmCause) (value found : A) → unless b cause value ≡ Ok found → (b ≡ false) × (value ≡ found)
-let_through true cause value found e = cc e
-let_through false cause value found e = (refl, cc e)
+accepted : {A : Type 0} (b : Bool) (cause : AsmCause) (value found : A) → unless b cause value ≡ Ok found → (b ≡ false) × (value ≡ found)
+accepted true cause value found e = cc e
+accepted false cause value found e = (refl, cc e)
 
 abbrev answers : {A : Type 0} → Result A ExprError → Result A ExprError → Type 0
 answers a b = a ≡ b
@@ -93,13 +93,13 @@ module _ (before : EarlierLines) where
   titled_by label _ fine = tt
 
   -- what the first checks let through is what the line says
-  said_is : (text : List ℕ) (found : ParsedLine) → parsed before text ≡ Ok found → parse_line text ≡ Ok found.statement
+  statement_is : (text : List ℕ) (found : ParsedLine) → parsed before text ≡ Ok found → parse_line text ≡ Ok found.statement
   unfolding parsed
-  said_is text found e =
+  statement_is text found e =
       let a = bound (as_text (fields text)) _ found e in
       let b = bound (unless (any_known before.names (label_in a.0.label)) DuplicateLabel a.0.label) _ found a.2 in
       let c = bound (statement_in text a.0) _ found b.2 in
-      let d = let_through (is_taken before.names b.0 (refs_in c.0)) DuplicateLabel (record { label = b.0; statement = c.0 }) found c.2 in
+      let d = accepted (is_taken before.names b.0 (refs_in c.0)) DuplicateLabel (record { label = b.0; statement = c.0 }) found c.2 in
       let same : c.0 ≡ found.statement = ap (λ (line : ParsedLine). line.statement) d.1 in
       ap (λ answer. answer >>= statement_in text) a.1 ∙ (c.1 ∙ ap Ok same)
 
@@ -128,25 +128,25 @@ module _ (before : EarlierLines) where
   moved_is line found e =
       let a = bound (as_expr (move before.names before.location before.reached line.statement)) _ found e in
       let b = bound (unless (is_too_far before line.statement a.0) Overflow a.0) _ found a.2 in
-      let c = let_through (is_too_far before line.statement a.0) Overflow a.0 b.0 b.1 in
-      let d = let_through (is_bad before line.label line.statement) BadDirective (record { label = line.label; statement = line.statement; move = b.0 }) found b.2 in
-      let said_same : line.statement ≡ found.statement = ap (λ (line : Checked). line.statement) d.1 in
+      let c = accepted (is_too_far before line.statement a.0) Overflow a.0 b.0 b.1 in
+      let d = accepted (is_bad before line.label line.statement) BadDirective (record { label = line.label; statement = line.statement; move = b.0 }) found b.2 in
+      let same_statement : line.statement ≡ found.statement = ap (λ (line : Checked). line.statement) d.1 in
       let move_same : a.0 ≡ found.move = c.1 ∙ ap (λ (line : Checked). line.move) d.1 in
       let fits = move_fits before.names before.location before.reached line.statement a.0 (expr_bound _ _ a.1) in
       let stays = not_false (is_in_part (location_after before.location a.0)) (lists_too_many before line.statement) c.0 in
       record {
-        statement = said_same;
-        fits = subst (λ statement. Fits (declared_size statement) found.move) said_same (subst (Fits (declared_size line.statement)) move_same fits);
-        titled = subst IsTitled said_same (named_is line d.0);
-        few = subst (λ statement. lists_too_many before statement ≡ false) said_same
+        statement = same_statement;
+        fits = subst (λ statement. Fits (declared_size statement) found.move) same_statement (subst (Fits (declared_size line.statement)) move_same fits);
+        titled = subst IsTitled same_statement (named_is line d.0);
+        few = subst (λ statement. lists_too_many before statement ≡ false) same_statement
             (second_false (is_in_part (location_after before.location a.0)) (lists_too_many before line.statement) c.0);
         within = subst (λ move. is_in_part (location_after before.location move) ≡ true) move_same stays;
       }
 
-  pub checked_said : (text : List ℕ) (found : Checked) → checked before text ≡ Ok found → parse_line text ≡ Ok found.statement
-  checked_said text found e =
+  pub checked_parses : (text : List ℕ) (found : Checked) → checked before text ≡ Ok found → parse_line text ≡ Ok found.statement
+  checked_parses text found e =
       let a = bound (parsed before text) _ found e in
-      said_is text a.0 a.1 ∙ ap Ok (moved_is a.0 found a.2).statement
+      statement_is text a.0 a.1 ∙ ap Ok (moved_is a.0 found a.2).statement
 
   room_by : (location : Location) (statement : Statement) (move : LocationChange) → is_in_part location ≡ true → Fits (declared_size statement) move
       → is_in_part (location_after location move) ≡ true → location.number + move.gap + declared_size statement ≤ 65536

@@ -30,11 +30,11 @@ is_own (Relocatable number) = true
 is_own (External name) = false
 
 -- What a line comes to that stands as it is: it uses no name that others define, and it is not the entry.
-abbrev pub stands : Outcome → Bool
-stands Nothing = true
-stands (Words words) = list_all is_own words
-stands (Bytes bytes) = true
-stands (Entry entry) = false
+abbrev pub is_resolved : Outcome → Bool
+is_resolved Nothing = true
+is_resolved (Words words) = list_all is_own words
+is_resolved (Bytes bytes) = true
+is_resolved (Entry entry) = false
 
 -- how many bytes a line says that it places
 abbrev pub declared_size : Statement → ℕ

@@ -2,7 +2,7 @@
 use Rattle.std.specs.Prelude.{ℕ, ◌+◌, ◌%◌, Bool, nat_le, max, List, [], ◌∷◌}
 use Rattle.expression_defs.specs.Expression.{Value, Absolute, Relocatable, to_word}
 use Rattle.expression_defs.specs.Layout as layout
-use Rattle.expression_defs.specs.Layout.{Laid}
+use Rattle.expression_defs.specs.Layout.{LayoutLine}
 use Rattle.asm_defs.specs.declared.location.Part.{Part}
 use Rattle.asm_defs.specs.declared.location.Part.TheVariants as part
 use Rattle.asm_defs.specs.declared.location.Location.{Location}
@@ -10,7 +10,7 @@ use Rattle.asm_defs.specs.Statements.{Statement}
 
 -- a line of a module
 abbrev pub Line : Type 0
-Line = Laid Location Statement
+Line = LayoutLine Location Statement
 
 -- Editor/Assembler manual, "Relocatability": a source starts at relocatable 0.
 abbrev pub start : Location

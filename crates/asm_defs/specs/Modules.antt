@@ -4,7 +4,7 @@ use Rattle.source_defs.specs.Refusals.{Refusal, ◌>>=◌}
 use Rattle.expression_defs.specs.Expression.{Value, Absolute, Relocatable}
 use Rattle.expression_defs.specs.Symbols.{Names, look_up}
 use Rattle.source_defs.specs.Lines.{numbered, line_texts}
-use Rattle.expression_defs.specs.Layout.{laid, assembled_lines}
+use Rattle.expression_defs.specs.Layout.{line_layout, assembled_lines}
 use Rattle.object_defs.specs.declared.spot.Spot.{Spot}
 use Rattle.object_defs.specs.declared.spot.Spot.TheVariants as spot
 use Rattle.object_defs.specs.Digits.{padded}
@@ -87,7 +87,7 @@ module_after lines = assembled_lines (assembled_line (names lines)) lines >>= λ
 -- the module of numbered lines, or the first that is refused: by the first checks, else by the second
 abbrev pub module_of : List (ℕ × List ℕ) → Result Module (Refusal AsmCause)
 module_of lines = do
-  found ← laid check lines
+  found ← line_layout check lines
   module_after found
 
 -- the module of some lines, which count from 1

@@ -31,12 +31,12 @@ refused_text at (cause.Form (form.Expr expr.Memory)) answer is = absurd is
 refused_text at _ answer is = none_text at _ answer is
 
 -- nothing is shown of a line that says nothing
-pub nothing_said : (known : Option Names) (at : Location) (origin : Option Location) (cause : AsmCause) (answer : Result Statement AsmCause) → Causes cause answer
+pub nothing_parsed : (known : Option Names) (at : Location) (origin : Option Location) (cause : AsmCause) (answer : Result Statement AsmCause) → Causes cause answer
     → record { at = at; outcome = Nothing } ≡ shown_by known at origin answer
-nothing_said known at origin (cause.Expr expr.Memory) answer is = absurd is
-nothing_said known at origin (cause.Form form.Memory) answer is = absurd is
-nothing_said known at origin (cause.Form (form.Expr expr.Memory)) answer is = absurd is
-nothing_said known at origin _ answer is = ap (shown_by known at origin) (sym is)
+nothing_parsed known at origin (cause.Expr expr.Memory) answer is = absurd is
+nothing_parsed known at origin (cause.Form form.Memory) answer is = absurd is
+nothing_parsed known at origin (cause.Form (form.Expr expr.Memory)) answer is = absurd is
+nothing_parsed known at origin _ answer is = ap (shown_by known at origin) (sym is)
 
 pub nothing_text : [] ≡ outcome_text Nothing
 unfolding outcome_text

@@ -2,7 +2,7 @@
 use Rattle.std.specs.Prelude.{◌≡◌, ◌⊎◌, ℕ, List, map, Result, Ok, Err}
 use Rattle.asm_defs.specs.Locations.{Line}
 use Rattle.shelf_defs.specs.Copied.{Copied, most_bytes}
-use Rattle.shelf_defs.specs.Assembly.{laid_copied}
+use Rattle.shelf_defs.specs.Assembly.{layout_copied}
 use Rattle.asm_list_defs.specs.Listed.{listing_of}
 use Rattle.asm_list_defs.specs.Rows.{listing_rows}
 use Rattle.bench_shelf.specs.States.{ShelfState}
@@ -21,7 +21,7 @@ rows_of listing = map (λ row. row.items) listing.rows.items
 pub record Lists (asked : ℕ) (listing : AsmListing) (found : Copied) : Type 0 where
   pub rows : rows_of listing ≡ listing_rows (listing_of found)
   pub refused : RefusedAs listing.refused (listing_of found).refusal
-  pub copies : (lines : List Line) → laid_copied found ≡ Ok lines → asked ≡ found.copies
+  pub copies : (lines : List Line) → layout_copied found ≡ Ok lines → asked ≡ found.copies
 
 -- What the listing says of the shelf. Memory may run out too once a file was found too large.
 abbrev pub ListingCauses : Result AsmListing CopyError → ShelfState → ShelfState → Type 0

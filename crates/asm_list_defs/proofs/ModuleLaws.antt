@@ -20,9 +20,9 @@ use Rattle.asm_defs.specs.Modules.{assembled_line, with_room, unused, module_aft
 use Rattle.asm_defs.proofs.CheckLaws.{bound}
 use Rattle.shelf_defs.specs.Files.{Contents}
 use Rattle.shelf_defs.specs.Copied.{PlacedLine, Copied, copied_by}
-use Rattle.shelf_defs.specs.Assembly.{in_place, laid_copied, module_of_copied}
+use Rattle.shelf_defs.specs.Assembly.{in_place, layout_copied, module_of_copied}
 use Rattle.asm_list_defs.specs.Listed.{Shown, shown_at, shown, found_or, paired, listed_names, listing_after, listing_by, listing_of}
-use Rattle.asm_list_defs.specs.Laws.{shown_assembled, shown_in_order, StandAtTheirPlaces, IsListed, ListingsShowModules}
+use Rattle.asm_list_defs.specs.Laws.{shown_assembled, shown_in_order, AreAtTheirPlaces, IsListed, ListingsShowModules}
 
 -- what has room stays as it is, and nothing of it was placed before
 pub record HasRoom (earlier : List AssembledLine) (line found : AssembledLine) : Type 0 where
@@ -134,19 +134,19 @@ module _ (references : List Reference) (line : AssembledLine) (before : List Ass
   own : covers line p n ≡ true
   own = covers_own line k placed within
 
-  stands : (later : List AssembledLine) → AllRoom (later ++ line ∷ before)
+  are_at_place : (later : List AssembledLine) → AllRoom (later ++ line ∷ before)
       → content_at references (later ++ line ∷ before) p n ≡ slice_get (contents references before line) k
-  stands [] room =
+  are_at_place [] room =
       let back : line.at.number + k - line.at.number ≡ k = omega arith in
       rw (own, back) refl
-  stands (other ∷ later) room =
+  are_at_place (other ∷ later) room =
       let apart = apart_by (later ++ line ∷ before) other p n (covers other p n) room.0 (still_placed later before line p n own) refl in
-      rw apart (stands later room.1)
+      rw apart (are_at_place later room.1)
 
-all_stand : (references : List Reference) (found : List AssembledLine) → AllRoom found → StandAtTheirPlaces references found
+all_stand : (references : List Reference) (found : List AssembledLine) → AllRoom found → AreAtTheirPlaces references found
 all_stand references found room later before line k is placed within =
     ap (λ (all : List AssembledLine). content_at references all line.at.part (line.at.number + k)) is
-    ∙ stands references line before k placed within later (subst AllRoom is room)
+    ∙ are_at_place references line before k placed within later (subst AllRoom is room)
 
 -- an accepted source
 in_place_ok : {A : Type 0} (lines : List PlacedLine) (answer : Result A (Refusal AsmCause)) (found : A) → in_place lines answer ≡ Ok found → answer ≡ Ok found
@@ -156,14 +156,14 @@ in_place_ok lines (Err refusal) found e = cc e
 of_copied : (copied : Copied) (m : Module) (contents : Contents) (source : List ℕ) → copied ≡ copied_by contents source → module_of_copied copied ≡ Ok m
     → IsListed m contents source (listing_of copied)
 of_copied copied m contents source same e =
-    let a = bound (laid_copied copied) _ m e in
+    let a = bound (layout_copied copied) _ m e in
     let b = bound (assembled_lines (assembled_line (names a.0)) a.0) _ m (in_place_ok copied.lines (module_after a.0) m a.2) in
     let is = all_assembled (names a.0) a.0 b.0 b.1 in
     let found : listing_of copied ≡ listing_after copied.lines a.0 (Ok b.0) =
     ap (listing_by copied.lines) a.1 ∙ ap (listing_after copied.lines a.0) b.1 in
     record {
       lines = a.0;
-      laid = ap laid_copied (sym same) ∙ a.1;
+      line_layout = ap layout_copied (sym same) ∙ a.1;
       assembled_lines = b.0;
       come = b.1;
       is = cc b.2;
@@ -171,7 +171,7 @@ of_copied copied m contents source same e =
           ∙ (ap (paired copied.lines) is.shows ∙ ap (λ (copied : Copied). paired copied.lines (shown_in_order a.0 b.0)) same);
       names = ap (λ listing. listing.names) found ∙ ap (λ (copied : Copied). listed_names copied.lines a.0) same;
       whole = ap (λ listing. listing.refusal) found;
-      stand = all_stand (map unused (refs a.0)) b.0 is.room;
+      are_at_places = all_stand (map unused (refs a.0)) b.0 is.room;
     }
 
 pub listings_show_modules : ListingsShowModules

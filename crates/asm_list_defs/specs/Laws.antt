@@ -11,7 +11,7 @@ use Rattle.asm_defs.specs.Modules as modules
 use Rattle.asm_defs.specs.Modules.{unused}
 use Rattle.shelf_defs.specs.Files.{Contents}
 use Rattle.shelf_defs.specs.Copied.{copied_by}
-use Rattle.shelf_defs.specs.Assembly.{module_by, laid_copied}
+use Rattle.shelf_defs.specs.Assembly.{module_by, layout_copied}
 use Rattle.asm_list_defs.specs.Listed.{Shown, Listing, placed_at, paired, listed_names, listing}
 
 -- What is shown of a line that came to something. Profile: a line that sets a location is shown at that.
@@ -25,8 +25,8 @@ shown_in_order (line ∷ before) [] = []
 shown_in_order (line ∷ before) (found ∷ others) = shown_in_order before others ++ shown_assembled line found ∷ []
 
 -- The bytes of each line stand in the module's parts at the line's places: no line after it covers one of them.
-abbrev pub StandAtTheirPlaces : List Reference → List AssembledLine → Type 0
-StandAtTheirPlaces references found =
+abbrev pub AreAtTheirPlaces : List Reference → List AssembledLine → Type 0
+AreAtTheirPlaces references found =
     (later before : List AssembledLine) (line : AssembledLine) (k : ℕ) → found ≡ later ++ line ∷ before
     → IsTrue (is_placed_in line.at.part) → k < bytes_in line.outcome
     → content_at references found line.at.part (line.at.number + k) ≡ slice_get (contents references before line) k
@@ -34,14 +34,14 @@ StandAtTheirPlaces references found =
 -- A source that is accepted: its module is made of its lines and of what they come to, and so is its listing.
 pub record IsListed (module_ : Module) (contents : Contents) (source : List ℕ) (found : Listing) : Type 0 where
   pub lines : List Line
-  pub laid : laid_copied (copied_by contents source) ≡ Ok lines
+  pub line_layout : layout_copied (copied_by contents source) ≡ Ok lines
   pub assembled_lines : List AssembledLine
   pub come : layout.assembled_lines (modules.assembled_line (first.names lines)) lines ≡ Ok assembled_lines
   pub is : module_ ≡ modules.module_by lines assembled_lines
   pub shows : found.lines ≡ paired (copied_by contents source).lines (shown_in_order lines assembled_lines)
   pub names : found.names ≡ listed_names (copied_by contents source).lines lines
   pub whole : found.refusal ≡ None
-  pub stand : StandAtTheirPlaces (map unused (refs lines)) assembled_lines
+  pub are_at_places : AreAtTheirPlaces (map unused (refs lines)) assembled_lines
 
 -- the law, which is proved: the listing of an accepted source shows its module
 abbrev pub ListingsShowModules : Type 0

@@ -10,7 +10,7 @@ use Rattle.source_defs.specs.Refusals.{Refusal}
 use Rattle.expression_defs.specs.Expression.{Value}
 use Rattle.expression_defs.specs.Symbols.{Names, look_up}
 use Rattle.source_defs.specs.Lines.{numbered}
-use Rattle.expression_defs.specs.Layout.{laid, assembled_lines, set_or}
+use Rattle.expression_defs.specs.Layout.{line_layout, assembled_lines, set_or}
 use Rattle.asm_defs.specs.declared.causes.AsmCause.{AsmCause}
 use Rattle.asm_defs.specs.declared.location.Location.{Location}
 use Rattle.asm_defs.specs.Locations.{Line, place}
@@ -21,7 +21,7 @@ use Rattle.asm_defs.specs.Memory.{AssembledLine, is_placed_in}
 use Rattle.asm_defs.specs.Modules.{assembled_line}
 use Rattle.shelf_defs.specs.Files.{Contents}
 use Rattle.shelf_defs.specs.Copied.{Place, PlacedLine, CopyRefusal, At, Asm, Copied, copied_by}
-use Rattle.shelf_defs.specs.Assembly.{texts, places, place_of, laid_copied}
+use Rattle.shelf_defs.specs.Assembly.{texts, places, place_of, layout_copied}
 
 -- what is shown of a line: where it is placed, and what is placed there
 pub record Shown : Type 0 where
@@ -80,16 +80,16 @@ abbrev pub listed_names : List PlacedLine → List Line → List ListedName
 listed_names all lines = flat_map (names_of_line (names lines)) (paired all (defined lines))
 
 -- how many lines the checks let through
-abbrev pub number_let_through : {A C : Type 0} → Result (List A) (Refusal C) → ℕ
-number_let_through (Ok lines) = length lines
-number_let_through (Err refusal) = refusal.line - 1
+abbrev pub accepted_count : {A C : Type 0} → Result (List A) (Refusal C) → ℕ
+accepted_count (Ok lines) = length lines
+accepted_count (Err refusal) = refusal.line - 1
 
 abbrev pub first_answer : List PlacedLine → Result (List Line) (Refusal AsmCause)
-first_answer all = laid check (numbered 1 (texts all))
+first_answer all = line_layout check (numbered 1 (texts all))
 
 -- the copied lines that the first checks let through
-abbrev pub lines_let_through : List PlacedLine → List PlacedLine
-lines_let_through all = take (number_let_through (first_answer all)) all
+abbrev pub accepted_lines : List PlacedLine → List PlacedLine
+accepted_lines all = take (accepted_count (first_answer all)) all
 
 abbrev pub lines_in : {A C : Type 0} → Result (List A) C → List A
 lines_in (Ok lines) = lines
@@ -113,11 +113,11 @@ listing_after all lines (Err refusal) =
 
 abbrev pub listing_by : List PlacedLine → Result (List Line) CopyRefusal → Listing
 listing_by all (Ok lines) = listing_after all lines (assembled_lines (assembled_line (names lines)) lines)
-listing_by all (Err refusal) = listing_before (lines_let_through all) refusal
+listing_by all (Err refusal) = listing_before (accepted_lines all) refusal
 
 -- the listing of copied lines
 abbrev pub listing_of : Copied → Listing
-listing_of found = listing_by found.lines (laid_copied found)
+listing_of found = listing_by found.lines (layout_copied found)
 
 -- the listing of a source with the files that it copies
 abbrev pub listing : Contents → List ℕ → Listing

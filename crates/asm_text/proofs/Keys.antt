@@ -196,6 +196,6 @@ keys_compare xs ys p q =
     by Greater e m n gt = omega (arith, gt, m, n)
 
 -- two names are the same where their keys are
-pub keys_tell : (xs ys : List ℕ) → is_kept_name xs ≡ true → is_kept_name ys ≡ true → nat_eq (name_key xs) (name_key ys) ≡ pointwise nat_eq xs ys
-keys_tell xs ys p q =
+pub keys_are_distinct : (xs ys : List ℕ) → is_kept_name xs ≡ true → is_kept_name ys ≡ true → nat_eq (name_key xs) (name_key ys) ≡ pointwise nat_eq xs ys
+keys_are_distinct xs ys p q =
     unsigned_ties (name_key xs) (name_key ys) ∙ (ap is_eq (sym (keys_compare xs ys p q)) ∙ sym (texts_ties xs ys))

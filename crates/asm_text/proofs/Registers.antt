@@ -97,7 +97,7 @@ pub register_alone : (entries : List (List ℕ × Value)) (here : defined.Value)
 register_alone entries here text number name written lt =
     let some : 0 < length text = ltb-true 0 (length text) (name_parts (nat_lt 0 (length text)) (nat_le (length text) 6) (is_letter (get_or text 0 0))
     (all_letters_or_digits text) name).0 in
-    let stands : get (names_of entries) (map upper_case text) ≡ Some (defined.Absolute number) =
+    let found_value : get (names_of entries) (map upper_case text) ≡ Some (defined.Absolute number) =
     ap (get (names_of entries)) written ∙ (get_kept entries (register_name number) ∙ first_of _ _ _ (register_is number lt)) in
     sym (value_is (get (names_of entries)) here text some (token_to (Name (map upper_case text)) 0 (length text)) (sym (name_alone text name)) refl)
-    ∙ ap defined.known_value stands
+    ∙ ap defined.known_value found_value

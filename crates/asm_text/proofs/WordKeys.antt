@@ -46,22 +46,22 @@ longer : (k l : ℕ) → 0 < l → (k + 256 * l == 1) ≡ false
 longer k l lt = grind (arith, nat_tests)
 
 -- a text of any length is a word where its key is the word's
-keys_tell : (text word : List ℕ) → AreBytes text → list_all (λ letter. nat_lt letter 256) word ≡ true
+keys_are_distinct : (text word : List ℕ) → AreBytes text → list_all (λ letter. nat_lt letter 256) word ≡ true
     → is_word text word ≡ (key_of (map upper_case text) == key_of word)
-keys_tell [] [] p q = refl
-keys_tell [] (letter ∷ word) p q =
+keys_are_distinct [] [] p q = refl
+keys_are_distinct [] (letter ∷ word) p q =
     let apart : (0 == length (letter ∷ word)) ≡ false = grind (arith, nat_tests) in
     ap (λ same. same && same_letters [] (letter ∷ word)) apart ∙ sym (shorter letter (key_of word) (above word))
-keys_tell (byte ∷ text) [] p q =
+keys_are_distinct (byte ∷ text) [] p q =
     let apart : (length (byte ∷ text) == 0) ≡ false = grind (arith, nat_tests) in
     ap (λ same. same && same_letters (byte ∷ text) []) apart
     ∙ sym (longer (upper_case byte) (key_of (map upper_case text)) (above (map upper_case text)))
-keys_tell (byte ∷ text) (letter ∷ word) p q =
+keys_are_distinct (byte ∷ text) (letter ∷ word) p q =
     let here : nat_lt letter 256 ≡ true = first_so (nat_lt letter 256) (list_all (λ letter. nat_lt letter 256) word) q in
     let there : list_all (λ letter. nat_lt letter 256) word ≡ true = second_so (nat_lt letter 256) (list_all (λ letter. nat_lt letter 256) word) q in
     let low : letter < 256 = grind (arith, nat_tests) in
     word_after byte text letter word
-    ∙ (ap (λ same. (upper_case byte == letter) && same) (keys_tell text word (λ at. p (suc at)) there)
+    ∙ (ap (λ same. (upper_case byte == letter) && same) (keys_are_distinct text word (λ at. p (suc at)) there)
     ∙ digits_same (upper_case byte) letter (key_of (map upper_case text)) (key_of word) (upper_case_byte byte (omega (arith, p 0))) low)
 
 -- a text is a word where its key, if it has one, is the word's
@@ -75,7 +75,7 @@ word_by_key text word p short = by (nat_le (length text) 5) refl
     bytes = second_so (nat_le (length word) 5) (list_all (λ letter. nat_lt letter 256) word) short
 
     by : (b : Bool) → nat_le (length text) 5 ≡ b → is_word text word ≡ is_of_key (cond b (Some (key_of (map upper_case text))) None) word
-    by true e = keys_tell text word p bytes
+    by true e = keys_are_distinct text word p bytes
     by false e =
         let apart : (length text == length word) ≡ false = grind (arith, nat_tests) in
         ap (λ same. same && same_letters text word) apart

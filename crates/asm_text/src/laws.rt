@@ -2,7 +2,7 @@
 
 ghost use Rattle.source_defs.specs.Least.{LeastPlacesAreLeast};
 ghost use Rattle.source_defs.specs.LineLaw.{LinesAreLines};
-ghost use Rattle.source_defs.specs.FieldLaw.{FieldsStandApart};
+ghost use Rattle.source_defs.specs.FieldLaw.{FieldsAreApart};
 
 /// A place that is defined as the least with a property is the least with it.
 pub fn least_places()
@@ -18,5 +18,5 @@ pub fn lines_of_a_text()
 /// blanks alone stand between it, the operation and the operand field, and none in them but in quotes. A comment has
 /// no fields.
 pub fn fields_of_a_line()
-    ensures { FieldsStandApart }
+    ensures { FieldsAreApart }
 {}

@@ -94,7 +94,7 @@ impl PartialEq for Name {
 
     ghost laws = { partial_equiv_from_equiv nat_list_eq_equiv };
 
-    #[tactic(auto, using(crate::proofs::Keys::keys_tell))]
+    #[tactic(auto, using(crate::proofs::Keys::keys_are_distinct))]
     #[inline(always)]
     fn eq(&self, other: &Name) -> bool {
         self.key() == other.key()

@@ -42,7 +42,7 @@ HasNoUsage {C} p =
 -- the run of a command
 module _ {C : Type 0} (p : InputCommands C) (no_usage : HasNoUsage p) (command : C) (input input' : SourceState) (o : Outputs) where
   abbrev pub run_of : Run C SourceState
-  run_of = record { said = Some command; before = input; after = input'; outputs = o }
+  run_of = record { parsed = Some command; before = input; after = input'; outputs = o }
 
   -- it ends as the writing of its report
   pub by_report : (report : spec.Report) (end : Status) → Reports p command input input' report → EndsWith o report end
@@ -114,7 +114,7 @@ module _ {C : Type 0} (p : InputCommands C) (no_usage : HasNoUsage p) (command :
 -- words that say no command
 pub by_usage : {C : Type 0} (p : InputCommands C) (input : SourceState) (o : Outputs) (end : Status)
     → EndsByLine p.usage status.Usage o.err o.err' end → o.out' ≡ o.out
-    → EndsBy (input_program p) (record { said = None; before = input; after = input; outputs = o }) end
+    → EndsBy (input_program p) (record { parsed = None; before = input; after = input; outputs = o }) end
 by_usage p input o end line out = record { unread = refl; out = out; line = line }
 
 -- the same, by the fault that is reported of them

@@ -8,7 +8,7 @@ use Rattle.report_defs.specs.declared.command.Command.{Command}
 use Rattle.report_defs.specs.declared.status.Status.{Status}
 use Rattle.report_defs.specs.declared.status.Status.TheVariants as status
 use Rattle.report_defs.specs.Commands.{command_of, reads}
-use Rattle.reports.specs.Run.{Run, EndsSaid, EndsBy}
+use Rattle.reports.specs.Run.{Run, EndsParsed, EndsBy}
 use Rattle.reports.specs.RunLaws.{HasNoFault}
 use Rattle.reports.proofs.Runs.{written, usage_answer, no_miss}
 use Rattle.bench_commands.specs.InputRun.{Shows}
@@ -20,7 +20,7 @@ use Rattle.bench_commands.proofs.Laws.{is_program}
 abbrev run_from : (words : List (List ℕ)) (input input' : Supply) (out out' err err' : ℕ) → Run Command SourceState
 run_from words input input' out out' err err' =
     record {
-      said = command_of words;
+      parsed = command_of words;
       before = steady_source input;
       after = steady_source input';
       outputs = record { out = steady_sink out; out' = steady_sink out'; err = steady_sink err; err' = steady_sink err' };
@@ -62,7 +62,7 @@ shows command input = by (reads command)
     by false = refl
 
 answers_by : (run : Run Command SourceState) (input : Supply) (s : Status) (found : Option Command)
-    → run.before ≡ steady_source input → HasNoFault bench_program run → EndsSaid bench_program found run s
+    → run.before ≡ steady_source input → HasNoFault bench_program run → EndsParsed bench_program found run s
     → (s ≡ status.Memory) ⊎ (s ≢ status.Memory) → AnswersSteadily found input.left s
 answers_by run input s None is none ends memory = usage_answer bench_program run s none ends
 answers_by run input s (Some command) is none ends (inl memory) = inr memory
@@ -79,12 +79,12 @@ answers_steadily words input input' s e =
 
 -- no fault is reported where none rose
 none_read : (run : Run Command SourceState) (found : Option Command) → HasNoFault bench_program run
-    → EndsSaid bench_program found run status.ReadFault → ⊥
+    → EndsParsed bench_program found run status.ReadFault → ⊥
 none_read run None none ends = let is = usage_answer bench_program run status.ReadFault none ends in absurd (cc)
 none_read run (Some command) none (nothing, failed) = none.reading failed.1
 
 none_write : (run : Run Command SourceState) (found : Option Command) → HasNoFault bench_program run
-    → EndsSaid bench_program found run status.WriteFault → ⊥
+    → EndsParsed bench_program found run status.WriteFault → ⊥
 none_write run None none ends = let is = usage_answer bench_program run status.WriteFault none ends in absurd (cc)
 none_write run (Some command) none (inl (report, on, missed)) = no_miss run.outputs report none.out none.err missed
 none_write run (Some command) none (inr (front, on, missed)) = no_miss run.outputs front none.out none.err missed

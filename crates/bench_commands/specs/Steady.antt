@@ -38,7 +38,7 @@ pub record EndsSteadily (words : List (List ℕ)) (input input' : Supply) (statu
   pub out : ℕ
   pub err : ℕ
   pub ends : EndsBy bench_program (record {
-    said = command_of words;
+    parsed = command_of words;
     before = steady_source input;
     after = steady_source input';
     outputs = record { out = steady_sink 0; out' = steady_sink out; err = steady_sink 0; err' = steady_sink err };

@@ -34,7 +34,7 @@ pub fn bench<S: Source, O: Sink, E: Sink>(
 ) -> Status
     ensures laws { LawsOfRuns }
     ensures ends { EndsBy bench_program (record {
-      said = command_of words.now;
+      parsed = command_of words.now;
       before = S.state input.old;
       after = S.state input.new;
       outputs = record {
@@ -61,7 +61,7 @@ pub fn run_command<S: Source, O: Sink, E: Sink>(
 ) -> Status
     requires { KeepsLimit command }
     ensures { EndsBy bench_program (record {
-      said = Some command;
+      parsed = Some command;
       before = S.state input.old;
       after = S.state input.new;
       outputs = record {

@@ -5,13 +5,13 @@ use Rattle.std.specs.Option.{ok_or}
 use Rattle.std.proofs.lemmas.Bool.Decides.{nat_tests}
 use Rattle.source_defs.specs.Refusals.{◌>>=◌, unless}
 use Rattle.source_defs.specs.Lines.{numbered, line_texts}
-use Rattle.expression_defs.specs.Layout.{laid}
+use Rattle.expression_defs.specs.Layout.{line_layout}
 use Rattle.asm_defs.specs.Locations.{Line}
 use Rattle.asm_defs.specs.FirstChecks.{check}
 use Rattle.shelf_defs.specs.Files.{Contents}
 use Rattle.shelf_defs.specs.Copied as spec
 use Rattle.shelf_defs.specs.Copied.{PlacedLine, CopyRefusal, Refused, Copied, lines_in, copy_line, refused, most_bytes, most_copies, prepend}
-use Rattle.shelf_defs.specs.Assembly.{texts, in_place, unless_refused, laid_copied}
+use Rattle.shelf_defs.specs.Assembly.{texts, in_place, unless_refused, layout_copied}
 use Rattle.bench_shelf.specs.declared.error.FileError.{FileError}
 use Rattle.bench_shelf.specs.declared.error.FileError.TheVariants as unread
 use Rattle.bench_shelf.specs.declared.place.Place.{Place}
@@ -32,9 +32,9 @@ pub leads_refusal : (old last : Copying) (copies : ℕ) (refusal : CopyRefusal) 
     → ((done : List PlacedLine) → Holds done old → Holds done last) → CopiesTo old (refused copies refusal) (Some error) last
 leads_refusal old last copies refusal error refuses same done holds =
     let none : done ++ [] ≡ done = append-nil done in
-    let whole : laid_copied (prepend done (refused copies refusal)) ≡ Err refusal =
-    ap (λ all. in_place all (laid check (numbered 1 (texts all))) >>= λ lines. unless_refused (Refused refusal) lines) none
-    ∙ ap (λ answer. in_place done answer >>= λ lines. unless_refused (Refused refusal) lines) holds.taken.laid in (
+    let whole : layout_copied (prepend done (refused copies refusal)) ≡ Err refusal =
+    ap (λ all. in_place all (line_layout check (numbered 1 (texts all))) >>= λ lines. unless_refused (Refused refusal) lines) none
+    ∙ ap (λ answer. in_place done answer >>= λ lines. unless_refused (Refused refusal) lines) holds.taken.line_layout in (
       subst (CopyRefuses error) (sym whole) refuses,
       reported_if _ error (record { taken = done; holds = same done holds; halts = inl (none, tt) }),
     )
@@ -157,10 +157,10 @@ module _ (old : Copying) (levels : ℕ) (place : Place) (name : List ℕ) (some 
     unheard _ = tt
 
     -- its file was not read
-    pub copies_unread : (last : Copying) (t : ShelfState) (error : FileError) (said : CopyError) → said ≡ unread_at place error → last.copies ≡ old.copies + 1
+    pub copies_unread : (last : Copying) (t : ShelfState) (error : FileError) (error_is : CopyError) → error_is ≡ unread_at place error → last.copies ≡ old.copies + 1
         → AsksOne most_bytes name (answer_by error) s t → IsOfName name error → ((done : List PlacedLine) → Holds done old → Holds done last)
-        → Copies old last line_by (Some said) s t
-    copies_unread last t error said is copies asks of same =
+        → Copies old last line_by (Some error_is) s t
+    copies_unread last t error error_is is copies asks of same =
         subst (λ error. Copies old last line_by (Some error) s t) (sym is) (record {
           questions = question (answer_by error) ∷ [];
           asking = asking_first last t (answer_by error) copies asks;

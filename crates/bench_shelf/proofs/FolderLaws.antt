@@ -6,52 +6,52 @@ use Rattle.bench_shelf.specs.declared.error.OpenError.TheVariants.{Failed, Missi
 use Rattle.bench_shelf.specs.Opening.{Refuses, KeepsOther, SameCounts, StartsAnew}
 use Rattle.bench_shelf.specs.FolderShelf.{Folder, hidden_state, OpensFrom}
 
-pub nothing_said : {A E : Type 0} (r : Result A E) → OnOk r ⊤
-nothing_said (Ok value) = tt
-nothing_said (Err error) = tt
+pub nothing_claimed : {A E : Type 0} (r : Result A E) → OnOk r ⊤
+nothing_claimed (Ok value) = tt
+nothing_claimed (Err error) = tt
 
 pub nothing_left : {A E : Type 0} (r : Result A E) → OnErr r ⊤
 nothing_left (Ok value) = tt
 nothing_left (Err error) = tt
 
 module _ {A : Type 0} (before after : Folder) where
-  pub tells_refused : (name : List ℕ) (r : Result A OpenError) → OpensFrom before r after
+  pub finds_refused : (name : List ℕ) (r : Result A OpenError) → OpensFrom before r after
       → IfErr r (λ error. Refuses error (hidden_state before) (hidden_state after) name)
-  tells_refused name (Ok value) opens = tt
-  tells_refused name (Err Failed) opens = opens.0
-  tells_refused name (Err Missing) opens = (opens.0, tt)
+  finds_refused name (Ok value) opens = tt
+  finds_refused name (Err Failed) opens = opens.0
+  finds_refused name (Err Missing) opens = (opens.0, tt)
 
-  pub tells_counts : (r : Result A OpenError) → OpensFrom before r after
+  pub finds_counts : (r : Result A OpenError) → OpensFrom before r after
       → SameCounts (hidden_state before).source (hidden_state after).source
-  tells_counts (Ok value) opens = rw opens (record { calls = refl; taken = refl; empty = refl })
-  tells_counts (Err Failed) opens = rw opens.1 (record { calls = refl; taken = refl; empty = refl })
-  tells_counts (Err Missing) opens = rw opens.1 (record { calls = refl; taken = refl; empty = refl })
+  finds_counts (Ok value) opens = rw opens (record { calls = refl; taken = refl; empty = refl })
+  finds_counts (Err Failed) opens = rw opens.1 (record { calls = refl; taken = refl; empty = refl })
+  finds_counts (Err Missing) opens = rw opens.1 (record { calls = refl; taken = refl; empty = refl })
 
-  pub tells_anew : (name : List ℕ) (r : Result A OpenError) → OpensFrom before r after → StartsAnew (hidden_state before) (hidden_state after) name
-  tells_anew name (Ok value) opens = rw opens (record { asked = refl; opens = refl; given = refl; largest = refl })
-  tells_anew name (Err Failed) opens = rw opens.1 (record { asked = refl; opens = refl; given = refl; largest = refl })
-  tells_anew name (Err Missing) opens = rw opens.1 (record { asked = refl; opens = refl; given = refl; largest = refl })
+  pub finds_anew : (name : List ℕ) (r : Result A OpenError) → OpensFrom before r after → StartsAnew (hidden_state before) (hidden_state after) name
+  finds_anew name (Ok value) opens = rw opens (record { asked = refl; opens = refl; given = refl; largest = refl })
+  finds_anew name (Err Failed) opens = rw opens.1 (record { asked = refl; opens = refl; given = refl; largest = refl })
+  finds_anew name (Err Missing) opens = rw opens.1 (record { asked = refl; opens = refl; given = refl; largest = refl })
 
-  pub tells_faults : (r : Result A OpenError) → OpensFrom before r after → before.faults ≤ after.faults
-  tells_faults (Ok value) opens = let same = ap (λ (f : Folder). f.faults) opens in omega (arith, same)
-  tells_faults (Err Failed) opens = let same = ap (λ (f : Folder). f.faults) opens.1 in omega (arith, same)
-  tells_faults (Err Missing) opens = let same = ap (λ (f : Folder). f.faults) opens.1 in omega (arith, same)
+  pub finds_faults : (r : Result A OpenError) → OpensFrom before r after → before.faults ≤ after.faults
+  finds_faults (Ok value) opens = let same = ap (λ (f : Folder). f.faults) opens in omega (arith, same)
+  finds_faults (Err Failed) opens = let same = ap (λ (f : Folder). f.faults) opens.1 in omega (arith, same)
+  finds_faults (Err Missing) opens = let same = ap (λ (f : Folder). f.faults) opens.1 in omega (arith, same)
 
-  pub tells_misses : (r : Result A OpenError) → OpensFrom before r after → before.misses ≤ after.misses
-  tells_misses (Ok value) opens = let same = ap (λ (f : Folder). f.misses) opens in omega (arith, same)
-  tells_misses (Err Failed) opens = let same = ap (λ (f : Folder). f.misses) opens.1 in omega (arith, same)
-  tells_misses (Err Missing) opens = let same = ap (λ (f : Folder). f.misses) opens.1 in omega (arith, same)
+  pub finds_misses : (r : Result A OpenError) → OpensFrom before r after → before.misses ≤ after.misses
+  finds_misses (Ok value) opens = let same = ap (λ (f : Folder). f.misses) opens in omega (arith, same)
+  finds_misses (Err Failed) opens = let same = ap (λ (f : Folder). f.misses) opens.1 in omega (arith, same)
+  finds_misses (Err Missing) opens = let same = ap (λ (f : Folder). f.misses) opens.1 in omega (arith, same)
 
-  pub tells_no_fault : (r : Result A OpenError) → OpensFrom before r after → OnOk r (after.faults ≡ before.faults)
-  tells_no_fault (Ok value) opens = ap (λ (f : Folder). f.faults) opens
-  tells_no_fault (Err error) opens = tt
+  pub finds_no_fault : (r : Result A OpenError) → OpensFrom before r after → OnOk r (after.faults ≡ before.faults)
+  finds_no_fault (Ok value) opens = ap (λ (f : Folder). f.faults) opens
+  finds_no_fault (Err error) opens = tt
 
-  pub tells_no_miss : (r : Result A OpenError) → OpensFrom before r after → OnOk r (after.misses ≡ before.misses)
-  tells_no_miss (Ok value) opens = ap (λ (f : Folder). f.misses) opens
-  tells_no_miss (Err error) opens = tt
+  pub finds_no_miss : (r : Result A OpenError) → OpensFrom before r after → OnOk r (after.misses ≡ before.misses)
+  finds_no_miss (Ok value) opens = ap (λ (f : Folder). f.misses) opens
+  finds_no_miss (Err error) opens = tt
 
-  pub tells_other : (r : Result A OpenError) → OpensFrom before r after
+  pub finds_other : (r : Result A OpenError) → OpensFrom before r after
       → IfErr r (λ error. KeepsOther error (hidden_state before) (hidden_state after))
-  tells_other (Ok value) opens = tt
-  tells_other (Err Failed) opens = ap (λ (f : Folder). f.misses) opens.1
-  tells_other (Err Missing) opens = ap (λ (f : Folder). f.faults) opens.1
+  finds_other (Ok value) opens = tt
+  finds_other (Err Failed) opens = ap (λ (f : Folder). f.misses) opens.1
+  finds_other (Err Missing) opens = ap (λ (f : Folder). f.faults) opens.1

@@ -6,19 +6,19 @@ use Rattle.std.proofs.lemmas.Option.{unwrap_or-slice_get}
 use Rattle.std.proofs.lemmas.List.{get_or_append_left, length-map, map-append}
 use Rattle.source_defs.specs.Refusals.{Refusal, ◌>>=◌}
 use Rattle.source_defs.specs.Lines.{numbered}
-use Rattle.expression_defs.specs.Layout.{laid}
+use Rattle.expression_defs.specs.Layout.{line_layout}
 use Rattle.asm_defs.specs.declared.causes.AsmCause.{AsmCause}
 use Rattle.asm_defs.specs.Locations.{Line}
 use Rattle.asm_defs.specs.FirstChecks.{check}
 use Rattle.shelf_defs.specs.Copied.{Place, PlacedLine, CopyRefusal, At, Asm, Ending, Open, Ended, Refused, Copied, nothing, prepend, then_by, followed}
-use Rattle.shelf_defs.specs.Assembly.{texts, places, place_of, in_place, unless_refused, laid_copied}
+use Rattle.shelf_defs.specs.Assembly.{texts, places, place_of, in_place, unless_refused, layout_copied}
 use Rattle.asm_core.specs.Building.{IsOpen}
 use Rattle.bench_shelf.specs.declared.copying.Copying.{Copying}
 use Rattle.bench_shelf.specs.declared.copy_error.CopyError.{CopyError}
 use Rattle.bench_shelf.specs.declared.copy_error.CopyError.TheVariants as error
 use Rattle.bench_shelf.specs.CopyAnswers.{CopyRefuses}
 use Rattle.bench_shelf.specs.Leading.{Holds, EndsAs, GoesOn, LeadsTo, CopiesTo}
-use Rattle.bench_shelf.proofs.LaidLonger.{laid_longer}
+use Rattle.bench_shelf.proofs.LayoutLonger.{layout_longer}
 use Rattle.bench_shelf.proofs.StoppingLaws.{if_reported, halted, stopped_after}
 
 place_kept : (first more : List PlacedLine) (number : ℕ) → number - 1 < length first
@@ -30,33 +30,33 @@ place_kept first more number lt =
     (rw (map-append (λ line. line.place) first more) (get_or_append_left (places first) (places more) none (number - 1) size))
 
 -- the first checks refuse a line, whatever lines come after it
-laid_stays : (first more : List PlacedLine) (ending : Ending) (refusal : CopyRefusal)
-    → (in_place first (laid check (numbered 1 (texts first))) >>= λ lines. unless_refused Open lines) ≡ Err refusal
-    → (in_place (first ++ more) (laid check (numbered 1 (texts (first ++ more)))) >>= λ lines. unless_refused ending lines) ≡ Err refusal
-laid_stays first more ending refusal e = by_answer (laid check (numbered 1 (texts first))) refl e
+layout_stays : (first more : List PlacedLine) (ending : Ending) (refusal : CopyRefusal)
+    → (in_place first (line_layout check (numbered 1 (texts first))) >>= λ lines. unless_refused Open lines) ≡ Err refusal
+    → (in_place (first ++ more) (line_layout check (numbered 1 (texts (first ++ more)))) >>= λ lines. unless_refused ending lines) ≡ Err refusal
+layout_stays first more ending refusal e = by_answer (line_layout check (numbered 1 (texts first))) refl e
   where
-    by_answer : (answer : Result (List Line) (Refusal AsmCause)) → laid check (numbered 1 (texts first)) ≡ answer
+    by_answer : (answer : Result (List Line) (Refusal AsmCause)) → line_layout check (numbered 1 (texts first)) ≡ answer
         → (in_place first answer >>= λ lines. unless_refused Open lines) ≡ Err refusal
-        → (in_place (first ++ more) (laid check (numbered 1 (texts (first ++ more)))) >>= λ lines. unless_refused ending lines) ≡ Err refusal
+        → (in_place (first ++ more) (line_layout check (numbered 1 (texts (first ++ more)))) >>= λ lines. unless_refused ending lines) ≡ Err refusal
     by_answer (Ok lines) is f = cc f
     by_answer (Err found) is f =
-        let stays = laid_longer (texts more) (texts first) [] 1 found is in
+        let stays = layout_longer (texts more) (texts first) [] 1 found is in
         let size : length (texts first) ≡ length first = length-map first (λ line. line.text) in
-        let longer : laid check (numbered 1 (texts (first ++ more))) ≡ Err found =
-        ap (λ all. laid check (numbered 1 all)) (map-append (λ line. line.text) first more) ∙ stays.same in
+        let longer : line_layout check (numbered 1 (texts (first ++ more))) ≡ Err found =
+        ap (λ all. line_layout check (numbered 1 all)) (map-append (λ line. line.text) first more) ∙ stays.same in
         let place = place_kept first more found.line (omega (arith, stays.from, stays.below, size)) in
         ap (λ answer. in_place (first ++ more) answer >>= λ lines. unless_refused ending lines) longer
         ∙ (ap (λ place. Err (At place (Asm found.cause))) place ∙ f)
 
 -- a refusal stays, whatever follows
 stops_by : (done lines : List PlacedLine) (copies : ℕ) (ending : Ending) (next : ℕ → Copied) (refusal : CopyRefusal)
-    → laid_copied (prepend done (record { lines = lines; copies = copies; ending = ending })) ≡ Err refusal
-    → laid_copied (prepend done (followed (record { lines = lines; copies = copies; ending = ending }) next)) ≡ Err refusal
+    → layout_copied (prepend done (record { lines = lines; copies = copies; ending = ending })) ≡ Err refusal
+    → layout_copied (prepend done (followed (record { lines = lines; copies = copies; ending = ending }) next)) ≡ Err refusal
 stops_by done lines copies Open next refusal e =
     let rest = next copies in
-    ap (λ all. in_place all (laid check (numbered 1 (texts all))) >>= λ lines. unless_refused rest.ending lines)
+    ap (λ all. in_place all (line_layout check (numbered 1 (texts all))) >>= λ lines. unless_refused rest.ending lines)
     (sym (append_assoc done lines rest.lines))
-    ∙ laid_stays (done ++ lines) rest.lines rest.ending refusal e
+    ∙ layout_stays (done ++ lines) rest.lines rest.ending refusal e
 stops_by done lines copies _ next refusal e = e
 
 pub refuses_by : {A B : Type 0} (error : CopyError) (a : Result A CopyRefusal) (b : Result B CopyRefusal)
@@ -75,7 +75,7 @@ pub leads_refused : (old new : Copying) (found : Copied) (next : ℕ → Copied)
     → CopiesTo old (followed found next) (Some error) new
 leads_refused old new found next error leads done holds =
     let refused = leads done holds in (
-      refuses_by error (laid_copied (prepend done found)) (laid_copied (prepend done (followed found next)))
+      refuses_by error (layout_copied (prepend done found)) (layout_copied (prepend done (followed found next)))
           (λ refusal e. stops_by done found.lines found.copies found.ending next refusal e) refused.0,
       if_reported _ _ error (halted done found.lines found.copies found.ending next new) refused.1,
     )
@@ -102,7 +102,7 @@ module _ (done : List PlacedLine) (found rest : Copied) (new : Copying) where
     ending = goes.ending;
   }
   joined (Some error) refused = (
-    subst (λ all. CopyRefuses error (in_place all (laid check (numbered 1 (texts all))) >>= λ lines. unless_refused rest.ending lines))
+    subst (λ all. CopyRefuses error (in_place all (line_layout check (numbered 1 (texts all))) >>= λ lines. unless_refused rest.ending lines))
         (append_assoc done found.lines rest.lines) refused.0,
     if_reported _ _ error (stopped_after done found.lines rest new) refused.1,
   )

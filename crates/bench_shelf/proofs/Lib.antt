@@ -1,6 +1,6 @@
 pub mod UnchangedParts
 pub mod Names
-pub mod LaidLonger
+pub mod LayoutLonger
 pub mod LeadingLaws
 pub mod StoppingLaws
 pub mod FileReads

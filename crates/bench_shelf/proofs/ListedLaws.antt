@@ -7,7 +7,7 @@ use Rattle.std.proofs.lemmas.List.{length-map, map-append, take-map}
 use Rattle.source_defs.specs.Refusals.{Refusal, ◌>>=◌}
 use Rattle.source_defs.specs.Lines.{numbered}
 use Rattle.expression_defs.specs.Symbols.{Names}
-use Rattle.expression_defs.specs.Layout.{laid, assembled_lines}
+use Rattle.expression_defs.specs.Layout.{line_layout, assembled_lines}
 use Rattle.object_defs.specs.Modules as object
 use Rattle.asm_defs.specs.declared.causes.AsmCause.{AsmCause}
 use Rattle.asm_defs.specs.Locations.{Line}
@@ -16,8 +16,8 @@ use Rattle.asm_defs.specs.Memory.{AssembledLine}
 use Rattle.asm_defs.specs.Modules.{assembled_line, module_by, module_after, module_of_lines}
 use Rattle.shelf_defs.specs.Copied as spec
 use Rattle.shelf_defs.specs.Copied.{most_bytes, most_copies, PlacedLine, CopyRefusal, Ending, Refused, Copied}
-use Rattle.shelf_defs.specs.Assembly.{texts, places, place_of, in_place, unless_refused, laid_copied}
-use Rattle.asm_list_defs.specs.Listed.{lines_let_through, first_answer, number_let_through, shown, paired, defined, lines_in}
+use Rattle.shelf_defs.specs.Assembly.{texts, places, place_of, in_place, unless_refused, layout_copied}
+use Rattle.asm_list_defs.specs.Listed.{accepted_lines, first_answer, accepted_count, shown, paired, defined, lines_in}
 use Rattle.asm_list_defs.specs.Listed.{Listing, names_of_line, listing_before, listing_after, listing_by, listing_of}
 use Rattle.asm_core.specs.Building.{HasAccepted}
 use Rattle.asm_core.specs.Finishing.{RefusesAt}
@@ -43,28 +43,28 @@ use Rattle.bench_shelf.specs.Leading.{Holds, EndsAs, GoesOn, LeadsTo, Halts, Sto
 use Rattle.bench_shelf.specs.Listed.{GivesReport, GivesNoReport, AllAssembled, AssembledAs, RefusedAfter, FinishesBy, Finishes, StopsAt}
 use Rattle.bench_shelf.specs.Listed.{listed_line, named_line, lines_by, names_by, refused_in, RefusedAs, Lists, FaultEnds, ListAnswered}
 use Rattle.bench_shelf.specs.Listed.{RefusedCauses, ListCauses}
-use Rattle.bench_shelf.proofs.LaidLonger.{laid_longer}
+use Rattle.bench_shelf.proofs.LayoutLonger.{layout_longer}
 use Rattle.bench_shelf.proofs.TakingLaws.{refusal_is}
 use Rattle.bench_shelf.proofs.ModuleLaws.{whole_by, agrees_first, dialogue}
 
 -- the lines that were taken, up to a refusal, are those up to the first that the first checks refuse
-front_by : (all taken : List PlacedLine) (ending : Ending) (lines : List Line) → laid check (numbered 1 (texts taken)) ≡ Ok lines
-    → length lines ≡ length (texts taken) → Halts all ending taken → lines_let_through all ≡ taken
+front_by : (all taken : List PlacedLine) (ending : Ending) (lines : List Line) → line_layout check (numbered 1 (texts taken)) ≡ Ok lines
+    → length lines ≡ length (texts taken) → Halts all ending taken → accepted_lines all ≡ taken
 front_by all taken ending lines is size (inl (are, refused)) =
     let answer : first_answer all ≡ Ok lines = ap first_answer are ∙ is in
     let count : length lines ≡ length taken = size ∙ length-map taken (λ line. line.text) in
-    ap (λ answer. take (number_let_through answer) all) answer
+    ap (λ answer. take (accepted_count answer) all) answer
     ∙ (ap (λ n. take n all) count ∙ (ap (take (length taken)) are ∙ take-length taken))
 front_by all taken ending lines is size (inr next) =
-    let longer = (laid_longer (texts next.rest) (texts (taken ++ next.line ∷ [])) [] 1 next.refusal next.is).same in
+    let longer = (layout_longer (texts next.rest) (texts (taken ++ next.line ∷ [])) [] 1 next.refusal next.is).same in
     let split : texts all ≡ texts (taken ++ next.line ∷ []) ++ texts next.rest =
     ap texts next.are
     ∙ (map-append (λ line. line.text) taken (next.line ∷ next.rest)
     ∙ (sym (append_assoc (texts taken) (next.line.text ∷ []) (texts next.rest))
     ∙ ap (λ first. first ++ texts next.rest) (sym (map-append (λ line. line.text) taken (next.line ∷ []))))) in
-    let answer : first_answer all ≡ Err next.refusal = ap (λ found. laid check (numbered 1 found)) split ∙ longer in
+    let answer : first_answer all ≡ Err next.refusal = ap (λ found. line_layout check (numbered 1 found)) split ∙ longer in
     let count : next.refusal.line - 1 ≡ length taken = omega (arith, next.number) in
-    ap (λ answer. take (number_let_through answer) all) answer
+    ap (λ answer. take (accepted_count answer) all) answer
     ∙ (ap (λ n. take n all) count ∙ (ap (take (length taken)) next.are ∙ take-append_seam taken (next.line ∷ next.rest)))
 
 -- items side by side, as they are made of others
@@ -89,19 +89,19 @@ reported_out P Fault reported holds = absurd reported
 reported_out P Memory reported holds = absurd reported
 reported_out P _ reported holds = holds
 
-laid_by : (ending : Ending) (builder : AsmLines) (lines : List Line) → EndsAs ending builder → unless_refused ending lines ≡ Ok lines
-laid_by (Refused refusal) builder lines ends = absurd ends
-laid_by _ builder lines ends = refl
+layout_by : (ending : Ending) (builder : AsmLines) (lines : List Line) → EndsAs ending builder → unless_refused ending lines ≡ Ok lines
+layout_by (Refused refusal) builder lines ends = absurd ends
+layout_by _ builder lines ends = refl
 
-laid_is : (found : Copied) (new : Copying) (goes : GoesOn [] found new) → laid_copied found ≡ Ok goes.holds.taken.lines
-laid_is found new goes =
-    ap (λ answer. in_place found.lines answer >>= unless_refused found.ending) goes.holds.taken.laid
-    ∙ laid_by found.ending new.builder goes.holds.taken.lines goes.ending
+layout_is : (found : Copied) (new : Copying) (goes : GoesOn [] found new) → layout_copied found ≡ Ok goes.holds.taken.lines
+layout_is found new goes =
+    ap (λ answer. in_place found.lines answer >>= unless_refused found.ending) goes.holds.taken.line_layout
+    ∙ layout_by found.ending new.builder goes.holds.taken.lines goes.ending
 
 -- the listing that a source has by its second checks
-record EndsAsListed (taken : List PlacedLine) (laid : List Line) (kept : List KeptLine) (ending : ListedEnding) : Type 0 where
+record EndsAsListed (taken : List PlacedLine) (line_layout : List Line) (kept : List KeptLine) (ending : ListedEnding) : Type 0 where
   pub listing : Listing
-  pub after : listing_after taken laid (assembled_lines (assembled_line (names laid)) laid) ≡ listing
+  pub after : listing_after taken line_layout (assembled_lines (assembled_line (names line_layout)) line_layout) ≡ listing
   pub lines : lines_by kept ending ≡ listing.lines
   pub names : names_by kept ending ≡ listing.names
   pub refused : RefusedAs (refused_in ending) listing.refusal
@@ -152,12 +152,12 @@ module _ (source : List ℕ) (old new : Copying) (before after : ShelfState) (no
   all_listed listed asked found goes (kept, finishes) number =
       let lines = goes.holds.taken.lines in
       let is = ends_listing found.lines lines listed.lines.items kept listed.ending finishes in
-      let same : listing_of found ≡ is.listing = ap (listing_by found.lines) (laid_is found new goes) ∙ is.after in
+      let same : listing_of found ≡ is.listing = ap (listing_by found.lines) (layout_is found new goes) ∙ is.after in
       record {
         lines = is.lines ∙ sym (ap (λ listing. listing.lines) same);
         names = is.names ∙ sym (ap (λ listing. listing.names) same);
         refused = subst (λ (listing : Listing). RefusedAs (refused_in listed.ending) listing.refusal) (sym same) is.refused;
-        copies = λ others laid. number;
+        copies = λ others line_layout. number;
       }
 
   pub answered_all : (result : Result ListedSource CopyError) → Copies old new (whole_by old.copies source) None before after
@@ -185,15 +185,15 @@ module _ (source : List ℕ) (old new : Copying) (before after : ShelfState) (no
 
   -- one is refused before
   before_listed : (error : CopyError) (found : Copied) (listed : ListedSource) (asked : ℕ) → Stopped [] found new
-      → new.kept ≡ Some listed.lines → listed.ending ≡ Before error → GivesReport error → IsRefused error (laid_copied found)
+      → new.kept ≡ Some listed.lines → listed.ending ≡ Before error → GivesReport error → IsRefused error (layout_copied found)
       → Lists asked listed found
   before_listed error found listed asked stopped kept ending reported refused =
       let taken = stopped.taken in
       let lines = stopped.holds.taken.lines in
       let kept = subst (IsKept taken lines) kept stopped.holds.kept in
       let count : length lines ≡ length (texts taken) = stopped.holds.taken.all in
-      let all : lines_let_through found.lines ≡ taken = front_by found.lines taken found.ending lines stopped.holds.taken.laid count stopped.halts in
-      let answer : first_answer taken ≡ Ok lines = stopped.holds.taken.laid in
+      let all : accepted_lines found.lines ≡ taken = front_by found.lines taken found.ending lines stopped.holds.taken.line_layout count stopped.halts in
+      let answer : first_answer taken ≡ Ok lines = stopped.holds.taken.line_layout in
       let same : listing_of found ≡ listing_before taken refused.refusal =
       ap (listing_by found.lines) refused.is ∙ ap (λ all. listing_before all refused.refusal) all in
       let shown_lines : (listing_of found).lines ≡ paired taken (shown None lines) =
@@ -203,7 +203,7 @@ module _ (source : List ℕ) (old new : Copying) (before after : ShelfState) (no
         names = ap (names_by listed.lines.items) ending ∙ sym (ap (λ listing. listing.names) same);
         refused = subst (λ (ending : ListedEnding). RefusedAs (refused_in ending) (listing_of found).refusal) (sym ending)
             (subst (λ (listing : Listing). RefusedAs (Some error) listing.refusal) (sym same) (refused.refuses, reported));
-        copies = λ others laid. absurd (ok_not_err (sym laid ∙ refused.is));
+        copies = λ others line_layout. absurd (ok_not_err (sym line_layout ∙ refused.is));
       }
     where
       ok_not_err : {A B : Type 0} {a : A} {b : B} → Ok a ≡ Err b → ⊥
@@ -231,7 +231,7 @@ module _ (source : List ℕ) (old new : Copying) (before after : ShelfState) (no
       by_result (Err other) stops whole refused = tt
       by_result (Ok listed) (kept, ending, reported) whole refused =
           before_listed error whole listed (length found.questions) (reported_out _ error reported refused.1) kept ending reported
-          (is_refused error (laid_copied whole) refused.0 reported)
+          (is_refused error (layout_copied whole) refused.0 reported)
 
 -- an error that the definitions do not tell, and the causes of all
 pub no_report_all : (done : List PlacedLine) (lines : List Line) (result : Result ListedSource CopyError) → Finishes done lines result → IfErr result GivesNoReport
@@ -265,7 +265,7 @@ assembled_not (Err found) lines refusal e = cc e
 
 module _ (done : List PlacedLine) (builder : AsmLines) (has : HasAccepted (texts done) builder) where
   after_is : module_of_lines (texts done) ≡ module_after has.lines
-  after_is = ap (λ answer. answer >>= module_after) has.laid
+  after_is = ap (λ answer. answer >>= module_after) has.line_layout
 
   pub all_assembled : (module_ : object.Module) → module_of_lines (texts done) ≡ Ok module_ → AllAssembled has.lines
   all_assembled module_ e = assembled_by (assembled_lines (assembled_line (names has.lines)) has.lines) has.lines module_ (sym after_is ∙ e)

@@ -14,7 +14,7 @@ use Rattle.bench_shelf.specs.declared.copying.Copying.{Copying}
 use Rattle.bench_shelf.specs.declared.copy_error.CopyError.{CopyError}
 use Rattle.source_defs.specs.declared.text.Line.{Line as TextLine}
 use Rattle.source_defs.specs.Lines.{lines, part}
-use Rattle.expression_defs.proofs.LaidLaws.{texts_of}
+use Rattle.expression_defs.proofs.LayoutLaws.{texts_of}
 use Rattle.shelf_defs.specs.Questions.{Question, Agrees}
 use Rattle.bench_shelf.specs.Leading.{CopiesTo, IsHeld, HasRoom, Grows, count, AllGiven, EndsBy, Asking, Copies}
 use Rattle.bench_shelf.specs.Causes.{CountsGrew}

@@ -3,7 +3,7 @@ use Rattle.std.proofs.Common.{◌≡◌, ◌≤◌, ℕ, ◌+◌, List, [], Some
 use Rattle.std.specs.Prelude.{Option, Result, IfErr}
 use Rattle.source_defs.specs.Refusals.{Refusal, ◌>>=◌}
 use Rattle.source_defs.specs.Lines.{numbered, line_texts}
-use Rattle.expression_defs.specs.Layout.{laid}
+use Rattle.expression_defs.specs.Layout.{line_layout}
 use Rattle.object_defs.specs.Modules as object
 use Rattle.object_tags.specs.Seen.{model_of_module}
 use Rattle.object_tags.specs.declared.parts.Module.{Module}
@@ -13,7 +13,7 @@ use Rattle.asm_defs.specs.FirstChecks.{check}
 use Rattle.asm_defs.specs.Modules.{module_after, module_of_lines}
 use Rattle.shelf_defs.specs.Files.{Contents}
 use Rattle.shelf_defs.specs.Copied.{most_bytes, most_copies, copy_line, copied_by, PlacedLine, CopyRefusal, Ending, Refused, Copied, lines_in}
-use Rattle.shelf_defs.specs.Assembly.{texts, in_place, unless_refused, laid_copied, module_of_copied, module_by}
+use Rattle.shelf_defs.specs.Assembly.{texts, in_place, unless_refused, layout_copied, module_of_copied, module_by}
 use Rattle.asm_core.proofs.EndedLines.{lines_make_texts}
 use Rattle.asm_core.specs.declared.lines.AsmLines.{AsmLines}
 use Rattle.bench_shelf.specs.declared.copying.Copying.{Copying}
@@ -42,7 +42,7 @@ going_by _ lines all builder ends = refl
 
 module_is : (found : Copied) (new : Copying) → GoesOn [] found new → contents (in_place found.lines (module_of_lines (texts found.lines))) (module_of_copied found)
 module_is found new goes =
-    rw goes.holds.taken.laid (going_by found.ending goes.holds.taken.lines found.lines new.builder goes.ending)
+    rw goes.holds.taken.line_layout (going_by found.ending goes.holds.taken.lines found.lines new.builder goes.ending)
 
 -- a module is that of the copied lines as one text
 module_by_lines : (found : Copied) (answer : Result (List Line) (Refusal AsmCause)) (module_ : object.Module)
@@ -64,9 +64,9 @@ abbrev pub whole_by : ℕ → List ℕ → Contents → Copied
 whole_by copies source contents = lines_in (copy_line contents 4) None copies (line_texts source)
 
 -- a refusal of a line is that of the module
-refusal_by : (found : Copied) (error : CopyError) → CopyRefuses error (laid_copied found) → CopyRefuses error (module_of_copied found)
+refusal_by : (found : Copied) (error : CopyError) → CopyRefuses error (layout_copied found) → CopyRefuses error (module_of_copied found)
 refusal_by found error refuses =
-    refuses_by error (laid_copied found) (module_of_copied found)
+    refuses_by error (layout_copied found) (module_of_copied found)
     (λ refusal e. ap (λ answer. answer >>= λ lines. in_place found.lines (module_after lines)) e) refuses
 
 pub agrees_first : (old : Copying) (contents : Contents) (questions : List Question) → old.copies ≡ 0 → Agrees most_bytes contents 0 questions → Agrees most_bytes contents old.copies questions
@@ -136,7 +136,7 @@ module _ (source : List ℕ) (old new : Copying) (before after : ShelfState) (no
           by_cases (Err error) gives = gives
           by_cases (Ok module_) gives = (
             lines_make_texts (texts (copied_by contents source).lines) (copied_one contents source)
-                ∙ module_by_lines (copied_by contents source) (laid check (numbered 1 (texts (copied_by contents source).lines))) (model_of_module module_) gives,
+                ∙ module_by_lines (copied_by contents source) (line_layout check (numbered 1 (texts (copied_by contents source).lines))) (model_of_module module_) gives,
             number,
             gives,
           )

@@ -15,10 +15,10 @@ use Rattle.bench_shelf.specs.CopyAnswers.{unread_at}
 use Rattle.bench_shelf.proofs.UnchangedParts.{within_then}
 
 -- what an unread file says of the shelf, the error of its COPY line says too
-pub causes_unread : (a b : ShelfState) (place : Place) (error : FileError) (said : CopyError) → said ≡ unread_at place error → FileCauses most_bytes error a b
-    → ShelfCauses said a b
-causes_unread a b place unread.TooLarge said is causes = rw is causes
-causes_unread a b place _ said is causes = rw is causes
+pub causes_unread : (a b : ShelfState) (place : Place) (error : FileError) (error_is : CopyError) → error_is ≡ unread_at place error → FileCauses most_bytes error a b
+    → ShelfCauses error_is a b
+causes_unread a b place unread.TooLarge error_is is causes = rw is causes
+causes_unread a b place _ error_is is causes = rw is causes
 
 module _ (a b c : ShelfState) (later : CountsGrew a b) (within : ReadWithinLimit most_bytes a b) where
   pub causes_since : (error : CopyError) → ShelfCauses error b c → ShelfCauses error a c

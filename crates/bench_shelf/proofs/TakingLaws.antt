@@ -9,8 +9,8 @@ use Rattle.std.proofs.lemmas.List.{length-map, map-append}
 use Rattle.expression_defs.specs.declared.causes.ExprError.TheVariants as expr
 use Rattle.source_defs.specs.Refusals.{Refusal, ◌>>=◌, at_line}
 use Rattle.source_defs.specs.Lines.{numbered}
-use Rattle.expression_defs.specs.Layout.{laid, has_ended}
-use Rattle.expression_defs.proofs.LaidLaws.{laid_more, last_line}
+use Rattle.expression_defs.specs.Layout.{line_layout, has_ended}
+use Rattle.expression_defs.proofs.LayoutLaws.{layout_more, last_line}
 use Rattle.instruction_defs.specs.declared.causes.FormError.TheVariants as form
 use Rattle.asm_defs.specs.declared.causes.AsmCause.{AsmCause}
 use Rattle.asm_defs.specs.declared.causes.AsmCause.TheVariants as cause
@@ -19,13 +19,13 @@ use Rattle.asm_defs.specs.Statements.{parse_line}
 use Rattle.asm_defs.specs.Locations.{Line}
 use Rattle.asm_defs.specs.Locations as locations
 use Rattle.asm_defs.specs.FirstChecks.{check, checked, known_of, line_of}
-use Rattle.asm_defs.proofs.CheckLaws.{bound, checked_said}
-use Rattle.shelf_defs.specs.CopyLines.{says_end, ends_source}
+use Rattle.asm_defs.proofs.CheckLaws.{bound, checked_parses}
+use Rattle.shelf_defs.specs.CopyLines.{parses_as_end, ends_source}
 use Rattle.shelf_defs.specs.Copied as spec
 use Rattle.shelf_defs.specs.Copied.{Place, PlacedLine, Open, Ended, own_line, prepend}
-use Rattle.shelf_defs.specs.Assembly.{texts, places, place_of, laid_copied}
+use Rattle.shelf_defs.specs.Assembly.{texts, places, place_of, layout_copied}
 use Rattle.asm_checks.specs.Answers.{Causes}
-use Rattle.asm_core.specs.TakenLines.{names_in, Tells}
+use Rattle.asm_core.specs.TakenLines.{names_in, DescribesLine}
 use Rattle.asm_core.specs.declared.taken.TakenLine.{TakenLine}
 use Rattle.asm_core.specs.Building.{HasAccepted, IsAfter, IsOpen, Takes}
 use Rattle.asm_core.specs.Finishing.{RefusesAt}
@@ -56,7 +56,7 @@ unfolding ends_source
 last_is before number text line e =
     let a = bound (checked (known_of before) text) _ line e in
     let same : line_of number a.0 ≡ line = cc a.2 in
-    sym (ap (λ (line : Line). line.last) same) ∙ sym (ap says_end (checked_said (known_of before) text a.0 a.1))
+    sym (ap (λ (line : Line). line.last) same) ∙ sym (ap parses_as_end (checked_parses (known_of before) text a.0 a.1))
 
 at_line_ok : {A : Type 0} (number : ℕ) (answer : Result A AsmCause) (found : A) → at_line number answer ≡ Ok found → answer ≡ Ok found
 at_line_ok number (Ok value) found e = cc e
@@ -85,8 +85,8 @@ module _ (done : List PlacedLine) (place : Place) (text : List ℕ) where
     still : has_ended taken.lines ≡ false
     still = sym taken.after_lines.ended ∙ going
 
-    whole_is : laid check (numbered 1 (texts done ++ text ∷ [])) ≡ last_line check text taken.lines (1 + length (texts done))
-    whole_is = laid_more check text (texts done) [] 1 (1 + length (texts done)) taken.lines refl taken.laid still
+    whole_is : line_layout check (numbered 1 (texts done ++ text ∷ [])) ≡ last_line check text taken.lines (1 + length (texts done))
+    whole_is = layout_more check text (texts done) [] 1 (1 + length (texts done)) taken.lines refl taken.line_layout still
 
     -- the line was taken
     ends_by : (new : AsmLines) (b : Bool) → new.ended ≡ b → EndsAs (if b then Ended else Open) new
@@ -98,14 +98,14 @@ module _ (done : List PlacedLine) (place : Place) (text : List ℕ) where
         → check taken.lines (length taken.lines + 1) text ≡ Ok line → line ∷ taken.lines ≡ after.lines
     lines_more new after line is =
         let count : length taken.lines + 1 ≡ 1 + length (texts done) = omega (arith, taken.all) in
-        let e : last_line check text taken.lines (1 + length (texts done)) ≡ Ok after.lines = sym whole_is ∙ after.laid in
+        let e : last_line check text taken.lines (1 + length (texts done)) ≡ Ok after.lines = sym whole_is ∙ after.line_layout in
         let found = ap (λ number. at_line number (check taken.lines number text) >>= λ line. Ok (line ∷ taken.lines)) count in
         let there = ap (λ answer. at_line (length taken.lines + 1) answer >>= λ line. Ok (line ∷ taken.lines)) is in
         cc (sym there ∙ (found ∙ e))
 
     pub taken_ends : (new : AsmLines) → HasAccepted (texts done ++ text ∷ []) new → EndsAs (if ends_source text then Ended else Open) new
     taken_ends new after =
-        let e : last_line check text taken.lines (1 + length (texts done)) ≡ Ok after.lines = sym whole_is ∙ after.laid in
+        let e : last_line check text taken.lines (1 + length (texts done)) ≡ Ok after.lines = sym whole_is ∙ after.line_layout in
         let a = bound (at_line (1 + length (texts done)) (check taken.lines (1 + length (texts done)) text)) _ after.lines e in
         let found : check taken.lines (1 + length (texts done)) text ≡ Ok a.0 =
         at_line_ok (1 + length (texts done)) (check taken.lines (1 + length (texts done)) text) a.0 a.1 in
@@ -115,7 +115,7 @@ module _ (done : List PlacedLine) (place : Place) (text : List ℕ) where
         ends_by new (ends_source text) (after.after_lines.ended ∙ last)
 
     -- or it is refused
-    pub refused_last : (refusal : Refusal AsmCause) → laid check (numbered 1 (texts done ++ text ∷ [])) ≡ Err refusal → refusal.line ≡ 1 + length (texts done)
+    pub refused_last : (refusal : Refusal AsmCause) → line_layout check (numbered 1 (texts done ++ text ∷ [])) ≡ Err refusal → refusal.line ≡ 1 + length (texts done)
     refused_last refusal e =
         at_line_err _ (check taken.lines (1 + length (texts done)) text) refusal (err_came _ (λ line. line ∷ taken.lines) refusal (sym whole_is ∙ e))
 
@@ -129,19 +129,19 @@ module _ (done : List PlacedLine) (place : Place) (text : List ℕ) where
         rw (unwrap_or-slice_get (places all) (1 + length (texts done) - 1) none, at, map-append (λ line. line.place) done more)
         (get_or-append_seam (places done) place [] none)
 
-    laid_refused : (copies : ℕ) (refusal : Refusal AsmCause) → laid check (numbered 1 (texts done ++ text ∷ [])) ≡ Err refusal
-        → laid_copied (prepend done (own_line place copies text)) ≡ Err (spec.At place (spec.Asm refusal.cause))
-    laid_refused copies refusal e =
+    layout_refused : (copies : ℕ) (refusal : Refusal AsmCause) → line_layout check (numbered 1 (texts done ++ text ∷ [])) ≡ Err refusal
+        → layout_copied (prepend done (own_line place copies text)) ≡ Err (spec.At place (spec.Asm refusal.cause))
+    layout_refused copies refusal e =
         rw (texts_are, e, refused_last refusal e, last_place) refl
 
 -- the line is kept with the others
 kept_more : (done : List PlacedLine) (lines : List Line) (line : Line) (place : KeptPlace) (text : List ℕ) (own : TakenLine) (old new : Option (Vec KeptLine Global))
-    → Tells lines text line own → IsKept done lines old → KeepsLine old place own text new
+    → DescribesLine lines text line own → IsKept done lines old → KeepsLine old place own text new
     → IsKept (done ++ record { place = model_of_place place; text = text } ∷ []) (line ∷ lines) new
-kept_more done lines line place text own None None tells kept keeps = tt
-kept_more done lines line place text own None (Some new) tells kept keeps = absurd keeps
-kept_more done lines line place text own (Some old) None tells kept keeps = absurd keeps
-kept_more done lines line place text own (Some old) (Some new) tells kept keeps = record {
+kept_more done lines line place text own None None describes kept keeps = tt
+kept_more done lines line place text own None (Some new) describes kept keeps = absurd keeps
+kept_more done lines line place text own (Some old) None describes kept keeps = absurd keeps
+kept_more done lines line place text own (Some old) (Some new) describes kept keeps = record {
   are = ap (map model_of_kept) keeps.are
       ∙ (map-append model_of_kept old.items (keeps.line ∷ [])
       ∙ (ap (λ (front : List PlacedLine). front ++ model_of_kept keeps.line ∷ []) kept.are ∙ ap (λ (line : PlacedLine). done ++ line ∷ []) keeps.is));
@@ -153,15 +153,15 @@ kept_more done lines line place text own (Some old) (Some new) tells kept keeps 
   names = ap (map names_of) keeps.are
       ∙ (map-append names_of old.items (keeps.line ∷ [])
       ∙ (ap (λ front. front ++ names_of keeps.line ∷ []) kept.names
-      ∙ ap (λ one. listed.defined lines ++ one ∷ []) (ap names_in keeps.taken ∙ sym tells.names)));
+      ∙ ap (λ one. listed.defined lines ++ one ∷ []) (ap names_in keeps.taken ∙ sym describes.names)));
 }
   where
     shown_is : (known : Option Names) → shown_of known keeps.line ≡ listed.shown_at known (locations.place lines line) line.origin line.statement
     shown_is known =
         ap (λ (taken : TakenLine). shown_by known taken.at taken.origin (parse_line keeps.line.text.items)) keeps.taken
-        ∙ (ap (λ at. shown_by known at own.origin (parse_line keeps.line.text.items)) tells.at
-        ∙ (ap (λ origin. shown_by known (locations.place lines line) origin (parse_line keeps.line.text.items)) tells.origin
-        ∙ ap (shown_by known (locations.place lines line) line.origin) (ap (λ (line : PlacedLine). parse_line line.text) keeps.is ∙ tells.parsed)))
+        ∙ (ap (λ at. shown_by known at own.origin (parse_line keeps.line.text.items)) describes.at
+        ∙ (ap (λ origin. shown_by known (locations.place lines line) origin (parse_line keeps.line.text.items)) describes.origin
+        ∙ ap (shown_by known (locations.place lines line) line.origin) (ap (λ (line : PlacedLine). parse_line line.text) keeps.is ∙ describes.parsed)))
 
 -- a line that stands for itself and is taken
 pub own_taken : (old new : Copying) (place : KeptPlace) (text : List ℕ) (done : List PlacedLine) → IsOpen old.builder → Holds done old
@@ -172,7 +172,7 @@ own_taken old new place text done going holds taken kept copies own takes keeps 
   holds = record {
     taken = record {
       lines = taken.lines;
-      laid = ap (λ found. laid check (numbered 1 found)) (texts_are done (model_of_place place) text) ∙ taken.laid;
+      line_layout = ap (λ found. line_layout check (numbered 1 found)) (texts_are done (model_of_place place) text) ∙ taken.line_layout;
       all = taken.all ∙ sym (ap length (texts_are done (model_of_place place) text));
       after_lines = taken.after_lines;
     };
@@ -191,14 +191,14 @@ own_taken old new place text done going holds taken kept copies own takes keeps 
 
 -- and one that the first checks refuse: there the taking stops
 pub own_refused : (old new : Copying) (place : KeptPlace) (text : List ℕ) (done : List PlacedLine) (number : ℕ) (refused : AsmCause)
-    → IsOpen old.builder → Holds done old → RefusesAt (asm.At number refused) (laid check (numbered 1 (texts done ++ text ∷ [])))
+    → IsOpen old.builder → Holds done old → RefusesAt (asm.At number refused) (line_layout check (numbered 1 (texts done ++ text ∷ [])))
     → HasAccepted (texts done) new.builder → new.runs ≡ old.runs → new.kept ≡ old.kept
     → LeadsTo (Some (refused_at place (Asm refused))) done (own_line (model_of_place place) old.copies text) new
 own_refused old new place text done number refused going holds refuses taken runs kept =
     let is = refusal_is number refused _ refuses in
-    let lines : holds.taken.lines ≡ taken.lines = cc (sym holds.taken.laid ∙ taken.laid) in
+    let lines : holds.taken.lines ≡ taken.lines = cc (sym holds.taken.line_layout ∙ taken.line_layout) in
     let refusal : Refusal AsmCause = record { line = number; cause = refused } in (
-      (is.0, laid_refused done (model_of_place place) text old.builder holds.taken going old.copies refusal is.1),
+      (is.0, layout_refused done (model_of_place place) text old.builder holds.taken going old.copies refusal is.1),
       record {
         taken = done;
         holds = record {
@@ -214,7 +214,7 @@ own_refused old new place text done number refused going holds refuses taken run
           refusal = refusal;
           number = refused_last done (model_of_place place) text old.builder holds.taken going refusal is.1
               ∙ ap (λ n. 1 + n) (length-map done (λ line. line.text));
-          is = ap (λ found. laid check (numbered 1 found)) (texts_are done (model_of_place place) text) ∙ is.1;
+          is = ap (λ found. line_layout check (numbered 1 found)) (texts_are done (model_of_place place) text) ∙ is.1;
         });
       },
     )

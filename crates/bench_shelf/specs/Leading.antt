@@ -4,11 +4,11 @@ use Rattle.std.specs.Prelude.{Option, Some, None, Result, Ok, Err, IfSome, ◌�
 use Rattle.shelf_defs.specs.Files.{Contents, of_files}
 use Rattle.shelf_defs.specs.Copied as spec
 use Rattle.shelf_defs.specs.Copied.{PlacedLine, Ending, Open, Ended, Refused, Copied, prepend, most_copies, most_bytes}
-use Rattle.shelf_defs.specs.Assembly.{texts, places, laid_copied}
+use Rattle.shelf_defs.specs.Assembly.{texts, places, layout_copied}
 use Rattle.shelf_defs.specs.Questions.{FileAnswer, Bytes, Unanswered, Question, Agrees, InTurn, EndsWith}
 use Rattle.source_defs.specs.Refusals.{Refusal}
 use Rattle.source_defs.specs.Lines.{numbered}
-use Rattle.expression_defs.specs.Layout.{laid}
+use Rattle.expression_defs.specs.Layout.{line_layout}
 use Rattle.asm_defs.specs.declared.causes.AsmCause.{AsmCause}
 use Rattle.asm_defs.specs.FirstChecks.{check}
 use Rattle.asm_core.specs.Building.{HasAccepted, IsOpen}
@@ -65,7 +65,7 @@ pub record RefusesNext (all taken : List PlacedLine) : Type 0 where
   pub are : all ≡ taken ++ line ∷ rest
   pub refusal : Refusal AsmCause
   pub number : refusal.line ≡ 1 + length taken
-  pub is : laid check (numbered 1 (texts (taken ++ line ∷ []))) ≡ Err refusal
+  pub is : line_layout check (numbered 1 (texts (taken ++ line ∷ []))) ≡ Err refusal
 
 -- the lines that were taken are all up to the refusal: of what stands after them, or of the next line
 abbrev pub Halts : List PlacedLine → Ending → List PlacedLine → Type 0
@@ -87,7 +87,7 @@ IfReported other P = P
 abbrev pub LeadsTo : Option CopyError → List PlacedLine → Copied → Copying → Type 0
 LeadsTo None done found new = GoesOn done found new
 LeadsTo (Some error) done found new =
-    CopyRefuses error (laid_copied (prepend done found)) × IfReported error (Stopped done found new)
+    CopyRefuses error (layout_copied (prepend done found)) × IfReported error (Stopped done found new)
 
 -- the same, whatever lines were taken before
 abbrev pub CopiesTo : Copying → Copied → Option CopyError → Copying → Type 0

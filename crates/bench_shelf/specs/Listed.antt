@@ -11,7 +11,7 @@ use Rattle.asm_defs.specs.Memory.{AssembledLine}
 use Rattle.asm_defs.specs.Modules.{assembled_line}
 use Rattle.shelf_defs.specs.Files.{Contents}
 use Rattle.shelf_defs.specs.Copied.{PlacedLine, CopyRefusal, Copied, most_bytes, copied_by}
-use Rattle.shelf_defs.specs.Assembly.{places, place_of, laid_copied}
+use Rattle.shelf_defs.specs.Assembly.{places, place_of, layout_copied}
 use Rattle.shelf_defs.specs.Questions.{Unanswered, Question, Agrees, EndsWith}
 use Rattle.asm_list_defs.specs.Listed.{Shown, ListedName, names_of_line, listing_of}
 use Rattle.bench_shelf.specs.States.{ShelfState}
@@ -112,7 +112,7 @@ pub record Lists (asked : ℕ) (listed : ListedSource) (found : Copied) : Type 0
   pub lines : lines_by listed.lines.items listed.ending ≡ (listing_of found).lines
   pub names : names_by listed.lines.items listed.ending ≡ (listing_of found).names
   pub refused : RefusedAs (refused_in listed.ending) (listing_of found).refusal
-  pub copies : (lines : List Line) → laid_copied found ≡ Ok lines → asked ≡ found.copies
+  pub copies : (lines : List Line) → layout_copied found ≡ Ok lines → asked ≡ found.copies
 
 -- the shelf failed at the file that was asked for last
 abbrev pub FaultEnds : {A : Type 0} → Result A CopyError → List Question → Type 0

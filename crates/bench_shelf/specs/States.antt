@@ -38,10 +38,10 @@ abbrev pub same_files : (before after : ShelfState) → fixed_part after ≡ fix
     → SameFiles before after
 same_files before after same =
     record {
-      files = ap (λ (stands : FixedPart). stands.2) same;
-      opens = ap (λ (stands : FixedPart). stands.0) same;
-      misses = ap (λ (stands : FixedPart). stands.1) same;
-      asked = ap (λ (stands : FixedPart). stands.3) same;
+      files = ap (λ (fixed : FixedPart). fixed.2) same;
+      opens = ap (λ (fixed : FixedPart). fixed.0) same;
+      misses = ap (λ (fixed : FixedPart). fixed.1) same;
+      asked = ap (λ (fixed : FixedPart). fixed.3) same;
     }
 
 -- A shelf in memory: its files by name, where the first of equal names counts; what is left of the open one; the

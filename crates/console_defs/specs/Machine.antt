@@ -59,9 +59,9 @@ steps (suc count) x = done_step x >>= steps count
 
 -- What is said where a step executed no instruction.
 abbrev pub WhereStopped : StepEnd → Type 0 → Type 0
-WhereStopped (Done word) said = Unit {0}
-WhereStopped (Refused address) said = said
-WhereStopped (Port address) said = said
+WhereStopped (Done word) parsed = Unit {0}
+WhereStopped (Refused address) parsed = parsed
+WhereStopped (Port address) parsed = parsed
 
 -- Profile: the registers of a workspace are shown if all sixteen, 32 bytes, lie in the scratchpad from >8300 on or in
 -- one of the two parts of expansion memory: the first address of that part.

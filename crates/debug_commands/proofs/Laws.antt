@@ -14,7 +14,7 @@ use Rattle.reports.proofs.Runs.{IsProgram, laws_of}
 use Rattle.bench_commands.proofs.Laws as bench
 use Rattle.bench_commands.proofs.Laws.{on_all}
 use Rattle.gpl_list_defs.proofs.RowLaws.{listings_give_programs}
-use Rattle.row_laws.proofs.AssembledRows.{rows_stand_in_runs}
+use Rattle.row_laws.proofs.AssembledRows.{rows_stay_in_runs}
 use Rattle.row_laws.proofs.ListedNames.{listings_have_all}
 use Rattle.asm_list_defs.proofs.ModuleLaws.{listings_show_modules}
 use Rattle.machine_change_defs.proofs.MemoryLead.{changes_give_memory}
@@ -77,10 +77,10 @@ is_program =
 
 assembled_texts_step : AssembledTextsStep
 assembled_texts_step m text it limit files report =
-    let stands = assembled_files_are_read m text it in
+    let read_alike = assembled_files_are_read m text it in
     let fits = small text it.within in (
-      λ reported. subst (λ memory. StepsReport limit memory report) stands.links (rw fits at reported),
-      λ runs. rw fits (subst (λ memory. StepsReport limit memory report) (sym stands.links) runs),
+      λ reported. subst (λ memory. StepsReport limit memory report) read_alike.links (rw fits at reported),
+      λ runs. rw fits (subst (λ memory. StepsReport limit memory report) (sym read_alike.links) runs),
     )
 
 pub laws : LawsOfDebugRuns
@@ -90,7 +90,7 @@ laws =
       fronts = debug_fronts_begin_reports;
       listings = listings_give_programs;
       lines = listings_are_read;
-      standing = rows_stand_in_runs;
+      standing = rows_stay_in_runs;
       modules = listings_show_modules;
       complete = listings_have_all;
       siblings = siblings_report_alike;

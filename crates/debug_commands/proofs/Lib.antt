@@ -5,4 +5,4 @@ mod Shelved
 mod ShelfUse
 pub mod Laws
 pub mod CountEnds
-pub mod StepsCommandEnds
+pub mod StepsEnds

@@ -8,7 +8,7 @@ use Rattle.report_defs.specs.declared.fault.Fault.TheVariants.{TooLarge}
 use Rattle.report_defs.specs.declared.status.Status.{Status}
 use Rattle.report_defs.specs.declared.status.Status.TheVariants as status
 use Rattle.report_defs.specs.Report.{Report, Faulty, largest_input}
-use Rattle.reports.specs.Run.{Run, EndsSaid, EndsBy}
+use Rattle.reports.specs.Run.{Run, EndsParsed, EndsBy}
 use Rattle.debug_report_defs.specs.declared.command.DebugCommand.{DebugCommand}
 use Rattle.debug_report_defs.specs.declared.command.DebugCommand.TheVariants as command
 use Rattle.debug_commands.specs.Listed.{ListReported}
@@ -42,18 +42,18 @@ leaving command.List before after (input, took, inr (source, whole, questions, d
     dialogue_takes most_bytes most_copies _ before.shelf after.shelf questions dialogue
 leaving _ before after leaves = leaves.1
 
-takes_said : (said : Option DebugCommand) (run : Run DebugCommand Inputs) (end : Status)
-    → EndsSaid debug_program said run end → TakesOfShelf said run.before.shelf run.after.shelf
-takes_said None run end ends = ap (λ (r : Inputs). r.shelf) ends.unread
-takes_said (Some command) run status.Done (report, is, wrote) = reporting command run.before run.after report is
-takes_said (Some command) run status.Refused (report, is, wrote) = reporting command run.before run.after report is
-takes_said (Some command) run status.Usage ends = absurd ends
-takes_said (Some command) run status.ReadFault (nothing, failed) = leaving command run.before run.after nothing.leaves
-takes_said (Some command) run status.WriteFault (inl (report, is, wrote)) = reporting command run.before run.after report is
-takes_said (Some command) run status.WriteFault (inr (front, (on, same), missed)) = none_taken command run.before.shelf run.after.shelf same
-takes_said (Some command) run status.Memory nothing = leaving command run.before run.after nothing.leaves
-takes_said (Some command) run status.Stopped (report, is, wrote) = reporting command run.before run.after report is
+takes_parsed : (parsed : Option DebugCommand) (run : Run DebugCommand Inputs) (end : Status)
+    → EndsParsed debug_program parsed run end → TakesOfShelf parsed run.before.shelf run.after.shelf
+takes_parsed None run end ends = ap (λ (r : Inputs). r.shelf) ends.unread
+takes_parsed (Some command) run status.Done (report, is, wrote) = reporting command run.before run.after report is
+takes_parsed (Some command) run status.Refused (report, is, wrote) = reporting command run.before run.after report is
+takes_parsed (Some command) run status.Usage ends = absurd ends
+takes_parsed (Some command) run status.ReadFault (nothing, failed) = leaving command run.before run.after nothing.leaves
+takes_parsed (Some command) run status.WriteFault (inl (report, is, wrote)) = reporting command run.before run.after report is
+takes_parsed (Some command) run status.WriteFault (inr (front, (on, same), missed)) = none_taken command run.before.shelf run.after.shelf same
+takes_parsed (Some command) run status.Memory nothing = leaving command run.before run.after nothing.leaves
+takes_parsed (Some command) run status.Stopped (report, is, wrote) = reporting command run.before run.after report is
 
 pub takes_of_shelf : (run : Run DebugCommand Inputs) (end : Status) → EndsBy debug_program run end
-    → TakesOfShelf run.said run.before.shelf run.after.shelf
-takes_of_shelf run end ends = takes_said run.said run end ends
+    → TakesOfShelf run.parsed run.before.shelf run.after.shelf
+takes_of_shelf run end ends = takes_parsed run.parsed run end ends

@@ -13,7 +13,7 @@ use Rattle.report_defs.specs.declared.status.Status.TheVariants as status
 use Rattle.report_defs.specs.Report.{Report, Faulty, largest_input}
 use Rattle.reports.specs.Outputs.{Outputs}
 use Rattle.reports.specs.Answers.{Reported, Ends}
-use Rattle.reports.specs.Run.{Run, EndsSaid}
+use Rattle.reports.specs.Run.{Run, EndsParsed}
 use Rattle.reports.proofs.Runs.{by_report}
 use Rattle.reports.proofs.NoUsage.{IsNoUsage, same_no_usage}
 use Rattle.bench_commands.specs.InputRun as plain
@@ -31,7 +31,7 @@ abbrev pub at : SourceState → ShelfState → Inputs
 at input shelf = record { input = input; shelf = shelf }
 
 abbrev pub run_at : DebugCommand → Inputs → Inputs → Outputs → Run DebugCommand Inputs
-run_at command before after o = record { said = Some command; before = before; after = after; outputs = o }
+run_at command before after o = record { parsed = Some command; before = before; after = after; outputs = o }
 
 -- ---- a run that leaves the shelf as it was
 
@@ -58,8 +58,8 @@ module _ (shelf : ShelfState) (input input' : SourceState) where
   fails_input _ failed = failed
 
   pub over_input : (command : DebugCommand) (o : Outputs) (end : Status)
-      → EndsSaid input_only (Some command) (record { said = Some command; before = input; after = input'; outputs = o }) end
-      → EndsSaid debug_program (Some command) (run_at command (at input shelf) (at input' shelf) o) end
+      → EndsParsed input_only (Some command) (record { parsed = Some command; before = input; after = input'; outputs = o }) end
+      → EndsParsed debug_program (Some command) (run_at command (at input shelf) (at input' shelf) o) end
   over_input command o status.Done (report, on, wrote) = (report, reports_input command report on, wrote)
   over_input command o status.Refused (report, on, wrote) = (report, reports_input command report on, wrote)
   over_input command o status.Usage ends = absurd ends
@@ -89,7 +89,7 @@ module _ (before after : SourceState) (source : List ℕ) (whole : ReadWhole lar
     run = run_at command.List (at before shelf) (at after shelf') o
 
     answered : (answer : Result Report Status) → Reported (ListReported shelf shelf' source) (ListFails shelf shelf' source) answer
-        → Ends o answer end → EndsSaid debug_program (Some command.List) run end
+        → Ends o answer end → EndsParsed debug_program (Some command.List) run end
     answered (Ok report) reported ends =
         by_report debug_program command.List run report end
         (source, reads_whole true before after source whole, rw is_small reported)
@@ -98,15 +98,15 @@ module _ (before after : SourceState) (source : List ℕ) (whole : ReadWhole lar
     answered (Err status.Refused) fails ends = absurd fails
     answered (Err status.Usage) fails ends = absurd fails
     answered (Err status.ReadFault) failed (is, out, err) =
-        subst (EndsSaid debug_program (Some command.List) run) (sym is) (
+        subst (EndsParsed debug_program (Some command.List) run) (sym is) (
           record { leaves = (within, inl failed.2.within, inr (source, whole, failed.0, failed.1)); out = out; err = err },
           inr (source, whole, failed),
         )
     answered (Err status.WriteFault) fails ends = absurd fails
     answered (Err status.Memory) fails (is, out, err) =
-        subst (EndsSaid debug_program (Some command.List) run) (sym is)
+        subst (EndsParsed debug_program (Some command.List) run) (sym is)
         (record { leaves = (within, fails.2, inr (source, whole, fails.0, fails.1)); out = out; err = err })
     answered (Err status.Stopped) fails ends = absurd fails
 
-    pub by_listed : EndsListed shelf shelf' source o end → EndsSaid debug_program (Some command.List) run end
+    pub by_listed : EndsListed shelf shelf' source o end → EndsParsed debug_program (Some command.List) run end
     by_listed (answer, reported, ends) = answered answer reported ends

@@ -2,7 +2,7 @@
 use Rattle.interp_build_defs.specs.Interpreter.{SourceGivesWords}
 use Rattle.reports.specs.RunLaws.{LawsOfProgram}
 use Rattle.gpl_list_defs.specs.Laws.{ListingsGivePrograms}
-use Rattle.row_laws.specs.Laws.{RowsStandInRuns}
+use Rattle.row_laws.specs.Laws.{RowsStayInRuns}
 use Rattle.row_laws.specs.Listings.{ListingsHaveAll}
 use Rattle.asm_list_defs.specs.Laws.{ListingsShowModules}
 use Rattle.machine_change_defs.specs.Laws.{ChangesGiveMemory}
@@ -30,7 +30,7 @@ pub record LawsOfDebugRuns : Type 0 where
   pub fronts : DebugFrontsBeginReports
   pub listings : ListingsGivePrograms
   pub lines : ListingsAreRead
-  pub standing : RowsStandInRuns
+  pub standing : RowsStayInRuns
   pub modules : ListingsShowModules
   pub complete : ListingsHaveAll
   pub siblings : SiblingsReportAlike

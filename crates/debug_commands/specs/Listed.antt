@@ -6,7 +6,7 @@ use Rattle.std.specs.Prelude.{◌≡◌, ◌⊎◌, ℕ, List, length, Option, S
 use Rattle.asm_defs.specs.Locations.{Line}
 use Rattle.shelf_defs.specs.Files.{Contents}
 use Rattle.shelf_defs.specs.Copied.{CopyRefusal, Copied, most_bytes, copied_by}
-use Rattle.shelf_defs.specs.Assembly.{laid_copied}
+use Rattle.shelf_defs.specs.Assembly.{layout_copied}
 use Rattle.shelf_defs.specs.Questions.{Question, Agrees}
 use Rattle.asm_list_defs.specs.Listed.{listing_of}
 use Rattle.asm_list_defs.specs.Rows.{listing_rows}
@@ -28,7 +28,7 @@ use Rattle.reports.specs.Answers.{Reported, Ends}
 pub record GivesRows (asked : ℕ) (rows : List (List ℕ)) (refusal : Option CopyRefusal) (found : Copied) : Type 0 where
   pub rows_are : rows ≡ listing_rows (listing_of found)
   pub refusal_is : refusal ≡ (listing_of found).refusal
-  pub copies : (lines : List Line) → laid_copied found ≡ Ok lines → asked ≡ found.copies
+  pub copies : (lines : List Line) → layout_copied found ≡ Ok lines → asked ≡ found.copies
 
 -- what a refusal says of the shelf, and what it says that there is none
 abbrev pub RefusalCauses : Option CopyRefusal → ShelfState → ShelfState → Type 0

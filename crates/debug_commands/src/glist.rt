@@ -11,7 +11,7 @@ use bench_io::Sink;
 use gpl_list::{GplListing, list_source};
 use report_defs::Status;
 use report_lines::gpl_line;
-use reports::{finish, tell};
+use reports::{finish, end_with_line};
 use std::alloc::Global;
 
 /// Lists a GPL source. Of one that is refused the lines before the refused one are written, and then its fault line.
@@ -49,7 +49,7 @@ fn finish_listing<O: Sink, E: Sink>(listing: &GplListing, out: &mut O, err: &mut
         return Status::WriteFault;
     }
     match listing.refused() {
-        Some(refused) => tell(
+        Some(refused) => end_with_line(
             gpl_line(refused.line, refused.cause).as_slice(),
             Status::Refused,
             err,

@@ -8,10 +8,10 @@ mod gsteps;
 mod list;
 mod running;
 mod shown;
-mod steps_command_running;
+mod processor_steps;
 mod streams;
 mod words;
 
 pub use crate::running::debug;
 pub use crate::streams::{debug_over, debug_through};
-pub use steps_command_running::steps;
+pub use processor_steps::steps;

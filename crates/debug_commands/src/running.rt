@@ -18,7 +18,7 @@ use bench_shelf::Shelf;
 use command_words::Words;
 use debug_report_defs::DebugCommand;
 use report_defs::{LARGEST_INPUT, Status};
-use reports::{finish, tell};
+use reports::{finish, end_with_line};
 use std::alloc::Global;
 use crate::steps;
 
@@ -51,7 +51,7 @@ pub fn debug<S: Source, F: Shelf, O: Sink, E: Sink>(
 ) -> Status
     ensures laws { LawsOfDebugRuns }
     ensures ends { EndsBy debug_program (record {
-      said = debug_command words.now;
+      parsed = debug_command words.now;
       before = record { input = S.state input.old; shelf = F.shelf shelf.old };
       after = record { input = S.state input.new; shelf = F.shelf shelf.new };
       outputs = record {
@@ -66,7 +66,7 @@ pub fn debug<S: Source, F: Shelf, O: Sink, E: Sink>(
 {
     match read_debug_command(words) {
         Some(command) => run_debug_command(alloc, command, input, shelf, out, err),
-        None => tell(usage(), Status::Usage, err),
+        None => end_with_line(usage(), Status::Usage, err),
     }
 }
 
@@ -81,7 +81,7 @@ fn run_debug_command<S: Source, F: Shelf, O: Sink, E: Sink>(
 ) -> Status
     requires { KeepsLimit command }
     ensures ends { EndsBy debug_program (record {
-      said = Some command;
+      parsed = Some command;
       before = record { input = S.state input.old; shelf = F.shelf shelf.old };
       after = record { input = S.state input.new; shelf = F.shelf shelf.new };
       outputs = record {

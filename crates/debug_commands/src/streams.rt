@@ -32,7 +32,7 @@ pub fn debug_over<F: Shelf, R: Read + Drop, W: Write + Drop, E: Write + Drop>(
 ) -> (Status, StdSource<R>, StdSink<W>, StdSink<E>)
     ensures laws { LawsOfDebugRuns }
     ensures ends { EndsOver (λ before after outputs end. EndsBy debug_program (record {
-      said = debug_command words.now;
+      parsed = debug_command words.now;
       before = record { input = before; shelf = F.shelf shelf.old };
       after = record { input = after; shelf = F.shelf shelf.new };
       outputs = outputs;
@@ -63,7 +63,7 @@ pub fn debug_through<F: Shelf, R: Read + Drop, W: Write + Drop, E: Write + Drop>
 ) -> (Status, StdSource<R>, StdSink<W>, StdSink<E>)
     ensures laws { LawsOfDebugRuns }
     ensures ends { EndsThrough (λ before after outputs end. EndsBy debug_program (record {
-      said = debug_command words.now;
+      parsed = debug_command words.now;
       before = record { input = before; shelf = F.shelf shelf.old };
       after = record { input = after; shelf = F.shelf shelf.new };
       outputs = outputs;

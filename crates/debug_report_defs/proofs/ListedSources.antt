@@ -13,8 +13,8 @@ use Rattle.source_defs.specs.Digits.{byte_digits, word_digits, hex_word}
 use Rattle.source_defs.proofs.RefusalLaws.{bound}
 use Rattle.listed_lines.proofs.Scans.{and_left, not_true}
 use Rattle.expression_defs.specs.Symbols.{predefined}
-use Rattle.expression_defs.specs.Layout.{laid, laid_after, assembled_lines}
-use Rattle.expression_defs.proofs.LaidLaws.{IsNumbered, lines_numbered, texts_of}
+use Rattle.expression_defs.specs.Layout.{line_layout, layout_after, assembled_lines}
+use Rattle.expression_defs.proofs.LayoutLaws.{IsNumbered, lines_numbered, texts_of}
 use Rattle.report_defs.specs.Rows.{spaced_bytes}
 use Rattle.gpl_source_defs.specs.declared.causes.GplCause.{GplCause}
 use Rattle.gpl_source_defs.specs.Locations.{Line, location}
@@ -22,7 +22,7 @@ use Rattle.gpl_source_defs.specs.FirstChecks.{check, checked, line_of, names}
 use Rattle.gpl_source_defs.specs.Programs.{AssembledLine, Program, assembled_line, program_after, program_of_lines, program_of_source, program_by}
 use Rattle.gpl_list_defs.specs.Rows.{Row, NameRow, ListsBytes, placed_bytes, text_of, rows, row_of}
 use Rattle.gpl_list_defs.specs.Text.{bytes_text, further_line, further_rows, further_lines, line_text, row_lines, name_line, listing_lines}
-use Rattle.gpl_list_defs.specs.Listing.{assembled_listing, laid_listing, listing_of}
+use Rattle.gpl_list_defs.specs.Listing.{assembled_listing, layout_listing, listing_of}
 use Rattle.debug_report_defs.specs.ListingReader.{address_columns, is_name_line, begins_with_address, is_further_line, without_last, text_in, texts_read}
 use Rattle.debug_report_defs.specs.ListingLaws.{ListingsAreRead}
 use Rattle.debug_report_defs.proofs.Digits.{decimal_passes}
@@ -157,28 +157,28 @@ module _ (listed : ListsBytes) (all : List (List ℕ)) where
   map_more (first ∷ found) row = ap (λ texts. first.text ∷ texts) (map_more found row)
 
   abbrev after_line : List Line → List (ℕ × List ℕ) → Line → Result (List Line) (Refusal GplCause)
-  after_line before rest line = if line.last then Ok (line ∷ before) else laid_after check (line ∷ before) rest
+  after_line before rest line = if line.last then Ok (line ∷ before) else layout_after check (line ∷ before) rest
 
   by_last : (before : List Line) (rest : List (ℕ × List ℕ)) (line : Line) (last : Bool) → line.last ≡ last
-      → after_line before rest line ≡ (if last then Ok (line ∷ before) else laid_after check (line ∷ before) rest)
-  by_last before rest line last is = ap (λ b. if b then Ok (line ∷ before) else laid_after check (line ∷ before) rest) is
+      → after_line before rest line ≡ (if last then Ok (line ∷ before) else layout_after check (line ∷ before) rest)
+  by_last before rest line last is = ap (λ b. if b then Ok (line ∷ before) else layout_after check (line ∷ before) rest) is
 
   ends_with : (before : List Line) (text : List ℕ) (rest : List (List ℕ)) (number : ℕ) (line : Line) → at_line number (check before number text) ≡ Ok line
       → line.last ≡ true
-      → laid_after check before (numbered number (text ∷ rest)) ≡ Ok (line ∷ before)
+      → layout_after check before (numbered number (text ∷ rest)) ≡ Ok (line ∷ before)
   ends_with before text rest number line there last =
       ap (λ answer. answer >>= after_line before (numbered (number + 1) rest)) there ∙ by_last before (numbered (number + 1) rest) line true last
 
   goes_with : (before : List Line) (text : List ℕ) (rest : List (List ℕ)) (number : ℕ) (line : Line) → at_line number (check before number text) ≡ Ok line
       → line.last ≡ false
-      → laid_after check before (numbered number (text ∷ rest)) ≡ laid_after check (line ∷ before) (numbered (number + 1) rest)
+      → layout_after check before (numbered number (text ∷ rest)) ≡ layout_after check (line ∷ before) (numbered (number + 1) rest)
   goes_with before text rest number line there last =
       ap (λ answer. answer >>= after_line before (numbered (number + 1) rest)) there ∙ by_last before (numbered (number + 1) rest) line false last
 
   -- some of the lines that are left are all that the source has up to its end
   record Reaches (left : List (List ℕ)) (before found : List Line) (number : ℕ) : Type 0 where
     count : ℕ
-    ends : laid_after check before (numbered number (take count left)) ≡ Ok found
+    ends : layout_after check before (numbered number (take count left)) ≡ Ok found
     texts : row_texts found ≡ row_texts before ++ take count left
 
   one_row : (first left : List (List ℕ)) (text : List ℕ) (before : List Line) (line : Line) (number : ℕ) → all ≡ first ++ text ∷ left
@@ -190,7 +190,7 @@ module _ (listed : ListsBytes) (all : List (List ℕ)) where
       map_more (rows listed (numbered 1 all) before) (row_of listed (numbered 1 all) before line) ∙ ap (λ text. row_texts before ++ text ∷ []) own
 
   reaches : (left first : List (List ℕ)) (before found : List Line) (number : ℕ) → all ≡ first ++ left → number ≡ 1 + length first
-      → laid_after check before (numbered number left) ≡ Ok found → Reaches left before found number
+      → layout_after check before (numbered number left) ≡ Ok found → Reaches left before found number
   reaches [] first before found number is at e =
       let same : before ≡ found = cc e in
       record { count = 0; ends = e; texts = ap row_texts (sym same) ∙ sym (append-nil (row_texts before)) }
@@ -209,8 +209,8 @@ module _ (listed : ListsBytes) (all : List (List ℕ)) where
 
       by : (line : Line) → at_line number (check before number text) ≡ Ok line → row_texts (line ∷ before) ≡ row_texts before ++ text ∷ [] → (last : Bool)
           → line.last ≡ last
-          → (if last then Ok (line ∷ before) else laid_after check (line ∷ before) (numbered (number + 1) left)) ≡ Ok found
-          → (laid_after check (line ∷ before) (numbered (number + 1) left) ≡ Ok found → Reaches left (line ∷ before) found (number + 1))
+          → (if last then Ok (line ∷ before) else layout_after check (line ∷ before) (numbered (number + 1) left)) ≡ Ok found
+          → (layout_after check (line ∷ before) (numbered (number + 1) left) ≡ Ok found → Reaches left (line ∷ before) found (number + 1))
           → Reaches (text ∷ left) before found number
       by line there row true last ends next =
           let same : line ∷ before ≡ found = cc ends in
@@ -235,22 +235,22 @@ module _ (source : List ℕ) (program : Program) where
   abbrev own_texts : List (List ℕ)
   own_texts = map (λ row. row.text) (listing_of source).rows
 
-  rows_of : (found : List Line) (answer : Result (List AssembledLine) (Refusal GplCause)) → laid check (line_texts source) ≡ Ok found
+  rows_of : (found : List Line) (answer : Result (List AssembledLine) (Refusal GplCause)) → line_layout check (line_texts source) ≡ Ok found
       → assembled_lines (assembled_line (names found)) found ≡ answer → (answer >>= λ lines. Ok (program_by found lines)) ≡ Ok program
       → (listing_of source).rows ≡ rows (placed_bytes (names found)) (line_texts source) found
-  rows_of found (Err refused) laid e made = cc made
-  rows_of found (Ok lines) laid e made =
-      ap (λ listing. listing.rows) (ap (laid_listing (line_texts source)) laid ∙ ap (assembled_listing (line_texts source) found) e)
+  rows_of found (Err refused) line_layout e made = cc made
+  rows_of found (Ok lines) line_layout e made =
+      ap (λ listing. listing.rows) (ap (layout_listing (line_texts source)) line_layout ∙ ap (assembled_listing (line_texts source) found) e)
 
-  again : (answer : Result (List Line) (Refusal GplCause)) → laid check (line_texts source) ≡ answer → (answer >>= program_after) ≡ Ok program
+  again : (answer : Result (List Line) (Refusal GplCause)) → line_layout check (line_texts source) ≡ answer → (answer >>= program_after) ≡ Ok program
       → program_of_lines own_texts ≡ Ok program
-  again (Err refused) laid made = cc made
-  again (Ok found) laid made =
+  again (Err refused) line_layout made = cc made
+  again (Ok found) line_layout made =
       let listed = placed_bytes (names found) in
-      let laid' : laid_after check [] (numbered 1 all_texts) ≡ Ok found = ap (laid_after check []) (sym texts_are) ∙ laid in
+      let laid' : layout_after check [] (numbered 1 all_texts) ≡ Ok found = ap (layout_after check []) (sym texts_are) ∙ line_layout in
       let part = reaches listed all_texts all_texts [] [] found 1 refl refl laid' in
       let own : own_texts ≡ take part.count all_texts =
-      ap (λ rows. map (λ (row : Row). row.text) rows) (rows_of found (assembled_lines (assembled_line (names found)) found) laid refl made
+      ap (λ rows. map (λ (row : Row). row.text) rows) (rows_of found (assembled_lines (assembled_line (names found)) found) line_layout refl made
       ∙ ap (λ texts. rows listed texts found) texts_are)
       ∙ part.texts in
       ap program_of_lines own ∙ ap (λ answer. answer >>= program_after) part.ends ∙ made
@@ -258,7 +258,7 @@ module _ (source : List ℕ) (program : Program) where
   source_again : program_of_source source ≡ Ok program
       → program_of_lines (texts_read (listing_lines (listing_of source).rows (listing_of source).names)) ≡ Ok program
   source_again is =
-      ap program_of_lines (texts_kept (listing_of source).rows (listing_of source).names) ∙ again (laid check (line_texts source)) refl is
+      ap program_of_lines (texts_kept (listing_of source).rows (listing_of source).names) ∙ again (line_layout check (line_texts source)) refl is
 
 pub listings_are_read : ListingsAreRead
 listings_are_read =

@@ -12,7 +12,7 @@ use Rattle.gpl_counts.proofs.OneCounts.{counts_begin, one_report_of_counts}
 use Rattle.gpl_defs.specs.Image.{Image}
 use Rattle.source_defs.specs.Refusals.{Refusal}
 use Rattle.gpl_source_defs.specs.declared.causes.GplCause.{GplCause}
-use Rattle.report_defs.specs.Laws.{IsFrontOf}
+use Rattle.report_defs.specs.Laws.{IsPrefixOf}
 use Rattle.change_defs.specs.Text.{all_changes_text}
 use Rattle.debug_report_defs.specs.declared.command.DebugCommand.{DebugCommand}
 use Rattle.debug_report_defs.specs.declared.command.DebugCommand.TheVariants.{Gcounts, Grun, Gsteps, Steps}
@@ -34,14 +34,14 @@ one_accepted _ files input first second p q = p ∙ sym q
 
 begins_entered : (limit : ℕ) (image : Image) (entry : Option ℕ) (front report : Report)
     → EnteredReport (ShowsCounts limit) image entry front → EnteredReport (ReportsCounts limit) image entry report
-    → IsFrontOf front report
+    → IsPrefixOf front report
 begins_entered limit image (Some entry) front report p q = counts_begin limit image entry front report p q
-begins_entered limit image None front report p q = subst (λ f. IsFrontOf f report) (sym p) q
+begins_entered limit image None front report p q = subst (λ f. IsPrefixOf f report) (sym p) q
 
 begins_counts : (limit : ℕ) (source : Result Program (Refusal GplCause)) (front report : Report)
-    → ProgramReport (ShowsCounts limit) source front → ProgramReport (ReportsCounts limit) source report → IsFrontOf front report
+    → ProgramReport (ShowsCounts limit) source front → ProgramReport (ReportsCounts limit) source report → IsPrefixOf front report
 begins_counts limit (Ok program) front report p q = begins_entered limit program.image program.entry front report p q
-begins_counts limit (Err refused) front report p q = subst (λ f. IsFrontOf f report) (sym p) q
+begins_counts limit (Err refused) front report p q = subst (λ f. IsPrefixOf f report) (sym p) q
 
 pub one_debug_report : OneDebugReport
 one_debug_report command files input first second p q =

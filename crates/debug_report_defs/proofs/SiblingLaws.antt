@@ -19,7 +19,7 @@ use Rattle.link_defs.specs.LinkedMemory.{LinkedMemory}
 use Rattle.shelf_defs.specs.Files.{of_files}
 use Rattle.shelf_defs.specs.Files.{Contents}
 use Rattle.shelf_defs.specs.Copied.{PlacedLine, CopyRefusal, At, copied_by}
-use Rattle.shelf_defs.specs.Assembly.{in_place, laid_copied, module_by}
+use Rattle.shelf_defs.specs.Assembly.{in_place, layout_copied, module_by}
 use Rattle.report_defs.specs.declared.fault.Fault.TheVariants.{TooLarge}
 use Rattle.report_defs.specs.Exec.{exec_lines, end_status}
 use Rattle.report_defs.specs.ObjectInput.{linked_input}
@@ -61,7 +61,7 @@ refused_by all (Ok lines) = refused_after all lines (assembled_lines (assembled_
 refused_by all (Err refusal) = refl
 
 refused_alike : (contents : Contents) (source : List ℕ) → (listing contents source).refusal ≡ refusal_of (module_by contents source)
-refused_alike contents source = let found = copied_by contents source in refused_by found.lines (laid_copied found)
+refused_alike contents source = let found = copied_by contents source in refused_by found.lines (layout_copied found)
 
 rows_alike : (rows : List (List ℕ)) (answer : Result Module CopyRefusal) → RefuseAlike (rows_report rows (refusal_of answer)) (copy_report answer)
 rows_alike rows (Err (At place cause)) = record { status = refl; line = refl }

@@ -13,7 +13,7 @@ use Rattle.report_defs.specs.Trace.{SeenState, seen_state, step_front, step_line
 use Rattle.report_defs.specs.Report.{Report}
 use Rattle.report_defs.specs.Report as bench
 use Rattle.report_defs.specs.declared.command.Command.TheVariants.{Run}
-use Rattle.report_defs.specs.Laws.{IsFrontOf}
+use Rattle.report_defs.specs.Laws.{IsPrefixOf}
 use Rattle.change_defs.specs.Steps.{state_applied, changes_after}
 use Rattle.change_defs.specs.Text.{step_text, all_changes_text}
 use Rattle.debug_report_defs.specs.declared.command.DebugCommand.{DebugCommand}
@@ -33,7 +33,7 @@ OneDebugReport =
 abbrev pub DebugFrontsBeginReports : Type 0
 DebugFrontsBeginReports =
     (command : DebugCommand) (files : Files) (input : List ℕ) (front report : Report)
-    → PrefixOn command input front → ReportOn command files input report → IsFrontOf front report
+    → PrefixOn command input front → ReportOn command files input report → IsPrefixOf front report
 
 -- the law, which is proved: `grun` has the reports of `run` of `ti_bench`, and no others
 abbrev pub GrunReportsAsRun : Type 0

@@ -3,5 +3,5 @@ pub mod TokenLaws
 pub mod CharacterLaws
 pub mod SymbolLaws
 pub mod GrowingLaws
-pub mod LaidLaws
+pub mod LayoutLaws
 pub mod DefinedNames

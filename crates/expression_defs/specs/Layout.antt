@@ -12,7 +12,7 @@ use Rattle.expression_defs.specs.Symbols.{Names}
 -- What a line comes to by its first checks: its number; the location that it sets, if it sets one; the bytes that are
 -- left free before it, so that it stands at an even place; its size; the names that it defines; what it says; and
 -- whether the source ends with it.
-pub record Laid (P S : Type 0) : Type 0 where
+pub record LayoutLine (P S : Type 0) : Type 0 where
   pub number : ℕ
   pub origin : Option P
   pub gap : ℕ
@@ -27,28 +27,28 @@ set_or (Some origin) before = origin
 set_or None before = before
 
 -- the lines from the last origin line on, the nearest first
-abbrev pub since_origin : {P S : Type 0} → List (Laid P S) → List (Laid P S)
+abbrev pub since_origin : {P S : Type 0} → List (LayoutLine P S) → List (LayoutLine P S)
 since_origin [] = []
 since_origin (line ∷ before) = line ∷ (if is_some line.origin then [] else since_origin before)
 
 -- the bytes that lines take, with those that are left free before them
-abbrev pub bytes_taken : {P S : Type 0} → List (Laid P S) → ℕ
+abbrev pub bytes_taken : {P S : Type 0} → List (LayoutLine P S) → ℕ
 bytes_taken [] = 0
 bytes_taken (line ∷ before) = bytes_taken before + (line.gap + line.size)
 
 -- lines by the location at which their source starts, and the location some bytes after one
 module _ {P S : Type 0} (start : P) (after : P → ℕ → P) where
   -- the location that the last origin line sets
-  abbrev pub origin : List (Laid P S) → P
+  abbrev pub origin : List (LayoutLine P S) → P
   origin [] = start
   origin (line ∷ before) = set_or line.origin (origin before)
 
   -- The location after the lines: the last origin, and the sizes of the lines from it on.
-  abbrev pub location : List (Laid P S) → P
+  abbrev pub location : List (LayoutLine P S) → P
   location before = after (origin before) (bytes_taken (since_origin before))
 
   -- the place of a line after others
-  abbrev pub place : List (Laid P S) → Laid P S → P
+  abbrev pub place : List (LayoutLine P S) → LayoutLine P S → P
   place before line = after (location before) line.gap
 
 -- names with some more
@@ -57,28 +57,28 @@ with_names names [] = names
 with_names names (entry ∷ entries) = with_names (insert names entry.0 entry.1) entries
 
 -- the names of the lines, beside those that stand for something from the start
-abbrev pub names_of : {P S : Type 0} → Names → List (Laid P S) → Names
+abbrev pub names_of : {P S : Type 0} → Names → List (LayoutLine P S) → Names
 names_of predefined [] = predefined
 names_of predefined (line ∷ before) = with_names (names_of predefined before) line.names
 
 -- lines by the first checks, which see the lines before, the number of a line and its text
-module _ {P S C : Type 0} (check : List (Laid P S) → ℕ → List ℕ → Result (Laid P S) C) where
+module _ {P S C : Type 0} (check : List (LayoutLine P S) → ℕ → List ℕ → Result (LayoutLine P S) C) where
   -- Lines after others, or the first that the checks refuse. Profile: lines after the one that ends the source are not
   -- read.
-  abbrev pub laid_after : List (Laid P S) → List (ℕ × List ℕ) → Result (List (Laid P S)) (Refusal C)
-  laid_after before [] = Ok before
-  laid_after before (line ∷ lines) = do
+  abbrev pub layout_after : List (LayoutLine P S) → List (ℕ × List ℕ) → Result (List (LayoutLine P S)) (Refusal C)
+  layout_after before [] = Ok before
+  layout_after before (line ∷ lines) = do
     found ← at_line line.0 (check before line.0 line.1)
-    if found.last then Ok (found ∷ before) else laid_after (found ∷ before) lines
+    if found.last then Ok (found ∷ before) else layout_after (found ∷ before) lines
 
   -- the lines of a source, or the first that is refused
-  abbrev pub laid : List (ℕ × List ℕ) → Result (List (Laid P S)) (Refusal C)
-  laid lines = laid_after [] lines
+  abbrev pub line_layout : List (ℕ × List ℕ) → Result (List (LayoutLine P S)) (Refusal C)
+  line_layout lines = layout_after [] lines
 
 -- lines by the second checks, which see what the lines before came to, those lines, and the line
-module _ {P S A C : Type 0} (assembled_line : List (Laid P S) → List A → Laid P S → Result A C) where
+module _ {P S A C : Type 0} (assembled_line : List (LayoutLine P S) → List A → LayoutLine P S → Result A C) where
   -- what the lines come to, or the first that the checks refuse
-  abbrev pub assembled_lines : List (Laid P S) → Result (List A) (Refusal C)
+  abbrev pub assembled_lines : List (LayoutLine P S) → Result (List A) (Refusal C)
   assembled_lines [] = Ok []
   assembled_lines (line ∷ before) = do
     earlier ← assembled_lines before
@@ -86,6 +86,6 @@ module _ {P S A C : Type 0} (assembled_line : List (Laid P S) → List A → Lai
     Ok (found ∷ earlier)
 
 -- one of the lines ends the source
-abbrev pub has_ended : {P S : Type 0} → List (Laid P S) → Bool
+abbrev pub has_ended : {P S : Type 0} → List (LayoutLine P S) → Bool
 has_ended [] = false
 has_ended (line ∷ before) = line.last || has_ended before

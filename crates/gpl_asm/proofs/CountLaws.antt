@@ -24,10 +24,10 @@ nothing_checked = record { label = None; statement = Nothing }
 not_full : (here : Location) → IsInGrom here → is_full here Nothing ≡ false
 not_full here is = let le = is.within in grind (arith, nat_tests, le)
 
-nothing_said : (known : Names) (here : Location) (text : List ℕ) → fields text ≡ Ok no_fields → is_full here Nothing ≡ false
+nothing_parsed : (known : Names) (here : Location) (text : List ℕ) → fields text ≡ Ok no_fields → is_full here Nothing ≡ false
     → checked known here text ≡ Ok nothing_checked
 unfolding checked
-nothing_said known here text none fits = rw (none, fits) refl
+nothing_parsed known here text none fits = rw (none, fits) refl
 
 module _ (lines : List Line) (builder new : GplLines) (is : IsAfter lines builder) where
   nothing_comes : Answers builder nothing_checked None
@@ -39,11 +39,11 @@ module _ (lines : List Line) (builder new : GplLines) (is : IsAfter lines builde
 
   pub counted : (text : List ℕ) → fields text ≡ Ok no_fields → Counts builder new → (known : TakenLine)
       → known ≡ record { at = new.location; origin = None; label = None; value = 0 } → Takes lines text (Ok known) new
-  counted text none counts known tells =
+  counted text none counts known describes =
       let there : is_full (location lines) Nothing ≡ false = ap (λ (at : Location). is_full at Nothing) (sym is.location) ∙ fits in
       let here : builder.location.number + 0 ≡ builder.location.number = omega arith in (
         line_of (location lines) (length lines + 1) nothing_checked,
-        ap (λ answer. answer >>= λ found. Ok (line_of (location lines) (length lines + 1) found)) (nothing_said (names lines) (location lines) text none there),
+        ap (λ answer. answer >>= λ found. Ok (line_of (location lines) (length lines + 1) found)) (nothing_parsed (names lines) (location lines) text none there),
         is_after lines builder is nothing_checked None new nothing_comes refl (record {
           waiting = counts.lists.waiting ∙ sym (append-nil builder.waiting.items);
           names = counts.lists.names;
@@ -52,11 +52,11 @@ module _ (lines : List Line) (builder new : GplLines) (is : IsAfter lines builde
           ended = counts.ended;
         }),
         record {
-          at = ap (λ (known : TakenLine). known.at) tells ∙ (counts.location ∙ (is.location ∙ sym (place_is (length lines + 1) nothing_checked lines)));
-          origin = ap (λ (known : TakenLine). known.origin) tells;
-          names = ap (λ (known : TakenLine). label_entry known.label known.value) (sym tells);
+          at = ap (λ (known : TakenLine). known.at) describes ∙ (counts.location ∙ (is.location ∙ sym (place_is (length lines + 1) nothing_checked lines)));
+          origin = ap (λ (known : TakenLine). known.origin) describes;
+          names = ap (λ (known : TakenLine). label_entry known.label known.value) (sym describes);
           room =
-              let at : known.at ≡ builder.location = ap (λ (known : TakenLine). known.at) tells ∙ counts.location in
+              let at : known.at ≡ builder.location = ap (λ (known : TakenLine). known.at) describes ∙ counts.location in
               subst (λ (at : Location). at.number + 0 ≤ 65536) (sym at) (reaches builder.location Nothing builder.placed fits);
         },
       )

@@ -8,14 +8,14 @@ use Rattle.gpl_source_defs.specs.Statements.{Statement}
 use Rattle.gpl_source_defs.specs.FirstChecks.{parsed}
 use Rattle.gpl_source_defs.specs.SecondChecks.{outcome}
 use Rattle.gpl_source_defs.specs.Growing.{is_unresolved}
-use Rattle.gpl_source_defs.proofs.GrowingLaws.{outcome_stays, said_stays}
+use Rattle.gpl_source_defs.proofs.GrowingLaws.{outcome_stays, parse_stays}
 
 -- a line that is read again says what it said, and comes to what it comes to
 pub open_again : (known later : Names) (at : Location) (text : List ℕ) (statement : Statement) → Grows known later → parsed known at text ≡ Ok statement
     → (parsed later at text >>= λ statement. outcome (look_up later) at statement) ≡ outcome (look_up later) at statement
 open_again known later at text statement grows e =
     let closed : is_closed is_unresolved (parsed known at text) ≡ true = ap (is_closed is_unresolved) e in
-    let again : parsed later at text ≡ Ok statement = said_stays known later grows at text closed ∙ e in
+    let again : parsed later at text ≡ Ok statement = parse_stays known later grows at text closed ∙ e in
     ap (λ found. found >>= λ statement. outcome (look_up later) at statement) again
 
 -- a line without open values comes to what it comes to

@@ -17,7 +17,7 @@ use Rattle.gpl_source_defs.specs.Locations.{Line, location, after, origin_of, Is
 use Rattle.gpl_source_defs.specs.FirstChecks.{Checked, checked, line_of, names, label_entry, label_value, is_taken, is_end, is_full}
 use Rattle.gpl_source_defs.specs.SecondChecks.{Outcome, outcome}
 use Rattle.gpl_source_defs.proofs.Sizes.{outcome_size}
-use Rattle.gpl_source_defs.proofs.CheckLaws.{is_let_through, leads}
+use Rattle.gpl_source_defs.proofs.CheckLaws.{is_accepted, leads}
 use Rattle.gpl_asm.specs.declared.pending.Rest.{Rest}
 use Rattle.gpl_asm.specs.declared.lines.GplLines.{GplLines}
 use Rattle.gpl_asm.specs.Replay.{Built, put, answer, replay, nothing, WaitsForSome}
@@ -129,7 +129,7 @@ pub leads_on : (known : Names) (at here next : Location) (text : List ℕ) (foun
     → checked known at text ≡ Ok found → at ≡ here → next ≡ here → origin ≡ origin_of here found.statement → IfSome origin (λ origin. origin.grom ≤ 65535)
     → size ≡ declared_size found.statement → IsInGrom here → IsInGrom (after (set_or origin next) size)
 leads_on known at here next text found origin size e same still by le sized is =
-    let through = is_let_through known at text found e in
+    let through = is_accepted known at text found e in
     let fits : is_full here found.statement ≡ false = ap (λ (at : Location). is_full at found.statement) (sym same) ∙ through.fits in
     let le' : IfSome (origin_of here found.statement) (λ origin. origin.grom ≤ 65535) =
     subst (λ (origin : Option Location). IfSome origin (λ origin. origin.grom ≤ 65535)) by le in

@@ -4,7 +4,7 @@ use Rattle.source_defs.specs.Refusals.{Refusal, ◌>>=◌}
 use Rattle.expression_defs.specs.Symbols.{Names}
 use Rattle.expression_defs.specs.Growing.{Grows}
 use Rattle.source_defs.specs.Lines.{numbered}
-use Rattle.expression_defs.specs.Layout.{laid, assembled_lines, has_ended}
+use Rattle.expression_defs.specs.Layout.{line_layout, assembled_lines, has_ended}
 use Rattle.gpl_source_defs.specs.declared.causes.GplCause.{GplCause}
 use Rattle.gpl_source_defs.specs.Locations.{Line, location, place}
 use Rattle.gpl_source_defs.specs.FirstChecks.{names, check, label_entry}
@@ -34,7 +34,7 @@ pub record IsAfter (lines : List Line) (builder : GplLines) : Type 0 where
       → whole later lines ≡ replay later nothing builder.waiting.items
 
 -- what is returned of a line that was taken after others
-pub record Tells (lines : List Line) (line : Line) (known : TakenLine) : Type 0 where
+pub record DescribesLine (lines : List Line) (line : Line) (known : TakenLine) : Type 0 where
   pub at : known.at ≡ place lines line
   pub origin : known.origin ≡ line.origin
   pub names : line.names ≡ label_entry known.label known.value
@@ -45,7 +45,7 @@ pub record Tells (lines : List Line) (line : Line) (known : TakenLine) : Type 0 
 abbrev pub Takes : List Line → List ℕ → Result TakenLine GplError → GplLines → Type 0
 Takes lines text (Ok known) builder =
     (line : Line) × (check lines (length lines + 1) text ≡ Ok line)
-    × IsAfter (line ∷ lines) builder × Tells lines line known
+    × IsAfter (line ∷ lines) builder × DescribesLine lines line known
 Takes lines text (Err (error.At number cause)) builder =
     (number ≡ length lines + 1) × (check lines (length lines + 1) text ≡ Err cause) × NoMemory cause
     × IsAfter lines builder
@@ -54,7 +54,7 @@ Takes lines text (Err error.Memory) builder = IsAfter lines builder
 -- The meaning of a builder: the texts of the lines that it has taken.
 pub record HasAccepted (texts : List (List ℕ)) (builder : GplLines) : Type 0 where
   pub lines : List Line
-  pub laid : laid check (numbered 1 texts) ≡ Ok lines
+  pub line_layout : line_layout check (numbered 1 texts) ≡ Ok lines
   pub all : length lines ≡ length texts
   pub after_lines : IsAfter lines builder
 

@@ -2,7 +2,7 @@
 use Rattle.std.specs.Prelude.{◌≡◌, ℕ, List, [], ◌∷◌, ◌++◌, Result, Ok, Err}
 use Rattle.source_defs.specs.Refusals.{Refusal}
 use Rattle.source_defs.specs.Lines.{numbered}
-use Rattle.expression_defs.specs.Layout.{laid}
+use Rattle.expression_defs.specs.Layout.{line_layout}
 use Rattle.gpl_source_defs.specs.declared.causes.GplCause.{GplCause}
 use Rattle.gpl_source_defs.specs.FirstChecks.{check}
 use Rattle.gpl_source_defs.specs.Programs.{Program}
@@ -24,4 +24,4 @@ GivesProgram (Err error) defined = RefusesAt error defined
 abbrev pub AcceptsText : {A : Type 0} → List (List ℕ) → List ℕ → Result A GplError → GplLines → Type 0
 AcceptsText texts text (Ok _) builder = HasAccepted (texts ++ text ∷ []) builder
 AcceptsText texts text (Err error) builder =
-    RefusesAt error (laid check (numbered 1 (texts ++ text ∷ []))) × HasAccepted texts builder
+    RefusesAt error (line_layout check (numbered 1 (texts ++ text ∷ []))) × HasAccepted texts builder

@@ -15,7 +15,7 @@ pub record SameLists (old new : GplLines) : Type 0 where
   pub names : new.symbols ≡ old.symbols
 
 -- the location and the rest are as before
-pub record StandsStill (old new : GplLines) : Type 0 where
+pub record KeepsRest (old new : GplLines) : Type 0 where
   pub location : new.location ≡ old.location
   pub taken : new.taken ≡ old.taken
   pub ended : new.ended ≡ old.ended

@@ -11,7 +11,7 @@ ghost use Rattle.gpl_source_defs.specs.Growing as growing;
 ghost use Rattle.gpl_lines.specs.Defined.{model_of_statement};
 ghost use Rattle.gpl_lines.specs.Validity.{IsValid};
 ghost use Rattle.gpl_asm.specs.Replay.{answer, WaitsForSome};
-ghost use Rattle.gpl_asm.specs.Keeping.{pending_of, StandsStill};
+ghost use Rattle.gpl_asm.specs.Keeping.{pending_of, KeepsRest};
 ghost use Rattle.gpl_asm.specs.Room.{AllHaveRoom};
 
 use crate::lines::GplLines;
@@ -82,7 +82,7 @@ impl GplLines {
         ensures defined { OnOk result (self.new.symbols ≡ with_names self.old.symbols (label_entry label number)) }
         ensures same { OnErr result (self.new.waiting.items ≡ self.old.waiting.items) }
         ensures names { OnErr result (self.new.symbols ≡ self.old.symbols) }
-        ensures still { StandsStill self.old self.new }
+        ensures still { KeepsRest self.old self.new }
     {
         let waiting = self.waiting.len();
         self.wait(rest)?;
@@ -102,7 +102,7 @@ impl GplLines {
         ensures waiting { OnOk result (self.new.waiting.items ≡ self.old.waiting.items ++ pending_of self.old rest) }
         ensures same { OnErr result (self.new.waiting.items ≡ self.old.waiting.items) }
         ensures names { self.new.symbols ≡ self.old.symbols }
-        ensures still { StandsStill self.old self.new }
+        ensures still { KeepsRest self.old self.new }
     {
         let Some(rest) = rest else {
             return Ok(());

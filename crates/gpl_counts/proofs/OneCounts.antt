@@ -9,7 +9,7 @@ use Rattle.gpl_step_defs.specs.Run.{run}
 use Rattle.interp_defs.specs.Programs.{RunsProgram}
 use Rattle.interp_defs.proofs.OneMachine.{one_machine_is_left}
 use Rattle.report_defs.proofs.Ranges.{mapped_split}
-use Rattle.report_defs.specs.Laws.{IsFrontOf}
+use Rattle.report_defs.specs.Laws.{IsPrefixOf}
 use Rattle.report_defs.specs.declared.status.Status.TheVariants.{Done}
 use Rattle.report_defs.specs.Program.{program_status}
 use Rattle.report_defs.specs.Report.{Report, Whole, run_lines}
@@ -79,7 +79,7 @@ later s f made done le =
 module _ (limit : ℕ) (image : Image) (entry : ℕ) (front report : Report) where
   begins_at : (b : List ℕ) (made : ℕ) → made ≤ (run limit (start b entry)).done → (x : MachineState)
       → (p : RunsProgram b entry made x) → front ≡ Whole Done (count_lines (start b entry) p.machine made)
-      → Makes limit image entry report b → IsFrontOf front report
+      → Makes limit image entry report b → IsPrefixOf front report
   begins_at b made within x p is (y, q, all) =
       let s = start b entry in
       let r = run limit s in
@@ -92,11 +92,11 @@ module _ (limit : ℕ) (image : Image) (entry : ℕ) (front report : Report) whe
       let lines : count_lines s q.machine r.done ++ tail ≡ count_lines s p.machine made ++ (rest.0 ++ tail) =
       ap (λ (l : List (List ℕ)). l ++ tail) (rest.1 ∙ ap (λ (l : List (List ℕ)). l ++ rest.0) (sym same))
       ∙ append_assoc (count_lines s p.machine made) rest.0 tail in
-      subst (λ (f : Report). IsFrontOf f report) (sym is)
+      subst (λ (f : Report). IsPrefixOf f report) (sym is)
       (program_status r.stop, rest.0 ++ tail, all ∙ ap (Whole (program_status r.stop)) lines)
 
 pub counts_begin : (limit : ℕ) (image : Image) (entry : ℕ) (front report : Report) → ShowsCounts limit image entry front
-    → ReportsCounts limit image entry report → IsFrontOf front report
+    → ReportsCounts limit image entry report → IsPrefixOf front report
 counts_begin limit image entry front report p q =
     let bytes : q.bytes ≡ p.bytes = bytes_alone image q.bytes p.bytes q.of_image p.of_image in
     begins_at limit image entry front report p.bytes p.made p.within p.left p.runs p.is

@@ -28,37 +28,37 @@ use Rattle.gpl_defs.specs.Valid.{is_valid, is_valid_source, is_valid_move, has_w
 use Rattle.gpl_defs.specs.Bytes.{word_bytes, value_bytes, from_bytes, kind_of, operation_of, is_immediate, is_counted}
 use Rattle.gpl_defs.specs.Bytes.{variant_of, code_of}
 use Rattle.gpl_defs.specs.Spellings.{SpellsSource, SpellsLength, SpellsTarget, SpellsFrom, SpellsRest}
-use Rattle.gpl_defs.specs.Spellings.{Stand, Holds, Joined, Means}
+use Rattle.gpl_defs.specs.Spellings.{AreBytesAt, Holds, Joined, Means}
 use Rattle.gpl_defs.specs.Reading.{word_at, value_at, source_at, length_at, target_at, from_at, move_at, instr_at, operand_at}
 use Rattle.gpl_defs.specs.Reading.{reading}
 use Rattle.gpl_defs.proofs.CodeLaws.{found, rows_fit, row_fits, row_begins, row_ends}
-use Rattle.gpl_defs.proofs.StandLaws.{holds_part}
+use Rattle.gpl_defs.proofs.BytesAtLaws.{holds_part}
 use Rattle.gpl_defs.proofs.OperandLaws.{operand_back}
 use Rattle.base_defs.specs.Counts.{one_if}
 
 -- ---- from the spelling to what is read
 
-word_back : (image : List ℕ) (word at next : ℕ) → Stand image (word_bytes word) at next →
+word_back : (image : List ℕ) (word at next : ℕ) → AreBytesAt image (word_bytes word) at next →
     word_at image at ≡ (word, next)
-word_back image word at next stands =
-    let whole : join (high word) (low word) ≡ word = omega arith in rw (stands.0, stands.1.0, stands.1.1, whole) refl
+word_back image word at next are_at =
+    let whole : join (high word) (low word) ≡ word = omega arith in rw (are_at.0, are_at.1.0, are_at.1.1, whole) refl
 
-value_back : (image : List ℕ) (word : Bool) (value at next : ℕ) → Stand image (value_bytes word value) at next →
+value_back : (image : List ℕ) (word : Bool) (value at next : ℕ) → AreBytesAt image (value_bytes word value) at next →
     value_at word image at ≡ (value, next)
-value_back image true value at next stands = word_back image value at next stands
-value_back image false value at next stands = rw (stands.0, stands.1) refl
+value_back image true value at next are_at = word_back image value at next are_at
+value_back image false value at next are_at = rw (are_at.0, are_at.1) refl
 
 source_back : (image : List ℕ) (word : Bool) (src : GplSource) (at next : ℕ) →
     Holds (SpellsSource word src) image at next → source_at (is_immediate src) word image at ≡ (src, next)
 source_back image word (source.At operand) at next holds = rw (operand_back image operand at next holds) refl
 source_back image word (source.Immediate value) at next holds =
-    rw (value_back image word value at next (rw holds.is_kind at holds.stand)) refl
+    rw (value_back image word value at next (rw holds.is_kind at holds.are_bytes_at)) refl
 
 length_back : (image : List ℕ) (count : MoveLength) (at next : ℕ) → Holds (SpellsLength count) image at next →
     length_at (is_counted count) image at ≡ (count, next)
 length_back image (counted.At operand) at next holds = rw (operand_back image operand at next holds) refl
 length_back image (counted.Immediate count) at next holds =
-    ap (λ (read : ℕ × ℕ). (counted.Immediate read.0, read.1)) (word_back image count at next (rw holds.is_kind at holds.stand))
+    ap (λ (read : ℕ × ℕ). (counted.Immediate read.0, read.1)) (word_back image count at next (rw holds.is_kind at holds.are_bytes_at))
 
 memory_target : (image : List ℕ) (operand : GplOperand) (source : MoveSource) (at next : ℕ) →
     operand_at image at ≡ (operand, next) →
@@ -72,22 +72,22 @@ target_back : (image : List ℕ) (to : MoveTarget) (source : MoveSource) (at nex
 target_back image (target.At operand) source at next holds =
     memory_target image operand source at next (operand_back image operand at next holds)
 target_back image (target.Register number) source at next holds =
-    let stands : Stand image (number ∷ []) at next = rw holds.is_kind at holds.stand in rw (stands.0, stands.1) refl
+    let are_at : AreBytesAt image (number ∷ []) at next = rw holds.is_kind at holds.are_bytes_at in rw (are_at.0, are_at.1) refl
 
 from_back : (image : List ℕ) (to : MoveTarget) (source : MoveSource) (at next : ℕ) → IsTrue (is_valid_move to source) →
     Holds (SpellsFrom source) image at next → from_at (kind_of to source) image at ≡ (source, next)
 from_back image (target.At operand) (from.At place) at next valid holds = rw (operand_back image place at next holds) refl
 from_back image (target.At operand) (from.Grom address) at next valid holds =
-    ap (λ (read : ℕ × ℕ). (from.Grom read.0, read.1)) (word_back image address at next (rw holds.is_kind at holds.stand))
+    ap (λ (read : ℕ × ℕ). (from.Grom read.0, read.1)) (word_back image address at next (rw holds.is_kind at holds.are_bytes_at))
 from_back image (target.At operand) (from.GromIndexed address index) at next valid holds =
-    let stands : Stand image (from_bytes (from.GromIndexed address index)) at next = rw holds.is_kind at holds.stand in
-    let word = word_back image address at (next_in_grom (next_in_grom at)) (stands.0, (stands.1.0, refl)) in
+    let are_at : AreBytesAt image (from_bytes (from.GromIndexed address index)) at next = rw holds.is_kind at holds.are_bytes_at in
+    let word = word_back image address at (next_in_grom (next_in_grom at)) (are_at.0, (are_at.1.0, refl)) in
     ap
     (λ (read : ℕ × ℕ). (from.GromIndexed read.0 (slice_index image read.1), next_in_grom read.1))
     word
-    ∙ rw (stands.1.1.0, stands.1.1.1) refl
+    ∙ rw (are_at.1.1.0, are_at.1.1.1) refl
 from_back image (target.Register number) (from.Grom address) at next valid holds =
-    ap (λ (read : ℕ × ℕ). (from.Grom read.0, read.1)) (word_back image address at next (rw holds.is_kind at holds.stand))
+    ap (λ (read : ℕ × ℕ). (from.Grom read.0, read.1)) (word_back image address at next (rw holds.is_kind at holds.are_bytes_at))
 from_back image (target.Register number) (from.At place) at next valid holds = absurd (cc)
 from_back image (target.Register number) (from.GromIndexed address index) at next valid holds = absurd (cc)
 
@@ -166,17 +166,17 @@ has_row instr valid =
 instr_back : (image : List ℕ) (instr : GplInstr) (at next : ℕ) → IsTrue (is_valid instr) →
     Holds (SpellsRest instr) image at next → row_fits (Some (operation_of instr)) (code_of instr) ≡ true →
     instr_at (operation_of instr) (code_of instr) image at ≡ (instr, next)
-instr_back image (Plain op) at next valid holds fits = rw (rw holds.is_kind at holds.stand) refl
+instr_back image (Plain op) at next valid holds fits = rw (rw holds.is_kind at holds.are_bytes_at) refl
 instr_back image (Byte op value) at next valid holds fits =
-    let stands : Stand image (value ∷ []) at next = rw holds.is_kind at holds.stand in rw (stands.0, stands.1) refl
+    let are_at : AreBytesAt image (value ∷ []) at next = rw holds.is_kind at holds.are_bytes_at in rw (are_at.0, are_at.1) refl
 instr_back image (Jump op to) at next valid holds fits =
-    ap (λ (read : ℕ × ℕ). (Jump op read.0, read.1)) (word_back image to at next (rw holds.is_kind at holds.stand))
+    ap (λ (read : ℕ × ℕ). (Jump op read.0, read.1)) (word_back image to at next (rw holds.is_kind at holds.are_bytes_at))
 instr_back image (Branch on offset) at next valid holds fits =
-    let stands : Stand image (low offset ∷ []) at next = rw holds.is_kind at holds.stand in
+    let are_at : AreBytesAt image (low offset ∷ []) at next = rw holds.is_kind at holds.are_bytes_at in
     let lt : offset < 0x2000 = grind (arith, nat_tests, valid) in
     let top : code_of (Branch on offset) % 32 ≡ high offset = grind (arith, nat_tests, fits) in
     let whole : join (high offset) (low offset) ≡ offset = omega arith in
-    rw (top, stands.0, stands.1, whole) refl
+    rw (top, are_at.0, are_at.1, whole) refl
 instr_back image (One op word operand) at next valid holds fits =
     let bit : (code_of (One op word operand) % 2 == 1) ≡ word =
     word_bit word _ (let few = one_if_few word in grind (arith, nat_tests, fits)) in
@@ -204,8 +204,8 @@ pub means_back : (image : List ℕ) (at : ℕ) (instr : GplInstr) (next : ℕ) �
     reading image at ≡ Instr instr next
 unfolding reading
 means_back image at instr next means =
-    let stands : Stand image (code_of instr ∷ means.is_kind.rest) at next = rw means.is_kind.is at means.stand in
+    let are_at : AreBytesAt image (code_of instr ∷ means.is_kind.rest) at next = rw means.is_kind.is at means.are_bytes_at in
     let row = has_row instr means.is_kind.valid in
     let rest : Holds (SpellsRest instr) image (next_in_grom at) next =
-    record { bytes = means.is_kind.rest; is_kind = means.is_kind.is_rest; stand = stands.1 } in
-    rw (stands.0, row.row, instr_back image instr (next_in_grom at) next means.is_kind.valid rest row.fits) refl
+    record { bytes = means.is_kind.rest; is_kind = means.is_kind.is_rest; are_bytes_at = are_at.1 } in
+    rw (are_at.0, row.row, instr_back image instr (next_in_grom at) next means.is_kind.valid rest row.fits) refl

@@ -1,5 +1,5 @@
 pub mod CodeLaws
-pub mod StandLaws
+pub mod BytesAtLaws
 pub mod OperandLaws
 pub mod InstrLaws
 pub mod ReadLaws

@@ -34,7 +34,7 @@ reads image at operation bytes row =
           is_rest = rest.is_kind;
           is = refl;
         };
-        stand = (sym code, rest.stand);
+        are_bytes_at = (sym code, rest.are_bytes_at);
       };
     }
 
@@ -51,8 +51,8 @@ reading_means image at bytes = by (operation_at (slice_index image at)) refl
 
 -- the bytes that are written are read as the instruction
 pub bytes_read : (instr : GplInstr) → IsTrue (is_valid instr) → AreReadAs instr (bytes_of instr)
-bytes_read instr valid image at next stands =
-    means_back image at instr next (record { bytes = bytes_of instr; is_kind = bytes_spell instr valid; stand = stands })
+bytes_read instr valid image at next are_at =
+    means_back image at instr next (record { bytes = bytes_of instr; is_kind = bytes_spell instr valid; are_bytes_at = are_at })
 
 pub one_meaning : OneMeaning
 one_meaning image at instr other next after means means_too =

@@ -9,7 +9,7 @@ use Rattle.gpl_defs.specs.declared.instruction.Space.{Space}
 use Rattle.gpl_defs.specs.declared.instruction.Space.TheVariants.{Cpu, Vdp}
 use Rattle.gpl_defs.specs.declared.instruction.GplOperand.{GplOperand}
 use Rattle.gpl_defs.specs.Bytes.{is_vdp, form_bits, index_bytes, fits_one_byte}
-use Rattle.gpl_defs.specs.Spellings.{Spelling, OneByte, TwelveBits, SixteenBits, may_have, spelled, SpellsOperand, Stand, Holds}
+use Rattle.gpl_defs.specs.Spellings.{Spelling, OneByte, TwelveBits, SixteenBits, may_have, spelled, SpellsOperand, AreBytesAt, Holds}
 use Rattle.gpl_defs.specs.Reading.{Read, ◌>>=◌, give, read_as, byte_at, space_of, address_at, index_by, plain_operand}
 use Rattle.gpl_defs.specs.Reading.{word_at, operand_at}
 use Rattle.base_defs.specs.Counts.{one_if}
@@ -86,18 +86,18 @@ first_bits operand top lt =
 
 -- an index that is there, or none
 index_back : (image : List ℕ) (index : Option ℕ) (first at next : ℕ) → (first / 64 % 2 ≡ one_if (is_some index)) →
-    Stand image (index_bytes index) at next → index_at first image at ≡ (index, next)
-index_back image None first at next bit stands = rw (bit, stands) refl
-index_back image (Some index) first at next bit stands = rw (bit, stands.0, stands.1) refl
+    AreBytesAt image (index_bytes index) at next → index_at first image at ≡ (index, next)
+index_back image None first at next bit are_at = rw (bit, are_at) refl
+index_back image (Some index) first at next bit are_at = rw (bit, are_at.0, are_at.1) refl
 
 -- what follows the address
 rest_back : (image : List ℕ) (operand : GplOperand) (first top at next : ℕ) →
     Bits first (one_if (is_some operand.index)) (one_if (is_vdp operand.space)) (one_if operand.indirect) top →
-    Stand image (index_bytes operand.index) at next →
+    AreBytesAt image (index_bytes operand.index) at next →
     with_address first image (operand.address, at) ≡ (operand, next)
-rest_back image operand first top at next bits stands =
+rest_back image operand first top at next bits are_at =
     rw (
-      index_back image operand.index first at next bits.index_bit stands,
+      index_back image operand.index first at next bits.index_bit are_at,
       bits.vdp_bit,
       bits.indirect_bit,
       one_if_is (is_vdp operand.space),
@@ -108,11 +108,11 @@ rest_back image operand first top at next bits stands =
 
 long_back : (image : List ℕ) (operand : GplOperand) (first top at after next : ℕ) →
     Bits first (one_if (is_some operand.index)) (one_if (is_vdp operand.space)) (one_if operand.indirect) top →
-    address_at first image at ≡ (operand.address, after) → Stand image (index_bytes operand.index) after next →
+    address_at first image at ≡ (operand.address, after) → AreBytesAt image (index_bytes operand.index) after next →
     operand_from first image at ≡ (operand, next)
-long_back image operand first top at after next bits address stands =
+long_back image operand first top at after next bits address are_at =
     let test : nat_lt first 0x80 ≡ false = grind (arith, nat_tests, bits.long) in
-    rw (test, address) (rest_back image operand first top after next bits stands)
+    rw (test, address) (rest_back image operand first top after next bits are_at)
 
 plain_back : (space : Space) (indirect : Bool) (address : ℕ) (index : Option ℕ) →
     IsTrue (fits_one_byte (record { space = space; indirect = indirect; address = address; index = index })) →
@@ -148,28 +148,28 @@ sixteen_back image first address at top second third =
     rw (top, second, third, whole) refl
 
 spelled_back : (image : List ℕ) (operand : GplOperand) (spelling : Spelling) (at next : ℕ) →
-    IsTrue (may_have spelling operand) → Stand image (spelled spelling operand) at next →
+    IsTrue (may_have spelling operand) → AreBytesAt image (spelled spelling operand) at next →
     operand_from (slice_index image at) image (next_in_grom at) ≡ (operand, next)
-spelled_back image operand OneByte at next allowed stands =
-    rw (stands.0, one_byte_back image operand (next_in_grom at) allowed, stands.1) refl
-spelled_back image operand TwelveBits at next allowed stands =
+spelled_back image operand OneByte at next allowed are_at =
+    rw (are_at.0, one_byte_back image operand (next_in_grom at) allowed, are_at.1) refl
+spelled_back image operand TwelveBits at next allowed are_at =
     let lt : operand.address < 0x0F00 = grind (arith, nat_tests, allowed) in
     let bits = first_bits operand (high operand.address) (omega arith) in
     let address =
-    twelve_back image (form_bits operand + high operand.address) operand.address (next_in_grom at) lt bits.top_bits stands.1.0 in
-    rw stands.0 (long_back image operand _ _ (next_in_grom at) (next_in_grom (next_in_grom at)) next bits address stands.1.1)
-spelled_back image operand SixteenBits at next allowed stands =
+    twelve_back image (form_bits operand + high operand.address) operand.address (next_in_grom at) lt bits.top_bits are_at.1.0 in
+    rw are_at.0 (long_back image operand _ _ (next_in_grom at) (next_in_grom (next_in_grom at)) next bits address are_at.1.1)
+spelled_back image operand SixteenBits at next allowed are_at =
     let bits = first_bits operand 15 (omega arith) in
     let address =
-    sixteen_back image (form_bits operand + 15) operand.address (next_in_grom at) bits.top_bits stands.1.0 stands.1.1.0 in
-    rw stands.0 (long_back image operand _ _ (next_in_grom at) _ next bits address stands.1.1.1)
+    sixteen_back image (form_bits operand + 15) operand.address (next_in_grom at) bits.top_bits are_at.1.0 are_at.1.1.0 in
+    rw are_at.0 (long_back image operand _ _ (next_in_grom at) _ next bits address are_at.1.1.1)
 
 -- an operand is read from each of its spellings
 pub operand_back : (image : List ℕ) (operand : GplOperand) (at next : ℕ) → Holds (SpellsOperand operand) image at next →
     operand_at image at ≡ (operand, next)
 unfolding operand_at
 operand_back image operand at next holds =
-    spelled_back image operand holds.is_kind.spelling at next holds.is_kind.allowed (rw holds.is_kind.is at holds.stand)
+    spelled_back image operand holds.is_kind.spelling at next holds.is_kind.allowed (rw holds.is_kind.is at holds.are_bytes_at)
 
 -- ---- what is read is spelled there
 
@@ -207,7 +207,7 @@ form_is image first address at from lt =
     ) (first_is first from lt)
 
 index_read : (test : Bool) (image : List ℕ) (at : ℕ) →
-    Stand image (index_bytes (index_by test image at).0) at (index_by test image at).1
+    AreBytesAt image (index_bytes (index_by test image at).0) at (index_by test image at).1
 index_read true image at = (refl, refl)
 index_read false image at = refl
 
@@ -220,7 +220,7 @@ small_read image at lt =
     record {
       bytes = slice_index image at ∷ [];
       is_kind = record { spelling = OneByte; allowed = grind (arith, nat_tests); is = refl };
-      stand = (refl, refl);
+      are_bytes_at = (refl, refl);
     }
 
 twelve_read : (image : List ℕ) (at : ℕ) → 128 ≤ slice_index image at → slice_index image at < 256 →
@@ -242,7 +242,7 @@ twelve_read image at from lt second_lt short =
             let below : low (join (first % 16) second) ≡ second = omega arith in
             rw (top, below, form) refl);
       };
-      stand = (refl, (refl, index_read (first / 64 % 2 == 1) image (next_in_grom (next_in_grom at))));
+      are_bytes_at = (refl, (refl, index_read (first / 64 % 2 == 1) image (next_in_grom (next_in_grom at))));
     }
 
 sixteen_read : (image : List ℕ) (at : ℕ) → 128 ≤ slice_index image at → slice_index image at < 256 →
@@ -266,7 +266,7 @@ sixteen_read image at from lt second_lt third_lt ones =
             let sum : form_bits (long image first (join second third) after) + 15 ≡ first = omega arith in
             rw (top, below, sum) refl);
       };
-      stand = (refl, (refl, (refl, index_read (first / 64 % 2 == 1) image after)));
+      are_bytes_at = (refl, (refl, (refl, index_read (first / 64 % 2 == 1) image after)));
     }
 
 -- an operand that is read is spelled there

@@ -18,15 +18,15 @@ use Rattle.gpl_defs.specs.declared.instruction.GplOperation.TheVariants as opera
 use Rattle.gpl_defs.specs.Valid.{is_valid, is_valid_source, is_valid_move, has_immediate}
 use Rattle.gpl_defs.specs.Bytes.{word_bytes, value_bytes, from_bytes, kind_of, operation_of, is_immediate, is_counted}
 use Rattle.gpl_defs.specs.Bytes.{code_of}
-use Rattle.gpl_defs.specs.Spellings.{SpellsSource, SpellsLength, SpellsTarget, SpellsFrom, SpellsRest, Stand, Holds}
+use Rattle.gpl_defs.specs.Spellings.{SpellsSource, SpellsLength, SpellsTarget, SpellsFrom, SpellsRest, AreBytesAt, Holds}
 use Rattle.gpl_defs.specs.Reading.{word_at, value_at, source_at, length_at, target_at, from_at, move_at, instr_at, operand_at}
 use Rattle.gpl_defs.proofs.CodeLaws.{row_fits}
-use Rattle.gpl_defs.proofs.StandLaws.{holds_join}
+use Rattle.gpl_defs.proofs.BytesAtLaws.{holds_join}
 use Rattle.gpl_defs.proofs.OperandLaws.{operand_read}
 use Rattle.base_defs.specs.Counts.{one_if}
 
 module _ (image : List ℕ) (fits : (k : ℕ) → slice_index image k < 256) where
-  word_read : (at : ℕ) → Stand image (word_bytes (word_at image at).0) at (word_at image at).1
+  word_read : (at : ℕ) → AreBytesAt image (word_bytes (word_at image at).0) at (word_at image at).1
   word_read at =
       let lt = fits at in
       let lt_too = fits (next_in_grom at) in
@@ -34,25 +34,25 @@ module _ (image : List ℕ) (fits : (k : ℕ) → slice_index image k < 256) whe
       let below : low (word_at image at).0 ≡ slice_index image (next_in_grom at) = omega arith in
       (sym top, (sym below, refl))
 
-  value_read : (word : Bool) (at : ℕ) → Stand image (value_bytes word (value_at word image at).0) at (value_at word image at).1
+  value_read : (word : Bool) (at : ℕ) → AreBytesAt image (value_bytes word (value_at word image at).0) at (value_at word image at).1
   value_read true at = word_read at
   value_read false at = (refl, refl)
 
   source_read : (immediate word : Bool) (at : ℕ) →
       Holds (SpellsSource word (source_at immediate word image at).0) image at (source_at immediate word image at).1
   source_read true word at =
-      record { bytes = value_bytes word (value_at word image at).0; is_kind = refl; stand = value_read word at }
+      record { bytes = value_bytes word (value_at word image at).0; is_kind = refl; are_bytes_at = value_read word at }
   source_read false word at = operand_read image at fits
 
   length_read : (immediate : Bool) (at : ℕ) →
       Holds (SpellsLength (length_at immediate image at).0) image at (length_at immediate image at).1
-  length_read true at = record { bytes = word_bytes (word_at image at).0; is_kind = refl; stand = word_read at }
+  length_read true at = record { bytes = word_bytes (word_at image at).0; is_kind = refl; are_bytes_at = word_read at }
   length_read false at = operand_read image at fits
 
   target_read : (kind : MoveKind) (at : ℕ) →
       Holds (SpellsTarget (target_at kind image at).0) image at (target_at kind image at).1
   target_read GromToRegisters at =
-      record { bytes = slice_index image at ∷ []; is_kind = refl; stand = (refl, refl) }
+      record { bytes = slice_index image at ∷ []; is_kind = refl; are_bytes_at = (refl, refl) }
   target_read GromToMemory at = operand_read image at fits
   target_read GromIndexedToMemory at = operand_read image at fits
   target_read MemoryToMemory at = operand_read image at fits
@@ -64,11 +64,11 @@ module _ (image : List ℕ) (fits : (k : ℕ) → slice_index image k < 256) whe
       record {
         bytes = from_bytes (from_at GromIndexedToMemory image at).0;
         is_kind = refl;
-        stand = (address.0, (address.1.0, (refl, refl)));
+        are_bytes_at = (address.0, (address.1.0, (refl, refl)));
       }
-  from_read GromToMemory at = record { bytes = word_bytes (word_at image at).0; is_kind = refl; stand = word_read at }
+  from_read GromToMemory at = record { bytes = word_bytes (word_at image at).0; is_kind = refl; are_bytes_at = word_read at }
   from_read GromToRegisters at =
-      record { bytes = word_bytes (word_at image at).0; is_kind = refl; stand = word_read at }
+      record { bytes = word_bytes (word_at image at).0; is_kind = refl; are_bytes_at = word_read at }
 
   move_read : (kind : MoveKind) (immediate : Bool) (at : ℕ) →
       Holds (SpellsRest (move_at kind immediate image at).0) image at (move_at kind immediate image at).1
@@ -80,15 +80,15 @@ module _ (image : List ℕ) (fits : (k : ℕ) → slice_index image k < 256) whe
 
   pub rest_read : (operation : GplOperation) (code at : ℕ) →
       Holds (SpellsRest (instr_at operation code image at).0) image at (instr_at operation code image at).1
-  rest_read (operation.Plain op) code at = record { bytes = []; is_kind = refl; stand = refl }
+  rest_read (operation.Plain op) code at = record { bytes = []; is_kind = refl; are_bytes_at = refl }
   rest_read (operation.Byte op) code at =
-      record { bytes = slice_index image at ∷ []; is_kind = refl; stand = (refl, refl) }
+      record { bytes = slice_index image at ∷ []; is_kind = refl; are_bytes_at = (refl, refl) }
   rest_read (operation.Jump op) code at =
-      record { bytes = word_bytes (word_at image at).0; is_kind = refl; stand = word_read at }
+      record { bytes = word_bytes (word_at image at).0; is_kind = refl; are_bytes_at = word_read at }
   rest_read (operation.Branch on) code at =
       let lt = fits at in
       let below : low (join (code % 32) (slice_index image at)) ≡ slice_index image at = omega arith in
-      record { bytes = low (join (code % 32) (slice_index image at)) ∷ []; is_kind = refl; stand = (sym below, refl) }
+      record { bytes = low (join (code % 32) (slice_index image at)) ∷ []; is_kind = refl; are_bytes_at = (sym below, refl) }
   rest_read (operation.One op) code at = operand_read image at fits
   rest_read (operation.Two op) code at =
       let dst = operand_at image at in

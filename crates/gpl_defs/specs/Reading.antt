@@ -25,7 +25,7 @@ use Rattle.gpl_defs.specs.declared.instruction.GplRead.{GplRead}
 use Rattle.gpl_defs.specs.declared.instruction.GplRead.TheVariants.{Instr, Refused}
 use Rattle.gpl_defs.specs.Codes.{operation_at}
 use Rattle.gpl_defs.specs.Bytes.{operation_of, bytes_of}
-use Rattle.gpl_defs.specs.Spellings.{Stand, Means}
+use Rattle.gpl_defs.specs.Spellings.{AreBytesAt, Means}
 
 -- Something that is read from an address of an image on, with the address after its bytes.
 abbrev pub Read : Type 0 → Type 0
@@ -143,12 +143,12 @@ reading image at =
     read_by (operation_at (slice_index image at)) (slice_index image at) image (next_in_grom at)
 
 -- whether these bytes stand from an address on, one after the other in one GROM
-abbrev pub stand : List ℕ → List ℕ → ℕ → Bool
-stand image [] at = true
-stand image (byte ∷ bytes) at = (slice_index image at == byte) && stand image bytes (next_in_grom at)
+abbrev pub are_bytes_at : List ℕ → List ℕ → ℕ → Bool
+are_bytes_at image [] at = true
+are_bytes_at image (byte ∷ bytes) at = (slice_index image at == byte) && are_bytes_at image bytes (next_in_grom at)
 
 abbrev pub is_shortest_by : List ℕ → ℕ → GplRead → Bool
-is_shortest_by image at (Instr instr next) = stand image (bytes_of instr) at
+is_shortest_by image at (Instr instr next) = are_bytes_at image (bytes_of instr) at
 is_shortest_by image at (Refused code) = false
 
 -- whether an instruction stands at an address in its shortest spelling
@@ -172,4 +172,4 @@ IsReadAt image at (Refused code) = Refuses image at code
 -- wherever these bytes stand, they are read as the instruction
 abbrev pub AreReadAs : GplInstr → List ℕ → Type 0
 AreReadAs instr bytes =
-    (image : List ℕ) (at next : ℕ) → Stand image bytes at next → reading image at ≡ Instr instr next
+    (image : List ℕ) (at next : ℕ) → AreBytesAt image bytes at next → reading image at ≡ Instr instr next

@@ -94,15 +94,15 @@ pub record Spells (instr : GplInstr) (bytes : List ℕ) : Type 0 where
 
 -- From an address on stand these bytes, and another address is the one after them. They follow one another in one GROM:
 -- after the last address of a GROM comes its first. GPL Programmer's Guide, on the GROM address counter.
-abbrev pub Stand : List ℕ → List ℕ → ℕ → ℕ → Type 0
-Stand image [] at next = at ≡ next
-Stand image (byte ∷ bytes) at next = (slice_index image at ≡ byte) × Stand image bytes (next_in_grom at) next
+abbrev pub AreBytesAt : List ℕ → List ℕ → ℕ → ℕ → Type 0
+AreBytesAt image [] at next = at ≡ next
+AreBytesAt image (byte ∷ bytes) at next = (slice_index image at ≡ byte) × AreBytesAt image bytes (next_in_grom at) next
 
 -- from an address up to another stand bytes of a kind
 pub record Holds (Kind : List ℕ → Type 0) (image : List ℕ) (at next : ℕ) : Type 0 where
   pub bytes : List ℕ
   pub is_kind : Kind bytes
-  pub stand : Stand image bytes at next
+  pub are_bytes_at : AreBytesAt image bytes at next
 
 -- what the bytes at an address mean: the instruction that they spell, and the address after them
 abbrev pub Means : List ℕ → ℕ → GplInstr → ℕ → Type 0

@@ -7,7 +7,7 @@ use Rattle.gpl_defs.specs.declared.instruction.GplRead.TheVariants.{Instr, Refus
 use Rattle.gpl_defs.specs.Bytes.{bytes_of}
 use Rattle.gpl_defs.specs.Reading.{reading, IsReadAt}
 use Rattle.gpl_forms.specs.Sizes.{size_between}
-use Rattle.gpl_forms.proofs.SizeLaws.{stands_by_size}
+use Rattle.gpl_forms.proofs.SizeLaws.{are_bytes_by_size}
 use Rattle.gpl_listing_defs.specs.Listing.{boundary, byte_listed, instr_listed, listed_at}
 
 -- whether so many bytes are a whole instruction in its shortest spelling
@@ -31,7 +31,7 @@ read_listed : (image : List ℕ) (at next end : ℕ) (instr : GplInstr) → at <
     listed_at image at end
     ≡ (if is_whole_by at next end (length (bytes_of instr)) then instr_listed instr at else byte_listed image at)
 unfolding listed_at
-read_listed image at next end instr lt read reads = rw (read, stands_by_size image at next instr lt reads read) refl
+read_listed image at next end instr lt read reads = rw (read, are_bytes_by_size image at next instr lt reads read) refl
 
 pub refused_listed : (image : List ℕ) (at end code : ℕ) → reading image at ≡ Refused code →
     listed_at image at end ≡ byte_listed image at

@@ -19,8 +19,8 @@ use Rattle.gpl_defs.specs.declared.instruction.GplRead.TheVariants.{Instr}
 use Rattle.gpl_defs.specs.Valid.{is_valid}
 use Rattle.gpl_defs.specs.Bytes.{index_bytes, value_bytes, bytes_of}
 use Rattle.gpl_defs.specs.Spellings.{Spelling, OneByte, spelled, SpellsOperand, SpellsSource, SpellsLength}
-use Rattle.gpl_defs.specs.Spellings.{SpellsTarget, SpellsFrom, SpellsRest, Spells, Stand}
-use Rattle.gpl_defs.specs.Reading.{reading, stand, ReadsInstr}
+use Rattle.gpl_defs.specs.Spellings.{SpellsTarget, SpellsFrom, SpellsRest, Spells, AreBytesAt}
+use Rattle.gpl_defs.specs.Reading.{reading, are_bytes_at, ReadsInstr}
 use Rattle.gpl_forms.specs.Sizes.{size_between}
 use Rattle.gpl_defs.proofs.MeaningLaws.{bytes_read}
 use Rattle.gpl_defs.proofs.ShortLaws.{bytes_shortest}
@@ -89,10 +89,10 @@ after at count = at / 8192 * 8192 + (at + count) % 8192
 after-next : (at count : ℕ) → after (next_in_grom at) count ≡ after at (suc count)
 after-next at count = omega arith
 
-stand_after : (image bytes : List ℕ) (at next : ℕ) → Stand image bytes at next → next ≡ after at (length bytes)
-stand_after image [] at next stands = omega arith
-stand_after image (byte ∷ bytes) at next stands =
-    stand_after image bytes (next_in_grom at) next stands.1 ∙ after-next at (length bytes)
+bytes_end : (image bytes : List ℕ) (at next : ℕ) → AreBytesAt image bytes at next → next ≡ after at (length bytes)
+bytes_end image [] at next holds_bytes_at = omega arith
+bytes_end image (byte ∷ bytes) at next holds_bytes_at =
+    bytes_end image bytes (next_in_grom at) next holds_bytes_at.1 ∙ after-next at (length bytes)
 
 same_by_test : (a b : ℕ) → (a == b) ≡ true → a ≡ b
 same_by_test a b e = grind (arith, nat_tests)
@@ -100,28 +100,28 @@ same_by_test a b e = grind (arith, nat_tests)
 other_by_test : (a b : ℕ) → (a == b) ≡ false → a ≢ b
 other_by_test a b e same = grind (arith, nat_tests)
 
-stand_first : (image bytes : List ℕ) (byte at : ℕ) (same stands : Bool) → (slice_index image at == byte) ≡ same →
-    stand image bytes (next_in_grom at) ≡ stands → (same && stands) ≡ true →
-    (slice_index image at ≡ byte) × (stand image bytes (next_in_grom at) ≡ true)
-stand_first image bytes byte at true true e f test = (same_by_test (slice_index image at) byte e, f)
-stand_first image bytes byte at _ _ e f test = absurd (cc)
+bytes_first : (image bytes : List ℕ) (byte at : ℕ) (same holds_bytes_at : Bool) → (slice_index image at == byte) ≡ same →
+    are_bytes_at image bytes (next_in_grom at) ≡ holds_bytes_at → (same && holds_bytes_at) ≡ true →
+    (slice_index image at ≡ byte) × (are_bytes_at image bytes (next_in_grom at) ≡ true)
+bytes_first image bytes byte at true true e f test = (same_by_test (slice_index image at) byte e, f)
+bytes_first image bytes byte at _ _ e f test = absurd (cc)
 
 -- a test that bytes stand says where they end
-test_stands : (image bytes : List ℕ) (at : ℕ) → stand image bytes at ≡ true →
-    Stand image bytes at (after at (length bytes))
-test_stands image [] at test = omega arith
-test_stands image (byte ∷ bytes) at test =
+test_bytes : (image bytes : List ℕ) (at : ℕ) → are_bytes_at image bytes at ≡ true →
+    AreBytesAt image bytes at (after at (length bytes))
+test_bytes image [] at test = omega arith
+test_bytes image (byte ∷ bytes) at test =
     let parts =
-    stand_first image bytes byte at (slice_index image at == byte) (stand image bytes (next_in_grom at)) refl refl
+    bytes_first image bytes byte at (slice_index image at == byte) (are_bytes_at image bytes (next_in_grom at)) refl refl
     test in
-    let rest = test_stands image bytes (next_in_grom at) parts.1 in
+    let rest = test_bytes image bytes (next_in_grom at) parts.1 in
     (parts.0, rw (after-next at (length bytes)) at rest)
 
-stands_test : (image bytes : List ℕ) (at next : ℕ) → Stand image bytes at next → stand image bytes at ≡ true
-stands_test image [] at next stands = refl
-stands_test image (byte ∷ bytes) at next stands =
+bytes_test : (image bytes : List ℕ) (at next : ℕ) → AreBytesAt image bytes at next → are_bytes_at image bytes at ≡ true
+bytes_test image [] at next holds_bytes_at = refl
+bytes_test image (byte ∷ bytes) at next holds_bytes_at =
     let same : (slice_index image at == byte) ≡ true = grind (arith, nat_tests) in
-    rw (same, stands_test image bytes (next_in_grom at) next stands.1) refl
+    rw (same, bytes_test image bytes (next_in_grom at) next holds_bytes_at.1) refl
 
 -- ---- the shortest spelling
 
@@ -129,11 +129,11 @@ size-after : (at count : ℕ) → at < 65536 → count ≤ 13 → size_between a
 size-after at count lt few = omega arith
 
 -- an instruction stands in its shortest spelling where that has as many bytes as those from which it was read
-pub stands_by_size : (image : List ℕ) (at next : ℕ) (instr : GplInstr) → at < 65536 →
+pub are_bytes_by_size : (image : List ℕ) (at next : ℕ) (instr : GplInstr) → at < 65536 →
     ReadsInstr image at instr next → reading image at ≡ Instr instr next →
-    stand image (bytes_of instr) at ≡ (length (bytes_of instr) == size_between at next)
-stands_by_size image at next instr lt reads read =
-    by (stand image (bytes_of instr) at) (length (bytes_of instr) == size_between at next) refl refl
+    are_bytes_at image (bytes_of instr) at ≡ (length (bytes_of instr) == size_between at next)
+are_bytes_by_size image at next instr lt reads read =
+    by (are_bytes_at image (bytes_of instr) at) (length (bytes_of instr) == size_between at next) refl refl
   where
     valid : IsTrue (is_valid instr)
     valid = reads.means.is_kind.valid
@@ -143,13 +143,13 @@ stands_by_size image at next instr lt reads read =
 
     there : size_between at next ≡ length reads.means.bytes
     there =
-        rw (stand_after image reads.means.bytes at next reads.means.stand)
+        rw (bytes_end image reads.means.bytes at next reads.means.are_bytes_at)
         (size-after at (length reads.means.bytes) lt few)
 
-    by : (stands same : Bool) → stand image (bytes_of instr) at ≡ stands →
-        (length (bytes_of instr) == size_between at next) ≡ same → stands ≡ same
+    by : (holds_bytes_at same : Bool) → are_bytes_at image (bytes_of instr) at ≡ holds_bytes_at →
+        (length (bytes_of instr) == size_between at next) ≡ same → holds_bytes_at ≡ same
     by true false e f =
-        let back = test_stands image (bytes_of instr) at e in
+        let back = test_bytes image (bytes_of instr) at e in
         let again = bytes_read instr valid image at (after at (length (bytes_of instr))) back in
         let end : next ≡ after at (length (bytes_of instr)) = cc in
         let short : length (bytes_of instr) ≤ 13 =
@@ -161,7 +161,7 @@ stands_by_size image at next instr lt reads read =
         let size : length reads.means.bytes ≡ length (bytes_of instr) =
         sym there ∙ sym (same_by_test (length (bytes_of instr)) (size_between at next) f) in
         let same = (bytes_shortest instr valid).alone reads.means.bytes reads.means.is_kind size in
-        let stands : Stand image (bytes_of instr) at next = rw same at reads.means.stand in
-        let test = stands_test image (bytes_of instr) at next stands in
+        let holds_bytes_at : AreBytesAt image (bytes_of instr) at next = rw same at reads.means.are_bytes_at in
+        let test = bytes_test image (bytes_of instr) at next holds_bytes_at in
         absurd (cc)
     by _ _ e f = refl

@@ -36,16 +36,16 @@ pub fn is_shortest(image: &[u8], at: u16) -> bool
     ensures { result ≡ spec.is_shortest image.now at }
 {
     match read_instr(image, at) {
-        GplRead::Instr { instr, .. } => stands(image, write_instr(&instr).as_slice(), at),
+        GplRead::Instr { instr, .. } => holds_bytes_at(image, write_instr(&instr).as_slice(), at),
         GplRead::Refused(_) => false,
     }
 }
 
 /// Whether bytes stand from an address of 65,536 bytes on, one after the other in one GROM: after its last address
 /// comes its first. GPL Programmer's Guide, on the GROM address counter.
-pub fn stands(image: &[u8], bytes: &[u8], at: u16) -> bool
+pub fn holds_bytes_at(image: &[u8], bytes: &[u8], at: u16) -> bool
     requires { length image.now ≡ 65536 }
-    ensures { result ≡ spec.stand image.now bytes.now at }
+    ensures { result ≡ spec.are_bytes_at image.now bytes.now at }
 {
     let mut place = at;
     for byte in bytes {

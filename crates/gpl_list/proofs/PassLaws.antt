@@ -5,8 +5,8 @@ use Rattle.std.proofs.lemmas.Bool.Decides.{nat_tests}
 use Rattle.source_defs.specs.declared.text.Line.{Line as TextLine}
 use Rattle.source_defs.specs.Lines.{part, lines, numbered, line_texts}
 use Rattle.source_defs.specs.Refusals.{◌>>=◌, at_line}
-use Rattle.expression_defs.specs.Layout.{laid, laid_after, has_ended}
-use Rattle.expression_defs.proofs.LaidLaws.{texts_of, laid_more, goes_on, ends_there, refused_there, first_of_two, none_of_two}
+use Rattle.expression_defs.specs.Layout.{line_layout, layout_after, has_ended}
+use Rattle.expression_defs.proofs.LayoutLaws.{texts_of, layout_more, goes_on, ends_there, refused_there, first_of_two, none_of_two}
 use Rattle.gpl_source_defs.specs.declared.causes.GplCause.{GplCause}
 use Rattle.gpl_source_defs.specs.Locations.{Line}
 use Rattle.gpl_source_defs.specs.FirstChecks.{check}
@@ -50,13 +50,13 @@ take_front (first ∷ front) rest count e = rw e (ap (λ others. first ∷ other
 
 pub record Passed (text : List ℕ) (lines : List Line) (left : List TextLine) : Type 0 where
   pub front : List (List ℕ)
-  pub laid_is : laid check (numbered 1 front) ≡ Ok lines
+  pub layout_is : line_layout check (numbered 1 front) ≡ Ok lines
   pub count : length lines ≡ length front
   pub all : line_texts text ≡ numbered 1 front ++ texts_of text left
-  pub rest : laid_after check lines (texts_of text left) ≡ laid check (line_texts text)
+  pub rest : layout_after check lines (texts_of text left) ≡ line_layout check (line_texts text)
 
 pub passed_none : (text : List ℕ) → Passed text [] (lines text)
-passed_none text = record { front = []; laid_is = refl; count = refl; all = refl; rest = refl }
+passed_none text = record { front = []; layout_is = refl; count = refl; all = refl; rest = refl }
 
 module _ (text : List ℕ) (before : List Line) (line : TextLine) (next : List TextLine) (is : line.number ≡ length before + 1)
     (passed : Passed text before (line ∷ next)) where
@@ -68,10 +68,10 @@ module _ (text : List ℕ) (before : List Line) (line : TextLine) (next : List T
       ap (λ texts. spec.text_of texts line.number) passed.all
       ∙ text_there 1 line.number passed.front (part text line.span) (texts_of text next) there_is
 
-  pub laid_more_is : (found : Line) → check before (length before + 1) (part text line.span) ≡ Ok found → has_ended before ≡ false
-      → laid check (numbered 1 (passed.front ++ part text line.span ∷ [])) ≡ Ok (found ∷ before)
-  laid_more_is found e going =
-      laid_more check (part text line.span) passed.front [] 1 (length before + 1) before (omega (arith, passed.count)) passed.laid_is going
+  pub layout_more_is : (found : Line) → check before (length before + 1) (part text line.span) ≡ Ok found → has_ended before ≡ false
+      → line_layout check (numbered 1 (passed.front ++ part text line.span ∷ [])) ≡ Ok (found ∷ before)
+  layout_more_is found e going =
+      layout_more check (part text line.span) passed.front [] 1 (length before + 1) before (omega (arith, passed.count)) passed.layout_is going
       ∙ ap (λ answer. at_line (length before + 1) answer >>= λ line. Ok (line ∷ before)) e
 
   pub one_longer : length before + 1 ≡ length (passed.front ++ part text line.span ∷ [])
@@ -80,33 +80,33 @@ module _ (text : List ℕ) (before : List Line) (line : TextLine) (next : List T
   abbrev pub has_taken : (found : Line) (builder : GplLines) → check before (length before + 1) (part text line.span) ≡ Ok found → has_ended before ≡ false
       → IsAfter (found ∷ before) builder → HasAccepted (passed.front ++ part text line.span ∷ []) builder
   has_taken found builder e going after_lines =
-      record { lines = found ∷ before; laid = laid_more_is found e going; all = let longer = one_longer in omega (arith, longer); after_lines = after_lines }
+      record { lines = found ∷ before; line_layout = layout_more_is found e going; all = let longer = one_longer in omega (arith, longer); after_lines = after_lines }
 
   pub passed_more : (found : Line) → check before (length before + 1) (part text line.span) ≡ Ok found → has_ended before ≡ false
       → (found.last || has_ended before) ≡ false → Passed text (found ∷ before) next
   passed_more found e going ended = record {
     front = passed.front ++ part text line.span ∷ [];
-    laid_is = laid_more_is found e going;
+    layout_is = layout_more_is found e going;
     count = let longer = one_longer in omega (arith, longer);
     all = passed.all ∙ sym (numbered_more 1 line.number passed.front (part text line.span) (texts_of text next) there_is);
     rest = sym (goes_on check text before line next is found e (none_of_two found.last (has_ended before) ended)) ∙ passed.rest;
   }
 
   pub passed_end : (found : Line) → check before (length before + 1) (part text line.span) ≡ Ok found → has_ended before ≡ false
-      → (found.last || has_ended before) ≡ true → laid check (line_texts text) ≡ Ok (found ∷ before)
+      → (found.last || has_ended before) ≡ true → line_layout check (line_texts text) ≡ Ok (found ∷ before)
   passed_end found e going ended =
       sym passed.rest ∙ ends_there check text before line next is found e (first_of_two found.last (has_ended before) ended going)
 
   pub passed_refused : (number : ℕ) (cause : GplCause) → number ≡ length before + 1 → check before (length before + 1) (part text line.span) ≡ Err cause
-      → laid check (line_texts text) ≡ Err (record { line = number; cause = cause })
+      → line_layout check (line_texts text) ≡ Err (record { line = number; cause = cause })
   passed_refused number cause at e =
       sym passed.rest ∙ (refused_there check text before line next is cause e ∙ ap (λ number. Err (record { line = number; cause = cause })) (sym at))
 
-  pub front_is : (number : ℕ) → number ≡ length before + 1 → laid check (take (number - 1) (line_texts text)) ≡ Ok before
+  pub front_is : (number : ℕ) → number ≡ length before + 1 → line_layout check (take (number - 1) (line_texts text)) ≡ Ok before
   front_is number at =
       let count : number - 1 ≡ length (numbered 1 passed.front) = omega (arith, at, passed.count, numbered_length 1 passed.front) in
-      ap (λ texts. laid check (take (number - 1) texts)) passed.all
-      ∙ (ap (laid check) (take_front (numbered 1 passed.front) (texts_of text (line ∷ next)) (number - 1) count) ∙ passed.laid_is)
+      ap (λ texts. line_layout check (take (number - 1) texts)) passed.all
+      ∙ (ap (line_layout check) (take_front (numbered 1 passed.front) (texts_of text (line ∷ next)) (number - 1) count) ∙ passed.layout_is)
 
   pub read_refused : (A B : Type 0) (error : GplError) (new : ReadLines) → ReadsLine {A = A} (line_texts text) before (part text line.span) (Err error) new
       → ReadsLines {A = B} (line_texts text) (Err error) new

@@ -18,7 +18,7 @@ use Rattle.gpl_list_defs.specs.Rows as spec
 -- what a line comes to that says something
 pub comes_to : (known : Names) (at : Location) (text : List ℕ) (statement : Statement) (answer : Result Outcome GplCause) → parsed known at text ≡ Ok statement
     → line_outcome known at text ≡ answer → outcome (look_up known) at statement ≡ answer
-comes_to known at text statement answer said is = sym (ap (λ answer. answer >>= λ statement. outcome (look_up known) at statement) said) ∙ is
+comes_to known at text statement answer parsed_line is = sym (ap (λ answer. answer >>= λ statement. outcome (look_up known) at statement) parsed_line) ∙ is
 
 module _ (known : Names) (at : Location) (statement : Statement) (earlier : List AssembledLine) (found : Outcome)
     (came : outcome (look_up known) at statement ≡ Ok found) where

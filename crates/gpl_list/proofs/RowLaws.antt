@@ -11,10 +11,10 @@ use Rattle.gpl_source_defs.specs.Statements.{Statement, declared_size}
 use Rattle.gpl_source_defs.specs.Locations.{Line, location, place, origin_of}
 use Rattle.gpl_source_defs.specs.FirstChecks.{Checked, checked, check, line_of, names, parsed, label_entry, label_value}
 use Rattle.gpl_source_defs.specs.Growing.{is_unresolved}
-use Rattle.gpl_source_defs.proofs.CheckLaws.{is_let_through}
-use Rattle.gpl_source_defs.proofs.GrowingLaws.{said_stays}
+use Rattle.gpl_source_defs.proofs.CheckLaws.{is_accepted}
+use Rattle.gpl_source_defs.proofs.GrowingLaws.{parse_stays}
 use Rattle.gpl_asm.specs.declared.taken.TakenLine.{TakenLine}
-use Rattle.gpl_asm.specs.Building.{Tells}
+use Rattle.gpl_asm.specs.Building.{DescribesLine}
 use Rattle.gpl_asm.proofs.LineLaws.{place_is}
 use Rattle.gpl_asm.proofs.TakeLaws.{label_grows}
 use Rattle.gpl_list_defs.specs.Rows as spec
@@ -51,7 +51,7 @@ checked_of lines number text line e =
 -- the row of a line that was taken after others
 module _ (texts : List (ℕ × List ℕ)) (lines : List Line) (text : List ℕ) (found : Checked) (known : TakenLine) (row : Row)
     (e : checked (names lines) (location lines) text ≡ Ok found)
-    (tells : Tells lines (line_of (location lines) (length lines + 1) found) known)
+    (describes : DescribesLine lines (line_of (location lines) (length lines + 1) found) known)
     (taken : IsTaken (length lines + 1) known.at (model_of_address known) text row)
     (there : spec.text_of texts (length lines + 1) ≡ text) where
   abbrev line : Line
@@ -64,31 +64,31 @@ module _ (texts : List (ℕ × List ℕ)) (lines : List Line) (text : List ℕ) 
   place_there = place_is (length lines + 1) found lines
 
   at_there : row.at ≡ location lines
-  at_there = taken.at ∙ (tells.at ∙ place_there)
+  at_there = taken.at ∙ (describes.at ∙ place_there)
 
   address_there : model_of_address known ≡ spec.address (place lines line) statement
   address_there =
-      ap (λ (origin : Option Location). (set_or origin known.at).number) tells.origin
-      ∙ (ap (λ (at : Location). (set_or (origin_of (location lines) statement) at).number) tells.at
+      ap (λ (origin : Option Location). (set_or origin known.at).number) describes.origin
+      ∙ (ap (λ (at : Location). (set_or (origin_of (location lines) statement) at).number) describes.at
       ∙ ap (λ (at : Location). (set_or (origin_of at statement) (place lines line)).number) (sym place_there))
 
-  said_later : (later : Names) → Grows (names (line ∷ lines)) later → parsed later row.at row.text.items ≡ Ok statement
-  said_later later more =
-      let through = is_let_through (names lines) (location lines) text found e in
+  parsed_later : (later : Names) → Grows (names (line ∷ lines)) later → parsed later row.at row.text.items ≡ Ok statement
+  parsed_later later more =
+      let through = is_accepted (names lines) (location lines) text found e in
       let grows : Grows (names lines) later =
       grown_on (names lines) (names (line ∷ lines)) later (label_grows (names lines) found.label (label_value (location lines) statement) through.fresh) more in
       let closed : is_closed is_unresolved (parsed (names lines) (location lines) text) ≡ true = ap (is_closed is_unresolved) through.parsed in
       ap (λ (at : Location). parsed later at row.text.items) at_there
       ∙ (ap (λ (row : spec.Row). parsed later (location lines) row.text) taken.is
-      ∙ (said_stays (names lines) later grows (location lines) text closed ∙ through.parsed))
+      ∙ (parse_stays (names lines) later grows (location lines) text closed ∙ through.parsed))
 
   pub row_of : (later : Names) → Grows (names (line ∷ lines)) later → RowOf texts later lines line row
   row_of later more = record {
     numbered = refl;
-    at = taken.at ∙ tells.at;
+    at = taken.at ∙ describes.at;
     is = taken.is
         ∙ (ap (λ at. record { number = length lines + 1; at = at; bytes = []; text = text }) address_there
         ∙ ap (λ text. record { number = length lines + 1; at = spec.address (place lines line) statement; bytes = []; text = text }) (sym there));
-    parsed = said_later later more;
-    room = subst (λ (at : Location). at.number + declared_size statement ≤ 65536) (sym taken.at) tells.room;
+    parsed = parsed_later later more;
+    room = subst (λ (at : Location). at.number + declared_size statement ≤ 65536) (sym taken.at) describes.room;
   }

@@ -4,7 +4,7 @@ use Rattle.std.specs.Prelude.{Result, Ok, Err}
 use Rattle.expression_defs.specs.Expression.{Absolute}
 use Rattle.expression_defs.specs.Symbols.{Names}
 use Rattle.expression_defs.specs.Growing.{Grows}
-use Rattle.expression_defs.specs.Layout.{laid, set_or}
+use Rattle.expression_defs.specs.Layout.{line_layout, set_or}
 use Rattle.gpl_source_defs.specs.declared.location.Location.{Location}
 use Rattle.gpl_source_defs.specs.Statements.{declared_size}
 use Rattle.gpl_source_defs.specs.Locations.{Line, place}
@@ -94,8 +94,8 @@ ReadsLine texts lines text (Err Memory) read = ⊤
 
 -- the lines of a source were read, or those before the first that the first checks refuse
 abbrev pub ReadsLines : {A : Type 0} → List (ℕ × List ℕ) → Result A GplError → ReadLines → Type 0
-ReadsLines texts (Ok done) read = (lines : List Line) × (laid check texts ≡ Ok lines) × Keeps texts lines read
+ReadsLines texts (Ok done) read = (lines : List Line) × (line_layout check texts ≡ Ok lines) × Keeps texts lines read
 ReadsLines texts (Err (At number cause)) read =
-    (laid check texts ≡ Err (record { line = number; cause = cause }))
-    × (lines : List Line) × (laid check (take (number - 1) texts) ≡ Ok lines) × Keeps texts lines read
+    (line_layout check texts ≡ Err (record { line = number; cause = cause }))
+    × (lines : List Line) × (line_layout check (take (number - 1) texts) ≡ Ok lines) × Keeps texts lines read
 ReadsLines texts (Err Memory) read = ⊤

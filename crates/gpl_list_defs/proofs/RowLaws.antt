@@ -6,7 +6,7 @@ use Rattle.source_defs.specs.Refusals.{Refusal, ◌>>=◌, at_line}
 use Rattle.expression_defs.specs.Expression.{Value}
 use Rattle.expression_defs.specs.Symbols.{Names, predefined, look_up}
 use Rattle.source_defs.specs.Lines.{line_texts}
-use Rattle.expression_defs.specs.Layout.{laid, assembled_lines}
+use Rattle.expression_defs.specs.Layout.{line_layout, assembled_lines}
 use Rattle.expression_defs.specs.Layout as layout
 use Rattle.source_defs.proofs.RefusalLaws.{bound}
 use Rattle.gpl_defs.specs.Image.{Image, placed}
@@ -19,7 +19,7 @@ use Rattle.gpl_source_defs.specs.FirstChecks.{check, names}
 use Rattle.gpl_source_defs.specs.SecondChecks.{Outcome, outcome}
 use Rattle.gpl_source_defs.specs.Programs.{AssembledLine, assembled_line, assembled_at, overlaps, image, bytes_in, program_by, program_after}
 use Rattle.gpl_list_defs.specs.Rows.{Row, NameRow, address, outcome_bytes, placed_bytes, row_of, rows, names_in, name_rows}
-use Rattle.gpl_list_defs.specs.Listing.{assembled_listing, laid_listing}
+use Rattle.gpl_list_defs.specs.Listing.{assembled_listing, layout_listing}
 use Rattle.gpl_list_defs.specs.Laws.{with_rows, with_names, ListsOf, ListingsGivePrograms}
 
 -- ---- rows and names after others
@@ -111,10 +111,10 @@ assembled_gives texts lines (Ok found) e =
     record { image = rows_give (names lines) texts lines found e; names = names_give lines; accepted = refl }
 assembled_gives texts lines (Err refused) e = refl
 
-laid_gives : (texts : List (ℕ × List ℕ)) (answer : Result (List Line) (Refusal GplCause))
-    → ListsOf (laid_listing texts answer) (answer >>= program_after)
-laid_gives texts (Ok lines) = assembled_gives texts lines (assembled_lines (assembled_line (names lines)) lines) refl
-laid_gives texts (Err refused) = refl
+layout_gives : (texts : List (ℕ × List ℕ)) (answer : Result (List Line) (Refusal GplCause))
+    → ListsOf (layout_listing texts answer) (answer >>= program_after)
+layout_gives texts (Ok lines) = assembled_gives texts lines (assembled_lines (assembled_line (names lines)) lines) refl
+layout_gives texts (Err refused) = refl
 
 pub listings_give_programs : ListingsGivePrograms
-listings_give_programs source = laid_gives (line_texts source) (laid check (line_texts source))
+listings_give_programs source = layout_gives (line_texts source) (line_layout check (line_texts source))

@@ -2,7 +2,7 @@
 use Rattle.std.specs.Prelude.{ℕ, ◌-◌, List, [], take, Result, Ok, Err}
 use Rattle.source_defs.specs.Refusals.{Refusal}
 use Rattle.source_defs.specs.Lines.{line_texts}
-use Rattle.expression_defs.specs.Layout.{laid, assembled_lines}
+use Rattle.expression_defs.specs.Layout.{line_layout, assembled_lines}
 use Rattle.gpl_source_defs.specs.declared.causes.GplCause.{GplCause}
 use Rattle.gpl_source_defs.specs.Locations.{Line}
 use Rattle.gpl_source_defs.specs.FirstChecks.{check, names}
@@ -32,24 +32,24 @@ assembled_listing texts lines (Err refused) =
     }
 
 -- the lines that the first checks let through
-abbrev pub let_through : Result (List Line) (Refusal GplCause) → List Line
-let_through (Ok lines) = lines
-let_through (Err refused) = []
+abbrev pub accepted : Result (List Line) (Refusal GplCause) → List Line
+accepted (Ok lines) = lines
+accepted (Err refused) = []
 
 -- Profile: where the first checks refuse a line, those before it have rows without bytes, since later names are not
 -- known.
-abbrev pub laid_listing : List (ℕ × List ℕ) → Result (List Line) (Refusal GplCause) → Listing
-laid_listing texts (Ok lines) = assembled_listing texts lines (assembled_lines (assembled_line (names lines)) lines)
-laid_listing texts (Err refused) =
+abbrev pub layout_listing : List (ℕ × List ℕ) → Result (List Line) (Refusal GplCause) → Listing
+layout_listing texts (Ok lines) = assembled_listing texts lines (assembled_lines (assembled_line (names lines)) lines)
+layout_listing texts (Err refused) =
     record {
-      rows = rows no_bytes texts (let_through (laid check (take (refused.line - 1) texts)));
+      rows = rows no_bytes texts (accepted (line_layout check (take (refused.line - 1) texts)));
       names = [];
       refused = Err refused;
     }
 
 -- the listing of a source
 abbrev pub listing_of : List ℕ → Listing
-listing_of source = laid_listing (line_texts source) (laid check (line_texts source))
+listing_of source = layout_listing (line_texts source) (line_layout check (line_texts source))
 
 -- what is reported of it: a refused line is reported after the lines before it
 abbrev pub report_by : List (List ℕ) → Result Unit (Refusal GplCause) → Report

@@ -10,7 +10,7 @@ use Rattle.gpl_defs.specs.declared.instruction.GplOperation.TheVariants as opera
 use Rattle.gpl_defs.specs.declared.instruction.GplRead.{GplRead}
 use Rattle.gpl_defs.specs.declared.instruction.GplRead.TheVariants.{Instr, Refused}
 use Rattle.gpl_defs.specs.Codes.{operation_at}
-use Rattle.gpl_defs.specs.Reading.{word_at, address_at, index_by, operand_at, stand, IsReadAt, ReadsInstr}
+use Rattle.gpl_defs.specs.Reading.{word_at, address_at, index_by, operand_at, are_bytes_at, IsReadAt, ReadsInstr}
 use Rattle.gpl_defs.specs.Reading.{source_at, length_at, target_at, from_at, instr_at, read_by, reading}
 use Rattle.gpl_listing_defs.proofs.Operands.{IndexFits, OperandFits}
 use Rattle.gpl_listing_defs.proofs.Instructions.{SourceFits, LengthFits, TargetFits, FromFits, InstrFits}
@@ -141,18 +141,18 @@ no_overlap image at (byte ∷ bytes) free =
     rw (free at (omega arith), no_overlap image (at + 1) bytes (λ k le. free k (omega arith))) refl
 
 -- bytes that stand in one GROM are those of the image from there on
-pub stand_taken : (image bytes : List ℕ) (at : ℕ) → stand image bytes at ≡ true →
+pub bytes_taken_at : (image bytes : List ℕ) (at : ℕ) → are_bytes_at image bytes at ≡ true →
     at + length bytes ≤ at / 0x2000 * 0x2000 + 0x2000 → at + length bytes ≤ length image →
     take (length bytes) (drop at image) ≡ bytes
-stand_taken image [] at e within inside = refl
-stand_taken image (byte ∷ []) at e within inside =
+bytes_taken_at image [] at e within inside = refl
+bytes_taken_at image (byte ∷ []) at e within inside =
     let first : get_or image at 0 ≡ byte = (let test = and_left (get_or image at 0 == byte) _ e in grind (arith, nat_tests)) in
     rw (drop_more image at 0 (omega arith), first) refl
-stand_taken image (byte ∷ b ∷ bs) at e within inside =
+bytes_taken_at image (byte ∷ b ∷ bs) at e within inside =
     let first : get_or image at 0 ≡ byte = (let test = and_left (get_or image at 0 == byte) _ e in grind (arith, nat_tests)) in
     let next : next_in_grom at ≡ at + 1 = omega arith in
-    let rest : stand image (b ∷ bs) (at + 1) ≡ true = rw next at (and_right (get_or image at 0 == byte) _ e) in
-    rw (drop_more image at 0 (omega arith), first, stand_taken image (b ∷ bs) (at + 1) rest (omega arith) (omega arith)) refl
+    let rest : are_bytes_at image (b ∷ bs) (at + 1) ≡ true = rw next at (and_right (get_or image at 0 == byte) _ e) in
+    rw (drop_more image at 0 (omega arith), first, bytes_taken_at image (b ∷ bs) (at + 1) rest (omega arith) (omega arith)) refl
 
 -- the bytes of an image from an address up to another
 abbrev pub between : List ℕ → ℕ → ℕ → List ℕ
@@ -190,11 +190,11 @@ entry_of image bytes size at high top = by (reading image at) refl
     by_test found next read true e =
         let R : GplRead → Type 0 = λ read. IsReadAt image at read in
         let means : ReadsInstr image at found next = subst R read (reading_means image at bytes) in
-        let standing : stand image (bytes_of found) at ≡ true = and_left _ (nat_le (at + length (bytes_of found)) (min high (boundary at))) e in
-        let ends : nat_le (at + length (bytes_of found)) (min high (boundary at)) ≡ true = and_right (stand image (bytes_of found) at) _ e in
+        let standing : are_bytes_at image (bytes_of found) at ≡ true = and_left _ (nat_le (at + length (bytes_of found)) (min high (boundary at))) e in
+        let ends : nat_le (at + length (bytes_of found)) (min high (boundary at)) ≡ true = and_right (are_bytes_at image (bytes_of found) at) _ e in
         let short : at + length (bytes_of found) ≤ min high (boundary at) = grind (arith, nat_tests) in
         Whole found means.means.is_kind.valid (read_fits image bytes at found next read)
-        (stand_taken image (bytes_of found) at standing (omega arith) (omega arith)) short
+        (bytes_taken_at image (bytes_of found) at standing (omega arith) (omega arith)) short
 
     by : (read : GplRead) → reading image at ≡ read → Entry image at high (listed_by image at high read)
     by (Instr found next) e = by_test found next e (is_whole image at high found) refl

@@ -6,7 +6,7 @@ use Rattle.std.specs.List.{list_all}
 use Rattle.std.proofs.lemmas.Bool.Decides.{nat_tests}
 use Rattle.source_defs.specs.Digits.{hex_word, hex_byte, word_digits, byte_digits}
 use Rattle.source_defs.specs.Lines.{numbered}
-use Rattle.expression_defs.specs.Layout.{laid_after, assembled_lines}
+use Rattle.expression_defs.specs.Layout.{layout_after, assembled_lines}
 use Rattle.source_defs.specs.ListedLines.{listed, with_operands}
 use Rattle.expression_defs.specs.Symbols.{Names, look_up, predefined}
 use Rattle.base_defs.specs.declared.size.TheConstants.{GROM_SIZE}
@@ -30,14 +30,14 @@ use Rattle.gpl_listing_defs.proofs.Operands.{Alphabet, word_value, byte_value, t
 use Rattle.gpl_listing_defs.proofs.Instructions.{InstrFits, InGromOf, instr_names, left_of, skeleton_back, size_back, instruction_back}
 
 -- what some lines come to
-pub record Stands (before : List Line) (earlier : List AssembledLine) (at : Location) (bytes : Image) : Type 0 where
+pub record IsAt (before : List Line) (earlier : List AssembledLine) (at : Location) (bytes : Image) : Type 0 where
   pub names_are : names before ≡ predefined
   pub location_is : location before ≡ at
   pub assembled_are : assembled_lines (assembled_line predefined) before ≡ Ok earlier
   pub image_is : image earlier ≡ bytes
   pub entry_is : entry earlier ≡ None
 
-pub at_first : Stands [] [] start (image [])
+pub at_first : IsAt [] [] start (image [])
 at_first = search rules
 
 -- a line after others that is let through, with what they then come to
@@ -47,7 +47,7 @@ pub record Taken (before : List Line) (number : ℕ) (text : List ℕ) (last : B
   pub earlier : List AssembledLine
   pub check_is : check before number text ≡ Ok line
   pub last_is : line.last ≡ last
-  pub stands : Stands (line ∷ before) earlier next bytes
+  pub place_is : IsAt (line ∷ before) earlier next bytes
 
 -- the location after a line that sets one, or none
 abbrev moved : Option Location → Location → ℕ → Location
@@ -66,11 +66,11 @@ location_after : (line : Line) (before : List Line) (o : Option Location) → li
 location_after line before None e gap = rw (e, gap) (same_location _ _ _ (omega arith))
 location_after line before (Some origin) e gap = rw (e, gap) (same_location _ _ _ (omega arith))
 
-assemble_here : (earlier : List AssembledLine) (at there : Location) (held : Image) (said : Statement) (bytes : List ℕ) →
-    there ≡ at → image earlier ≡ held → outcome (look_up predefined) at said ≡ Ok (Bytes bytes) →
+assemble_here : (earlier : List AssembledLine) (at there : Location) (held : Image) (parsed_statement : Statement) (bytes : List ℕ) →
+    there ≡ at → image earlier ≡ held → outcome (look_up predefined) at parsed_statement ≡ Ok (Bytes bytes) →
     overlaps held at.number bytes ≡ false →
-    assembled_at predefined there said earlier ≡ Ok (record { at = at.number; outcome = Bytes bytes })
-assemble_here earlier at there held said bytes same is second free = rw (same, second, is, free) refl
+    assembled_at predefined there parsed_statement earlier ≡ Ok (record { at = at.number; outcome = Bytes bytes })
+assemble_here earlier at there held parsed_statement bytes same is second free = rw (same, second, is, free) refl
 
 plain_letters : Alphabet plain_byte
 plain_letters = search rules
@@ -95,45 +95,45 @@ instr_in_line found at valid =
     (listed_in_line (name_of (mnemonic_of found)) (shown (tokens_of found at)) (instr_fit found at valid))
 
 -- a line whose statement nothing speaks against is let through by the first checks
-pub checked_as : (known : Names) (here : Location) (line name field : List ℕ) (said : Statement) → Cut line name field →
-    operation_statement (look_up known) (address_of here) name field ≡ Ok said → is_full here said ≡ false →
-    is_bad None said ≡ false → checked known here line ≡ Ok (record { label = None; statement = said })
+pub checked_as : (known : Names) (here : Location) (line name field : List ℕ) (parsed_statement : Statement) → Cut line name field →
+    operation_statement (look_up known) (address_of here) name field ≡ Ok parsed_statement → is_full here parsed_statement ≡ false →
+    is_bad None parsed_statement ≡ false → checked known here line ≡ Ok (record { label = None; statement = parsed_statement })
 unfolding checked
-checked_as known here line name field said cut is full bad =
+checked_as known here line name field parsed_statement cut is full bad =
     rw (cut.fields_are, cut.name_is, cut.field_is, is, full, bad) refl
 
 module _ {before : List Line} {earlier : List AssembledLine} {at : Location} {held : Image} (number : ℕ)
-    (stands : Stands before earlier at held) where
+    (place_is : IsAt before earlier at held) where
   -- a line by its operation, its operands, what it says and what it places
-  taken : (name : List ℕ) (operands : Option (List ℕ)) (said : Statement) (bytes : List ℕ) (next : Location) →
+  taken : (name : List ℕ) (operands : Option (List ℕ)) (parsed_statement : Statement) (bytes : List ℕ) (next : Location) →
       Fit name (field_of operands) → (operands ≡ None) ⊎ (0 < length (field_of operands)) →
-      operation_statement (look_up predefined) (address_of at) name (field_of operands) ≡ Ok said →
-      outcome (look_up predefined) at said ≡ Ok (Bytes bytes) → is_bad None said ≡ false →
-      moved (origin_of at said) at (declared_size said) ≡ next → at.number + declared_size said ≤ at.grom + 0x2000 →
+      operation_statement (look_up predefined) (address_of at) name (field_of operands) ≡ Ok parsed_statement →
+      outcome (look_up predefined) at parsed_statement ≡ Ok (Bytes bytes) → is_bad None parsed_statement ≡ false →
+      moved (origin_of at parsed_statement) at (declared_size parsed_statement) ≡ next → at.number + declared_size parsed_statement ≤ at.grom + 0x2000 →
       overlaps held at.number bytes ≡ false →
-      Taken before number (listed (with_operands name operands)) (is_end said) next (placed held at.number bytes)
-  taken name operands said bytes next fit some is second good there within free =
+      Taken before number (listed (with_operands name operands)) (is_end parsed_statement) next (placed held at.number bytes)
+  taken name operands parsed_statement bytes next fit some is second good there within free =
       let cut = cut_listed name operands fit some in
-      let full : is_full at said ≡ false =
-      (let test : nat_lt (at.grom + GROM_SIZE) (at.number + declared_size said) ≡ false = grind (arith, nat_tests) in test) in
-      let line : Line = line_of at number (record { label = None; statement = said }) in
+      let full : is_full at parsed_statement ≡ false =
+      (let test : nat_lt (at.grom + GROM_SIZE) (at.number + declared_size parsed_statement) ≡ false = grind (arith, nat_tests) in test) in
+      let line : Line = line_of at number (record { label = None; statement = parsed_statement }) in
       record {
         line = line;
         earlier = record { at = at.number; outcome = Bytes bytes } ∷ earlier;
-        check_is = rw (stands.names_are, stands.location_is, checked_as predefined at _ name _ said cut is full good) refl;
+        check_is = rw (place_is.names_are, place_is.location_is, checked_as predefined at _ name _ parsed_statement cut is full good) refl;
         last_is = refl;
-        stands = record {
-          names_are = stands.names_are;
-          location_is = location_after line before (origin_of at said) refl refl
-              ∙ (ap (λ here. moved (origin_of at said) here (declared_size said)) stands.location_is ∙ there);
+        place_is = record {
+          names_are = place_is.names_are;
+          location_is = location_after line before (origin_of at parsed_statement) refl refl
+              ∙ (ap (λ here. moved (origin_of at parsed_statement) here (declared_size parsed_statement)) place_is.location_is ∙ there);
           assembled_are =
               rw (
-                stands.assembled_are,
-                assemble_here earlier at (place before line) held said bytes
-                    (ap (λ here. after here 0) stands.location_is ∙ here_again at) stands.image_is second free,
+                place_is.assembled_are,
+                assemble_here earlier at (place before line) held parsed_statement bytes
+                    (ap (λ here. after here 0) place_is.location_is ∙ here_again at) place_is.image_is second free,
               ) refl;
-          image_is = ap (λ held. placed held at.number bytes) stands.image_is;
-          entry_is = stands.entry_is;
+          image_is = ap (λ held. placed held at.number bytes) place_is.image_is;
+          entry_is = place_is.entry_is;
         };
       }
 
@@ -166,15 +166,15 @@ module _ {before : List Line} {earlier : List AssembledLine} {at : Location} {he
       (rw (byte_value (look_up predefined) (address_of at) b lt, few) refl) refl refl within free
 
   -- a line that sets a location by a number
-  origin_taken : (name : List ℕ) (said : Statement) (e : ℕ) (next : Location) → 0 < length name → length name ≤ 6 →
+  origin_taken : (name : List ℕ) (parsed_statement : Statement) (e : ℕ) (next : Location) → 0 < length name → length name ≤ 6 →
       list_all plain_byte name ≡ true →
-      operation_statement (look_up predefined) (address_of at) name (hex_word e) ≡ Ok said →
-      outcome (look_up predefined) at said ≡ Ok (Bytes []) → is_bad None said ≡ false →
-      moved (origin_of at said) at (declared_size said) ≡ next → at.number + declared_size said ≤ at.grom + 0x2000 →
-      Taken before number (listed (name ++ 0x20 ∷ hex_word e)) (is_end said) next held
+      operation_statement (look_up predefined) (address_of at) name (hex_word e) ≡ Ok parsed_statement →
+      outcome (look_up predefined) at parsed_statement ≡ Ok (Bytes []) → is_bad None parsed_statement ≡ false →
+      moved (origin_of at parsed_statement) at (declared_size parsed_statement) ≡ next → at.number + declared_size parsed_statement ≤ at.grom + 0x2000 →
+      Taken before number (listed (name ++ 0x20 ∷ hex_word e)) (is_end parsed_statement) next held
   unfolding word_digits
-  origin_taken name said e next some short plain is second good there within =
-      taken name (Some (hex_word e)) said [] next
+  origin_taken name parsed_statement e next some short plain is second good there within =
+      taken name (Some (hex_word e)) parsed_statement [] next
       (number_fit _ _ some short plain (omega arith) (word_passes plain_byte e refl refl)) (inr (omega arith)) is second good
       there within refl
 
@@ -209,7 +209,7 @@ module _ {before : List Line} {earlier : List AssembledLine} {at : Location} {he
 pub record Ends (before : List Line) (number : ℕ) (texts : List (List ℕ)) (bytes : Image) : Type 0 where
   pub all : List Line
   pub found : List AssembledLine
-  pub laid_is : laid_after check before (numbered number texts) ≡ Ok all
+  pub layout_is : layout_after check before (numbered number texts) ≡ Ok all
   pub names_are : names all ≡ predefined
   pub assembled_are : assembled_lines (assembled_line predefined) all ≡ Ok found
   pub image_is : image found ≡ bytes
@@ -220,11 +220,11 @@ pub ends_last : (before : List Line) (number : ℕ) (text : List ℕ) (next : Lo
 ends_last before number text next bytes taken = record {
   all = taken.line ∷ before;
   found = taken.earlier;
-  laid_is = rw (taken.check_is, taken.last_is) refl;
-  names_are = taken.stands.names_are;
-  assembled_are = taken.stands.assembled_are;
-  image_is = taken.stands.image_is;
-  entry_is = taken.stands.entry_is;
+  layout_is = rw (taken.check_is, taken.last_is) refl;
+  names_are = taken.place_is.names_are;
+  assembled_are = taken.place_is.assembled_are;
+  image_is = taken.place_is.image_is;
+  entry_is = taken.place_is.entry_is;
 }
 
 second : {A : Type 0} (b : Bool) (x y : A) → b ≡ false → (if b then x else y) ≡ y
@@ -238,11 +238,11 @@ pub ends_more : (before : List Line) (number : ℕ) (text : List ℕ) (texts : L
 ends_more before number text texts next bytes whole taken ends = record {
   all = ends.all;
   found = ends.found;
-  laid_is =
+  layout_is =
       rw taken.check_is
       (second taken.line.last (Ok (taken.line ∷ before))
-      (laid_after check (taken.line ∷ before) (numbered (number + 1) texts)) taken.last_is
-      ∙ ends.laid_is);
+      (layout_after check (taken.line ∷ before) (numbered (number + 1) texts)) taken.last_is
+      ∙ ends.layout_is);
   names_are = ends.names_are;
   assembled_are = ends.assembled_are;
   image_is = ends.image_is;

@@ -24,7 +24,7 @@ use Rattle.listed_lines.proofs.DigitLaws.{word_passes, byte_passes}
 use Rattle.listed_lines.proofs.LineTexts.{in_line, joined, lines_joined, clean, clean_lines, text_of}
 use Rattle.gpl_listing_defs.proofs.Entries.{Entry, Whole, Single, entry_of}
 use Rattle.gpl_listing_defs.proofs.Entries.{placed_after, placed_free, empty_free, no_overlap, between, between_more, between_size}
-use Rattle.gpl_listing_defs.proofs.Lines.{Stands, Taken, Ends, at_first, ends_last, ends_more, same_location}
+use Rattle.gpl_listing_defs.proofs.Lines.{IsAt, Taken, Ends, at_first, ends_last, ends_more, same_location}
 use Rattle.gpl_listing_defs.proofs.Lines.{instr_taken, byte_taken, grom_taken, aorg_taken, end_taken, instr_in_line}
 
 not_false : (b : Bool) → not b ≡ false → b ≡ true
@@ -63,12 +63,12 @@ module _ (image : List ℕ) (low high : ℕ) (bytes : (k : ℕ) → slice_index 
     within : at + line.size ≤ high
     in_grom : at + line.size ≤ grom + 0x2000
 
-  entered : {before : List Line} {earlier : List AssembledLine} (grom at number : ℕ) → Stands before earlier (here grom at) (held at) →
+  entered : {before : List Line} {earlier : List AssembledLine} (grom at number : ℕ) → IsAt before earlier (here grom at) (held at) →
       low ≤ at → at < high → grom % 0x2000 ≡ 0 → grom ≤ at → at < grom + 0x2000 → (line : Listed) →
       Entry image at high line → Entered grom at before number line
-  entered grom at number stands le inside whole from to line (Whole found valid fits same ends) =
+  entered grom at number place_is le inside whole from to line (Whole found valid fits same ends) =
       let base : at / 0x2000 * 0x2000 ≡ grom = omega arith in
-      let it = instr_taken number stands found (record { whole = whole; from = from; below = to; fits = omega arith }) valid fits
+      let it = instr_taken number place_is found (record { whole = whole; from = from; below = to; fits = omega arith }) valid fits
       (omega arith) (room at (bytes_of found) le (omega arith)) in
       record {
         taken = rw (held_more at (bytes_of found) le (omega arith) same) at it;
@@ -76,9 +76,9 @@ module _ (image : List ℕ) (low high : ℕ) (bytes : (k : ℕ) → slice_index 
         within = omega arith;
         in_grom = omega arith;
       }
-  entered grom at number stands le inside whole from to line Single =
+  entered grom at number place_is le inside whole from to line Single =
       let same : take 1 (drop at image) ≡ slice_index image at ∷ [] = rw (drop_more image at 0 (omega arith)) refl in
-      let it = byte_taken number stands (slice_index image at) (bytes at) (omega arith)
+      let it = byte_taken number place_is (slice_index image at) (bytes at) (omega arith)
       (room at (slice_index image at ∷ []) le (omega arith)) in
       record {
         taken = rw (held_more at (slice_index image at ∷ []) le (omega arith) same) at it;
@@ -91,7 +91,7 @@ module _ (image : List ℕ) (low high : ℕ) (bytes : (k : ℕ) → slice_index 
 
   abbrev Goes : ℕ → ℕ → List (List ℕ) → Type 0
   Goes grom at texts =
-      (before : List Line) (earlier : List AssembledLine) (number : ℕ) → Stands before earlier (here grom at) (held at) →
+      (before : List Line) (earlier : List AssembledLine) (number : ℕ) → IsAt before earlier (here grom at) (held at) →
       Ends before number (map listed texts) (held high)
 
   abbrev left_from : ℕ → ℕ → List (List ℕ)
@@ -106,26 +106,26 @@ module _ (image : List ℕ) (low high : ℕ) (bytes : (k : ℕ) → slice_index 
   entry_goes : (most at grom : ℕ) → GoesFrom most → high ≤ at + suc most → at < high → low ≤ at → grom % 0x2000 ≡ 0 → grom ≤ at →
       at < grom + 0x2000 →
       Goes grom at ((listed_at image at high).text ∷ left_from most (at + (listed_at image at high).size))
-  entry_goes most at grom others enough inside le whole from to before earlier number stands =
-      let e = entered grom at number stands le (omega arith) whole from to _ (entry_of image bytes size at high top) in
+  entry_goes most at grom others enough inside le whole from to before earlier number place_is =
+      let e = entered grom at number place_is le (omega arith) whole from to _ (entry_of image bytes size at high top) in
       let some = e.some in
       let within = e.within in
       let go = others (at + (listed_at image at high).size) grom (omega arith) (omega arith) (omega arith) whole (omega arith) e.in_grom
       (λ first. absurd (omega arith)) in
-      ends_more before number _ _ _ _ (held high) e.taken (go (e.taken.line ∷ before) e.taken.earlier (number + 1) e.taken.stands)
+      ends_more before number _ _ _ _ (held high) e.taken (go (e.taken.line ∷ before) e.taken.earlier (number + 1) e.taken.place_is)
 
   -- GROM and AORG, and what stands after them
   origin_from : (loc : Location) (at : ℕ) (texts : List (List ℕ)) → at < 65536 → loc.number ≤ loc.grom + 0x2000 →
       Goes (at / GROM_SIZE * GROM_SIZE) at texts → (before : List Line) (earlier : List AssembledLine) (number : ℕ) →
-      Stands before earlier loc (held at) → Ends before number (map listed (origin_texts at ++ texts)) (held high)
-  origin_from loc at texts lt within go before earlier number stands =
-      let first = grom_taken number stands (at / GROM_SIZE * GROM_SIZE) (omega arith) (omega arith) within in
-      let second = aorg_taken (number + 1) first.stands (at % GROM_SIZE) (omega arith) (omega arith) in
+      IsAt before earlier loc (held at) → Ends before number (map listed (origin_texts at ++ texts)) (held high)
+  origin_from loc at texts lt within go before earlier number place_is =
+      let first = grom_taken number place_is (at / GROM_SIZE * GROM_SIZE) (omega arith) (omega arith) within in
+      let second = aorg_taken (number + 1) first.place_is (at % GROM_SIZE) (omega arith) (omega arith) in
       let there = same_location (at / GROM_SIZE * GROM_SIZE) (at / GROM_SIZE * GROM_SIZE + at % GROM_SIZE) at (omega arith) in
-      let S : Location → Type 0 = λ loc. Stands (second.line ∷ first.line ∷ before) second.earlier loc (held at) in
+      let S : Location → Type 0 = λ loc. IsAt (second.line ∷ first.line ∷ before) second.earlier loc (held at) in
       ends_more before number _ _ _ _ (held high) first
       (ends_more (first.line ∷ before) (number + 1) _ _ _ _ (held high) second
-      (go (second.line ∷ first.line ∷ before) second.earlier (number + 1 + 1) (subst S there second.stands)))
+      (go (second.line ∷ first.line ∷ before) second.earlier (number + 1 + 1) (subst S there second.place_is)))
 
   step_goes : (test : Bool) (most at grom : ℕ) → ((at % GROM_SIZE == 0) && not (at == low)) ≡ test → GoesFrom most →
       high ≤ at + suc most → at < high → low ≤ at → grom % 0x2000 ≡ 0 → grom ≤ at → at ≤ grom + 0x2000 →
@@ -149,9 +149,9 @@ module _ (image : List ℕ) (low high : ℕ) (bytes : (k : ℕ) → slice_index 
           first (grind (arith, nat_tests))
 
   at_end : (at grom : ℕ) (texts : List (List ℕ)) → high ≡ at → at ≤ grom + 0x2000 → texts ≡ [] → Goes grom at (texts ++ codes "END" ∷ [])
-  at_end at grom texts same to none before earlier number stands =
+  at_end at grom texts same to none before earlier number place_is =
       let H : ℕ → Type 0 = λ end. Ends before number (map listed (texts ++ codes "END" ∷ [])) (held end) in
-      subst H (sym same) (rw none (ends_last before number _ _ _ (end_taken number stands to)))
+      subst H (sym same) (rw none (ends_last before number _ _ _ (end_taken number place_is to)))
 
   goes_from : (most : ℕ) → GoesFrom most
   goes_from zero at grom enough within le whole from to first = at_end at grom [] (omega arith) to refl
@@ -169,7 +169,7 @@ module _ (image : List ℕ) (low high : ℕ) (bytes : (k : ℕ) → slice_index 
   all_go order fits =
       let nothing : low - low ≡ 0 = omega arith in
       let none : [] ≡ between image low low = ap (λ n. take n (drop low image)) (sym nothing) in
-      let S : List ℕ → Type 0 = λ taken. Stands [] [] start (placed empty low taken) in
+      let S : List ℕ → Type 0 = λ taken. IsAt [] [] start (placed empty low taken) in
       origin_from start low (left_from (high - low) low) fits (omega arith)
       (goes_from (high - low) low (low / GROM_SIZE * GROM_SIZE) (omega arith) order (omega arith) (omega arith) (omega arith)
       (omega arith) (λ first. omega arith))
@@ -206,7 +206,7 @@ program_is : (texts : List (List ℕ)) (bytes : Image) → Ends [] 1 (map listed
     list_all (λ line. list_all in_line line) (map listed texts) ≡ true →
     program_of_source (joined (map listed texts)) ≡ Ok (record { image = bytes; entry = None; names = predefined })
 program_is texts bytes ends clean =
-    rw (lines_joined (map listed texts) clean, ends.laid_is, ends.names_are, ends.assembled_are, ends.image_is, ends.entry_is) refl
+    rw (lines_joined (map listed texts) clean, ends.layout_is, ends.names_are, ends.assembled_are, ends.image_is, ends.entry_is) refl
 
 -- what is listed is assembled again
 pub listings_come_back : ListingsComeBack

@@ -7,7 +7,7 @@ use Rattle.gpl_defs.specs.declared.instruction.GplInstr.{GplInstr}
 use Rattle.gpl_defs.specs.declared.instruction.GplRead.{GplRead}
 use Rattle.gpl_defs.specs.declared.instruction.GplRead.TheVariants.{Instr, Refused}
 use Rattle.gpl_defs.specs.Bytes.{bytes_of}
-use Rattle.gpl_defs.specs.Reading.{reading, stand}
+use Rattle.gpl_defs.specs.Reading.{reading, are_bytes_at}
 use Rattle.gpl_listing_defs.specs.Texts.{instr_text}
 use Rattle.base_defs.specs.declared.size.TheConstants.{GROM_SIZE}
 
@@ -29,7 +29,7 @@ instr_listed instr at = record { text = instr_text instr at; size = length (byte
 -- a whole instruction stands there in its shortest spelling, and ends at or before the end and in its GROM
 abbrev pub is_whole : List ℕ → ℕ → ℕ → GplInstr → Bool
 is_whole image at end instr =
-    stand image (bytes_of instr) at && nat_le (at + length (bytes_of instr)) (min end (boundary at))
+    are_bytes_at image (bytes_of instr) at && nat_le (at + length (bytes_of instr)) (min end (boundary at))
 
 abbrev pub listed_by : List ℕ → ℕ → ℕ → GplRead → Listed
 listed_by image at end (Instr instr next) =

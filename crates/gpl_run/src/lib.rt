@@ -5,11 +5,11 @@ mod assembling;
 mod build;
 mod error;
 mod load;
-mod machine_load_load;
+mod loading;
 mod session;
 
 pub use build::build_interp;
 pub use error::BuildError;
 pub use load::load_interpreter;
 pub use session::Session;
-pub use machine_load_load::load_machine;
+pub use loading::load_machine;

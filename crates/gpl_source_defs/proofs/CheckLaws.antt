@@ -15,27 +15,27 @@ use Rattle.gpl_source_defs.specs.Locations.{address_of, origin_of, after, passes
 use Rattle.gpl_source_defs.specs.FirstChecks.{Checked, as_text, checked, is_bad, is_full, is_taken, parsed}
 use Rattle.base_defs.specs.declared.size.TheConstants.{GROM_SIZE}
 
-let_through : {A : Type 0} (against : Bool) (cause : GplCause) (value found : A) → unless against cause value ≡ Ok found → (against ≡ false) × (value ≡ found)
-let_through true cause value found e = cc e
-let_through false cause value found e = (refl, cc e)
+accepted : {A : Type 0} (against : Bool) (cause : GplCause) (value found : A) → unless against cause value ≡ Ok found → (against ≡ false) × (value ≡ found)
+accepted true cause value found e = cc e
+accepted false cause value found e = (refl, cc e)
 
 -- what is known of a line that was let through
-pub record IsLetThrough (known : Names) (here : Location) (text : List ℕ) (found : Checked) : Type 0 where
+pub record IsAccepted (known : Names) (here : Location) (text : List ℕ) (found : Checked) : Type 0 where
   pub parsed : parsed known here text ≡ Ok found.statement
   pub fresh : is_taken known found.label ≡ false
   pub fits : is_full here found.statement ≡ false
   pub fine : is_bad found.label found.statement ≡ false
 
-pub is_let_through : (known : Names) (here : Location) (text : List ℕ) (found : Checked) → checked known here text ≡ Ok found → IsLetThrough known here text found
+pub is_accepted : (known : Names) (here : Location) (text : List ℕ) (found : Checked) → checked known here text ≡ Ok found → IsAccepted known here text found
 unfolding checked
-is_let_through known here text found e =
+is_accepted known here text found e =
     let a = bound (as_text (fields text)) _ found e in
     let b = bound (unless (is_taken known a.0.label) DuplicateLabel a.0.label) _ found a.2 in
-    let b' = let_through (is_taken known a.0.label) DuplicateLabel a.0.label b.0 b.1 in
+    let b' = accepted (is_taken known a.0.label) DuplicateLabel a.0.label b.0 b.1 in
     let c = bound (statement_at (look_up known) (address_of here) text a.0.operation a.0.operands) _ found b.2 in
     let d = bound (unless (is_full here c.0) GromFull c.0) _ found c.2 in
-    let d' = let_through (is_full here c.0) GromFull c.0 d.0 d.1 in
-    let f = let_through (is_bad b.0 d.0) BadDirective (record { label = b.0; statement = d.0 }) found d.2 in
+    let d' = accepted (is_full here c.0) GromFull c.0 d.0 d.1 in
+    let f = accepted (is_bad b.0 d.0) BadDirective (record { label = b.0; statement = d.0 }) found d.2 in
     let label : b.0 ≡ found.label = ap (λ (line : Checked). line.label) f.1 in
     let statement : c.0 ≡ found.statement = d'.1 ∙ ap (λ (line : Checked). line.statement) f.1 in
     record {

@@ -180,7 +180,7 @@ module _ (look more : List ℕ → Option Value) (grows : (name : List ℕ) (val
     outcome_stays (End (Some text)) = on (value look at text) (value more at text) _ (value_stays text)
     outcome_stays _ = stays_same is_unresolved _
 
-pub said_stays : (known more : Names) → Grows known more → (here : Location) (text : List ℕ) → Stays is_unresolved (parsed known here text) (parsed more here text)
-said_stays known more grows here text =
+pub parse_stays : (known more : Names) → Grows known more → (here : Location) (text : List ℕ) → Stays is_unresolved (parsed known here text) (parsed more here text)
+parse_stays known more grows here text =
     after (as_text (fields text)) _ _
     (λ found. statement_stays (look_up known) (look_up more) grows (address_of here) text found.operation found.operands)

@@ -6,7 +6,7 @@ use Rattle.std.specs.Prelude.{◌≡◌, ◌≤◌, ℕ, ◌+◌, ◌/◌, ◌%�
 use Rattle.std.specs.Prelude.{Result, Ok, Err}
 use Rattle.expression_defs.specs.Expression.{to_word}
 use Rattle.expression_defs.specs.Layout as layout
-use Rattle.expression_defs.specs.Layout.{Laid}
+use Rattle.expression_defs.specs.Layout.{LayoutLine}
 use Rattle.gpl_source_defs.specs.declared.causes.GplCause.{GplCause}
 use Rattle.gpl_source_defs.specs.declared.causes.GplCause.TheVariants.{OtherGrom}
 use Rattle.gpl_source_defs.specs.declared.location.Location.{Location}
@@ -15,7 +15,7 @@ use Rattle.base_defs.specs.declared.size.TheConstants.{GROM_SIZE}
 
 -- a line of a GPL source
 abbrev pub Line : Type 0
-Line = Laid Location Statement
+Line = LayoutLine Location Statement
 
 -- Profile: a source starts at >6000.
 abbrev pub start : Location

@@ -5,7 +5,7 @@ use Rattle.std.specs.FinMap.{empty, contains_key}
 use Rattle.source_defs.specs.Refusals.{Refusal, ◌>>=◌}
 use Rattle.expression_defs.specs.Symbols.{Names, look_up}
 use Rattle.source_defs.specs.Lines.{numbered, line_texts}
-use Rattle.expression_defs.specs.Layout.{laid, assembled_lines}
+use Rattle.expression_defs.specs.Layout.{line_layout, assembled_lines}
 use Rattle.gpl_defs.specs.Image.{Image, placed}
 use Rattle.gpl_source_defs.specs.declared.causes.GplCause.{GplCause}
 use Rattle.gpl_source_defs.specs.declared.causes.GplCause.TheVariants.{Overlap}
@@ -75,7 +75,7 @@ program_after lines = assembled_lines (assembled_line (names lines)) lines >>= �
 -- the program of numbered lines, or the first that is refused: by the first checks, else by the second
 abbrev pub program_of : List (ℕ × List ℕ) → Result Program (Refusal GplCause)
 program_of lines = do
-  found ← laid check lines
+  found ← line_layout check lines
   program_after found
 
 -- the program of some lines, which count from 1

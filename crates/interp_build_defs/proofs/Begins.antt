@@ -33,7 +33,7 @@ record Holds (shipped : List ℕ) (bytes : List ℕ) : Type 0 where
   beyond : (at : ℕ) → 2 * length shipped ≤ at → slice_index bytes at ≡ 0
 
 -- A memory that words that are shipped are loaded into.
-record Stands (shipped image : List ℕ) (entry : ℕ) (memory : Memory) : Type 0 where
+record WordsAreLoaded (shipped image : List ℕ) (entry : ℕ) (memory : Memory) : Type 0 where
   scratchpad : HoldsEntry entry memory.scratchpad
   low_expansion : Holds shipped memory.low_expansion
   high_expansion : HoldsZeros 24576 memory.high_expansion
@@ -42,10 +42,10 @@ record Stands (shipped image : List ℕ) (entry : ℕ) (memory : Memory) : Type 
   grom : memory.grom ≡ new_grom image
 
 -- what is placed in a new memory with the entry
-stands_placed : (shipped image : List ℕ) (linked : LinkedMemory) (entry : ℕ) (vdp : VdpState) (empty after : Memory)
+placed_words : (shipped image : List ℕ) (linked : LinkedMemory) (entry : ℕ) (vdp : VdpState) (empty after : Memory)
     → length shipped ≤ 4096 → HasShipped shipped linked → IsNewVdp vdp → IsNewMemory empty vdp (new_grom image)
-    → Placed shipped (entries linked.words) (with_first_word entry empty) after → Stands shipped image entry after
-stands_placed shipped image linked entry vdp empty after few has new_vdp fresh placed = record {
+    → Placed shipped (entries linked.words) (with_first_word entry empty) after → WordsAreLoaded shipped image entry after
+placed_words shipped image linked entry vdp empty after few has new_vdp fresh placed = record {
   scratchpad = subst (HoldsEntry entry) (sym placed.scratchpad) (holds_entry entry empty.scratchpad fresh.scratchpad);
   low_expansion = record {
     size = placed.size ∙ fresh.low_expansion.size;
@@ -59,12 +59,12 @@ stands_placed shipped image linked entry vdp empty after few has new_vdp fresh p
 }
 
 -- what linked memory is loaded into
-stands_loaded : (shipped image : List ℕ) (linked : LinkedMemory) (entry : ℕ) (memory : Memory) → length shipped ≤ 4096
-    → HasShipped shipped linked → IsLoaded linked image entry memory → Stands shipped image entry memory
-stands_loaded shipped image linked entry memory few has loaded =
+loaded_words : (shipped image : List ℕ) (linked : LinkedMemory) (entry : ℕ) (memory : Memory) → length shipped ≤ 4096
+    → HasShipped shipped linked → IsLoaded linked image entry memory → WordsAreLoaded shipped image entry memory
+loaded_words shipped image linked entry memory few has loaded =
     let fresh = loaded.new_memory in
-    subst (Stands shipped image entry) (sym loaded.loaded)
-    (stands_placed shipped image linked entry loaded.vdp loaded.empty (with_words (entries linked.words) (with_first_word entry loaded.empty))
+    subst (WordsAreLoaded shipped image entry) (sym loaded.loaded)
+    (placed_words shipped image linked entry loaded.vdp loaded.empty (with_words (entries linked.words) (with_first_word entry loaded.empty))
     few has loaded.new_vdp fresh
     (all_placed shipped (entries linked.words) (with_first_word entry loaded.empty) few fresh.low_expansion.size
     (all_belong shipped linked has)))
@@ -83,14 +83,14 @@ holds_words shipped bytes same holds =
 boots : (shipped image : List ℕ) (linked : LinkedMemory) (entry : ℕ) (x : MachineState) → HasShipped shipped linked → length shipped ≤ 4096
     → shipped ≡ INTERP → IsLoadedMachine linked image entry WORKSPACE GBOOT x → IsBoot image entry x
 boots shipped image linked entry x has few same loaded =
-    let stands = stands_loaded shipped image linked entry x.cpu.memory few has loaded.memory in
+    let is_loaded = loaded_words shipped image linked entry x.cpu.memory few has loaded.memory in
     record {
-      scratchpad = stands.scratchpad;
-      low_expansion = holds_words shipped x.cpu.memory.low_expansion same stands.low_expansion;
-      high_expansion = stands.high_expansion;
-      rom = stands.rom;
-      vdp = stands.vdp;
-      grom = stands.grom;
+      scratchpad = is_loaded.scratchpad;
+      low_expansion = holds_words shipped x.cpu.memory.low_expansion same is_loaded.low_expansion;
+      high_expansion = is_loaded.high_expansion;
+      rom = is_loaded.rom;
+      vdp = is_loaded.vdp;
+      grom = is_loaded.grom;
       pc = ap (λ (y : MachineState). y.cpu.pc) loaded.machine;
       wp = ap (λ (y : MachineState). y.cpu.wp) loaded.machine;
       status = ap (λ (y : MachineState). y.cpu.status) loaded.machine;

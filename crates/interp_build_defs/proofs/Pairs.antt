@@ -51,17 +51,17 @@ found_later pair pairs at word below found = by (eq_by_cmp nat_cmp at pair.0) re
 
 -- a fact of each pair
 abbrev pub Every : (ℕ × ℕ → Type 0) → List (ℕ × ℕ) → Type 0
-Every said [] = Unit {0}
-Every said (pair ∷ pairs) = said pair × Every said pairs
+Every Holds [] = Unit {0}
+Every Holds (pair ∷ pairs) = Holds pair × Every Holds pairs
 
 -- what is so of each pair that is found, is so of each
-pub every_found : (said : ℕ × ℕ → Type 0) (pairs : List (ℕ × ℕ)) → T (is_sorted nat_cmp pairs)
-    → ((pair : ℕ × ℕ) → find nat_cmp pair.0 pairs ≡ Some pair.1 → said pair) → Every said pairs
-every_found said [] rises holds = tt
-every_found said (pair ∷ pairs) rises holds =
+pub every_found : (Holds : ℕ × ℕ → Type 0) (pairs : List (ℕ × ℕ)) → T (is_sorted nat_cmp pairs)
+    → ((pair : ℕ × ℕ) → find nat_cmp pair.0 pairs ≡ Some pair.1 → Holds pair) → Every Holds pairs
+every_found Holds [] rises holds = tt
+every_found Holds (pair ∷ pairs) rises holds =
     let below : T (below_all nat_cmp pair.0 pairs) = first _ _ rises in (
       holds pair (found_first pair pairs),
-      every_found said pairs (second _ _ rises) (λ other found. holds other (found_later pair pairs other.0 other.1 below found)),
+      every_found Holds pairs (second _ _ rises) (λ other found. holds other (found_later pair pairs other.0 other.1 below found)),
     )
 
 -- a pair with a number is among them

@@ -49,9 +49,9 @@ pub record Matches (s : GplState) (x : MachineState) : Type 0 where
 
 -- Profile: where a program leaves by EXIT the machine is at GEXIT; where it stops the machine is at GSTOP, and register
 -- 0 has the number of the reason.
-abbrev pub StandsBy : Reason → MachineState → Type 0
-StandsBy Exit x = x.cpu.pc ≡ GEXIT
-StandsBy reason x = (x.cpu.pc ≡ GSTOP) × HoldsRegister x.cpu.memory 0 (number_of reason)
+abbrev pub IsStoppedBy : Reason → MachineState → Type 0
+IsStoppedBy Exit x = x.cpu.pc ≡ GEXIT
+IsStoppedBy reason x = (x.cpu.pc ≡ GSTOP) × HoldsRegister x.cpu.memory 0 (number_of reason)
 
 -- A machine at the end of a program: it still shows what a GPL program can see of the state, and register 1 has the
 -- address of the instruction that ended it.
@@ -62,4 +62,4 @@ pub record IsHalted (s : GplState) (reason : Reason) (x : MachineState) : Type 0
   pub image : x.cpu.memory.grom.image ≡ s.image
   pub wp : x.cpu.wp ≡ WORKSPACE
   pub address : HoldsRegister x.cpu.memory address_register s.pc
-  pub stands : StandsBy reason x
+  pub is_at : IsStoppedBy reason x

@@ -1,1 +1,1 @@
-mod Sought
+mod AfterSeek

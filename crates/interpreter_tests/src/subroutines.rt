@@ -73,7 +73,7 @@ fn has_fetched(machine: &Machine, byte: u16) -> bool {
 }
 
 #[test]
-fn fetch_gives_the_byte_that_was_sought(rt: HostRuntime) -> Result<(), Fail> {
+fn fetch_gives_the_byte_at_the_address(rt: HostRuntime) -> Result<(), Fail> {
     for &(at, byte) in FETCHED {
         let machine = after(rt.alloc(), at)?;
         assert!(rt; has_fetched(&machine, byte), "at {at:04X}");

@@ -107,8 +107,8 @@ module _ (known : Names) (at : Location) (reached : ℕ) where
     free_refs label (End text) free = refl
     free_refs label _ free = cc free
 
-    pub said_same : (text : List ℕ) (there_fields : Fields) (statement : Statement) → as_text (fields text) ≡ Ok there_fields
+    pub same_statement : (text : List ℕ) (there_fields : Fields) (statement : Statement) → as_text (fields text) ≡ Ok there_fields
         → statement_in text there_fields ≡ Ok statement → is_free statement ≡ true → any_known known (label_in there_fields.label) ≡ false
         → parsed there text ≡ Ok (record { label = there_fields.label; statement = statement })
     unfolding parsed
-    said_same text found statement is says free new = rw (is, new, says, free_refs found.label statement free) refl
+    same_statement text found statement is parses free new = rw (is, new, parses, free_refs found.label statement free) refl

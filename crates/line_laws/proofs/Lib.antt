@@ -1,6 +1,6 @@
 pub mod Small
 pub mod EarlierLines
-pub mod LaidLines
+pub mod LayoutLines
 pub mod PlacedWords
 pub mod SecondChecks
 pub mod LinkedPieces

@@ -180,35 +180,35 @@ module_linked m a words entry pieces defs refs entered fit from to =
 pub word_found : (from : ℕ) (words : List ℕ) (entry : ℕ) (at : ℕ) → get (memory_of from words entry).words at ≡ find nat_cmp at (pairs_of from words)
 word_found from words entry at = get-from_entries nat_cmp_total (pairs_of from words) at
 
-abbrev stands_in : ℕ → ℕ → Bool
-stands_in from at = nat_le from at && ((at - from) % 2 == 0)
+abbrev is_assembled_at : ℕ → ℕ → Bool
+is_assembled_at from at = nat_le from at && ((at - from) % 2 == 0)
 
 absent : (b : Bool) (k : ℕ) → ◌≡◌ {A = Option ℕ} None (if b then slice_get [] k else None)
 absent true k = refl
 absent false k = refl
 
-pub pair_found : (from : ℕ) (words : List ℕ) (at : ℕ) → find nat_cmp at (pairs_of from words) ≡ (if stands_in from at then slice_get words ((at - from) / 2) else None)
-pair_found from [] at = absent (stands_in from at) ((at - from) / 2)
+pub pair_found : (from : ℕ) (words : List ℕ) (at : ℕ) → find nat_cmp at (pairs_of from words) ≡ (if is_assembled_at from at then slice_get words ((at - from) / 2) else None)
+pair_found from [] at = absent (is_assembled_at from at) ((at - from) / 2)
 pair_found from (word ∷ words) at = by (eq_by_cmp nat_cmp at from) refl (pair_found (from + 2) words at)
   where
-    later : (at ≡ from → ⊥) → (b c : Bool) → stands_in (from + 2) at ≡ b → stands_in from at ≡ c
+    later : (at ≡ from → ⊥) → (b c : Bool) → is_assembled_at (from + 2) at ≡ b → is_assembled_at from at ≡ c
         → (if b then slice_get words ((at - (from + 2)) / 2) else None) ≡ (if c then slice_get (word ∷ words) ((at - from) / 2) else None)
     later apart true true x y =
         let bound : from + 2 ≤ at = grind (arith, nat_tests, x) in
         let place : (at - from) / 2 ≡ suc ((at - (from + 2)) / 2) = omega (arith, bound) in
         sym (ap (slice_get (word ∷ words)) place)
     later apart false false x y = refl
-    later apart true false x y = let wrong : stands_in from at ≡ true = grind (arith, nat_tests, x) in cc (wrong, y)
+    later apart true false x y = let wrong : is_assembled_at from at ≡ true = grind (arith, nat_tests, x) in cc (wrong, y)
     later apart false true x y =
-        let wrong : stands_in (from + 2) at ≡ true = grind (arith, nat_tests, y, apart) in cc (wrong, x)
+        let wrong : is_assembled_at (from + 2) at ≡ true = grind (arith, nat_tests, y, apart) in cc (wrong, x)
 
-    by : (tied : Bool) → eq_by_cmp nat_cmp at from ≡ tied → find nat_cmp at (pairs_of (from + 2) words) ≡ (if stands_in (from + 2) at then slice_get words ((at - (from + 2)) / 2) else None)
-        → cond tied (Some word) (find nat_cmp at (pairs_of (from + 2) words)) ≡ (if stands_in from at then slice_get (word ∷ words) ((at - from) / 2) else None)
+    by : (tied : Bool) → eq_by_cmp nat_cmp at from ≡ tied → find nat_cmp at (pairs_of (from + 2) words) ≡ (if is_assembled_at (from + 2) at then slice_get words ((at - (from + 2)) / 2) else None)
+        → cond tied (Some word) (find nat_cmp at (pairs_of (from + 2) words)) ≡ (if is_assembled_at from at then slice_get (word ∷ words) ((at - from) / 2) else None)
     by true e ih =
         let same : at ≡ from = eqb-true at from (sym (unsigned_tied at from) ∙ e) in
-        let here : stands_in from at ≡ true = grind (arith, nat_tests, same) in
+        let here : is_assembled_at from at ≡ true = grind (arith, nat_tests, same) in
         let place : (at - from) / 2 ≡ 0 = omega (arith, same) in
         rw (here, place) refl
     by false e ih =
         let apart : at ≡ from → ⊥ = λ same. let tied : eq_by_cmp nat_cmp at from ≡ true = unsigned_tied at from ∙ grind (arith, nat_tests, same) in cc (tied, e) in
-        ih ∙ later apart (stands_in (from + 2) at) (stands_in from at) refl refl
+        ih ∙ later apart (is_assembled_at (from + 2) at) (is_assembled_at from at) refl refl

@@ -6,7 +6,7 @@ use Rattle.std.proofs.lemmas.Bool.Decides.{nat_tests}
 use Rattle.expression_defs.specs.Symbols.{look_up, registers}
 use Rattle.expression_defs.specs.Expression.{Value}
 use Rattle.source_defs.specs.Lines.{numbered}
-use Rattle.expression_defs.specs.Layout.{laid}
+use Rattle.expression_defs.specs.Layout.{line_layout}
 use Rattle.object_defs.specs.declared.spot.Spot.{Spot}
 use Rattle.asm_defs.specs.declared.location.Location.{Location}
 use Rattle.asm_defs.specs.Locations.{Line, start, location}
@@ -14,9 +14,9 @@ use Rattle.asm_defs.specs.FirstChecks.{check, line_of, names, location_after}
 use Rattle.asm_defs.specs.SecondChecks.{outcome}
 use Rattle.line_laws.specs.KnownLines.{KnownLine, known_line, known_lines, names_in, all_names, names_after}
 use Rattle.line_laws.specs.KnownLines.{are_new, are_plain, is_plain, end_of, look_in, is_plain_statement}
-use Rattle.line_laws.specs.Laws.{looks, AreKnown, StandsIn, KnownLinesStand}
-use Rattle.line_laws.proofs.LaidLines.{laid_list, are_laid, check_after, parts_of, first_of, new_by, plain_free}
-use Rattle.line_laws.proofs.Whole.{front, final, first, final_known, final_checked, all_laid, looked, registers_stand}
+use Rattle.line_laws.specs.Laws.{looks, AreKnown, IsAssembledAt, KnownLinesAreAssembled}
+use Rattle.line_laws.proofs.LayoutLines.{layout_list, earlier_layout, check_after, parts_of, first_of, new_by, plain_free}
+use Rattle.line_laws.proofs.Whole.{front, final, first, final_known, final_checked, whole_layout, looked, registers_look_up}
 use Rattle.line_laws.proofs.Small.{both}
 
 new_parts : (known entries others : List (List ℕ × Value)) → are_new known (entries ++ others) ≡ true
@@ -114,27 +114,27 @@ module _ (half : ℕ) (texts : List (List ℕ)) (last : List ℕ) (defined : Lis
   every = final half texts last defined lines end spot is ∷ front half texts last defined lines end spot is
 
   -- a line after lines that are laid
-  stands_by : (index : ℕ) (some : List (List ℕ)) (text : List ℕ) (before : List Line) (line : KnownLine)
+  is_at_by : (index : ℕ) (some : List (List ℕ)) (text : List ℕ) (before : List Line) (line : KnownLine)
       → take index (texts ++ last ∷ []) ≡ some → slice_index_or (texts ++ last ∷ []) index [] ≡ text
-      → laid check (numbered 1 some) ≡ Ok before → known_line look (location before) text ≡ Ok line
-      → check before (index + 1) text ≡ Ok (line_of (index + 1) line.found) → StandsIn (texts ++ last ∷ []) index line.at line.outcome
-  stands_by index some text before line taken there are known is_checked =
+      → line_layout check (numbered 1 some) ≡ Ok before → known_line look (location before) text ≡ Ok line
+      → check before (index + 1) text ≡ Ok (line_of (index + 1) line.found) → IsAssembledAt (texts ++ last ∷ []) index line.at line.outcome
+  is_at_by index some text before line taken there are known is_checked =
       let p = parts_of look (location before) text line known in
       let same : look ≡ look_up (names every) = looked half texts last defined lines end spot is in
       record {
         before = before;
-        are_laid = ap (λ texts. laid check (numbered 1 texts)) taken ∙ are;
+        earlier_layout = ap (λ texts. line_layout check (numbered 1 texts)) taken ∙ are;
         line = line_of (index + 1) line.found;
         checked = ap (check before (index + 1)) there ∙ is_checked;
-        stands = sym p.stands;
+        place_is = sym p.place_is;
         all = every;
-        all_laid = all_laid half texts last defined lines end spot is;
+        whole_layout = whole_layout half texts last defined lines end spot is;
         comes = subst (λ look. outcome look line.at line.found.statement ≡ Ok line.outcome) same p.comes;
       }
 
   module _ (d : KnownLine) where
-    plain_stands : (index : ℕ) → Split look d texts lines start index → StandsIn (texts ++ last ∷ []) index (slice_index_or lines index d).at (slice_index_or lines index d).outcome
-    plain_stands index s =
+    plain_is_at : (index : ℕ) → Split look d texts lines start index → IsAssembledAt (texts ++ last ∷ []) index (slice_index_or lines index d).at (slice_index_or lines index d).outcome
+    plain_is_at index s =
         let line = slice_index_or lines index d in
         let text = slice_index_or texts index [] in
         let plain = plain_parts s.front line s.rest (subst (λ lines. are_plain lines ≡ true) s.is is.plain) in
@@ -142,36 +142,36 @@ module _ (half : ℕ) (texts : List (List ℕ)) (last : List ℕ) (defined : Lis
         ap (are_new registers) (sym (names_of_two s.front (line ∷ s.rest)))
         ∙ subst (λ lines. are_new registers (all_names lines) ≡ true) s.is (ap (are_new registers) is.names ∙ is.new) in
         let parts = new_parts registers (all_names s.front) (names_in line ++ all_names s.rest) new in
-        let laid_front = are_laid look (take index texts) s.front [] 1 registers s.known plain.0 registers_stand parts.0 in
-        let before = laid_list [] 1 s.front in
-        let known : known_line look (location before) text ≡ Ok line = ap (λ at. known_line look at text) laid_front.at ∙ s.one in
-        let fresh = new_by (names before) (names_after registers (all_names s.front)) (all_names s.rest) line.found.label line.found.move.label laid_front.names parts.1 in
+        let layout_front = earlier_layout look (take index texts) s.front [] 1 registers s.known plain.0 registers_look_up parts.0 in
+        let before = layout_list [] 1 s.front in
+        let known : known_line look (location before) text ≡ Ok line = ap (λ at. known_line look at text) layout_front.at ∙ s.one in
+        let fresh = new_by (names before) (names_after registers (all_names s.front)) (all_names s.rest) line.found.label line.found.move.label layout_front.names parts.1 in
         let free = plain_free line.found.statement (both (is_plain_statement line.found.statement) _ plain.1).0 in
-        stands_by index (take index texts) text before line
+        is_at_by index (take index texts) text before line
         (take_front texts (last ∷ []) index (omega (arith, s.inside)))
-        (index_front texts (last ∷ []) index [] s.inside) laid_front.laid known
+        (index_front texts (last ∷ []) index [] s.inside) layout_front.line_layout known
         (check_after look text line before (index + 1) known free.free fresh.fresh)
 
-    last_stands : (index : ℕ) → index ≡ length texts → StandsIn (texts ++ last ∷ []) index end.at end.outcome
-    last_stands index e =
+    last_is_at : (index : ℕ) → index ≡ length texts → IsAssembledAt (texts ++ last ∷ []) index end.at end.outcome
+    last_is_at index e =
         let before = front half texts last defined lines end spot is in
         let numbers : 1 + length texts ≡ index + 1 = omega (arith, e) in
-        stands_by index texts last before end (take_all_of texts (last ∷ []) index e) (index_after texts last index [] e)
-        (first half texts last defined lines end spot is).laid (final_known half texts last defined lines end spot is)
+        is_at_by index texts last before end (take_all_of texts (last ∷ []) index e) (index_after texts last index [] e)
+        (first half texts last defined lines end spot is).line_layout (final_known half texts last defined lines end spot is)
         (subst (λ number. check before number last ≡ Ok (line_of number end.found)) numbers (final_checked half texts last defined lines end spot is))
 
-    stands_where : (index : ℕ) (inside : Bool) → nat_lt index (length lines) ≡ inside → index < length (lines ++ end ∷ [])
-        → StandsIn (texts ++ last ∷ []) index (slice_index_or (lines ++ end ∷ []) index d).at (slice_index_or (lines ++ end ∷ []) index d).outcome
-    stands_where index true inside lt =
+    is_at_place : (index : ℕ) (inside : Bool) → nat_lt index (length lines) ≡ inside → index < length (lines ++ end ∷ [])
+        → IsAssembledAt (texts ++ last ∷ []) index (slice_index_or (lines ++ end ∷ []) index d).at (slice_index_or (lines ++ end ∷ []) index d).outcome
+    is_at_place index true inside lt =
         let here : index < length lines = grind (arith, nat_tests, inside) in
-        subst (λ line. StandsIn (texts ++ last ∷ []) index line.at line.outcome) (sym (index_front lines (end ∷ []) index d here))
-        (plain_stands index (split look d texts lines start index is.known here))
-    stands_where index false inside lt =
+        subst (λ line. IsAssembledAt (texts ++ last ∷ []) index line.at line.outcome) (sym (index_front lines (end ∷ []) index d here))
+        (plain_is_at index (split look d texts lines start index is.known here))
+    is_at_place index false inside lt =
         let size = length-append lines (end ∷ []) in
         let here : index ≡ length lines = grind (arith, nat_tests, inside, lt, size) in
-        subst (λ line. StandsIn (texts ++ last ∷ []) index line.at line.outcome) (sym (index_after lines end index d here))
-        (last_stands index (here ∙ same_length look d texts lines start is.known))
+        subst (λ line. IsAssembledAt (texts ++ last ∷ []) index line.at line.outcome) (sym (index_after lines end index d here))
+        (last_is_at index (here ∙ same_length look d texts lines start is.known))
 
-pub known_lines_stand : KnownLinesStand
-known_lines_stand half texts last defined lines end spot index d is lt =
-    stands_where half texts last defined lines end spot is d index (nat_lt index (length lines)) refl lt
+pub known_lines_are_assembled : KnownLinesAreAssembled
+known_lines_are_assembled half texts last defined lines end spot index d is lt =
+    is_at_place half texts last defined lines end spot is d index (nat_lt index (length lines)) refl lt

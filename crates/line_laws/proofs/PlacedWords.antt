@@ -134,16 +134,16 @@ pub record ComesNext (line : AssembledLine) (at : ℕ) (more : List ℕ) : Type 
   pub place : (is_empty more || is_at at line.at) ≡ true
 
 -- it has no words, or stands there
-abbrev pub Stands : Location → ℕ → List ℕ → Type 0
-Stands place at more = (length more ≡ 0) ⊎ ((place.part ≡ part.Absolute) × (place.number ≡ at))
+abbrev pub IsAt : Location → ℕ → List ℕ → Type 0
+IsAt place at more = (length more ≡ 0) ⊎ ((place.part ≡ part.Absolute) × (place.number ≡ at))
 
 is_there : (place : Location) (at : ℕ) (found : Part) → place.part ≡ found → is_absolute found ≡ true → place.number ≡ at → (place.part ≡ part.Absolute) × (place.number ≡ at)
 is_there place at part.Absolute e absolute same = (e, same)
 is_there place at _ e absolute same = cc absolute
 
-stands_by : (place : Location) (at : ℕ) (more : List ℕ) → (is_empty more || is_at at place) ≡ true → Stands place at more
-stands_by place at [] e = inl refl
-stands_by place at (word ∷ words) e =
+is_at_by : (place : Location) (at : ℕ) (more : List ℕ) → (is_empty more || is_at at place) ≡ true → IsAt place at more
+is_at_by place at [] e = inl refl
+is_at_by place at (word ∷ words) e =
     let b = both (is_absolute place.part) _ e in
     inr (is_there place at place.part refl b.0 (grind (arith, nat_tests, b.1)))
 
@@ -160,8 +160,8 @@ module _ (line : AssembledLine) (at : ℕ) (more : List ℕ) (next : ComesNext l
       let c = both (same_part line.at.part part) _ b.0 in
       (grind (arith, nat_tests, c.1), grind (arith, nat_tests, b.1, size))
 
-  pub stands : Stands line.at at more
-  stands = stands_by line.at at more next.place
+  pub place_is : IsAt line.at at more
+  place_is = is_at_by line.at at more next.place
 
   -- a place that the line covers
   record Covered (p : ℕ) : Type 0 where
@@ -170,13 +170,13 @@ module _ (line : AssembledLine) (at : ℕ) (more : List ℕ) (next : ComesNext l
     after : at ≤ p
     within : p < at + 2 * length more
 
-  covered_by : (p : ℕ) → (line.at.number ≤ p) × (p < line.at.number + 2 * length more) → Stands line.at at more → Covered p
+  covered_by : (p : ℕ) → (line.at.number ≤ p) × (p < line.at.number + 2 * length more) → IsAt line.at at more → Covered p
   covered_by p inside (inl none) = absurd (omega (arith, inside.0, inside.1, none))
   covered_by p inside (inr there) =
       record { part = there.0; number = there.1; after = omega (arith, inside.0, there.1); within = omega (arith, inside.1, there.1) }
 
   covered : (p : ℕ) (part : Part) → covers line part p ≡ true → Covered p
-  covered p part e = covered_by p (among_is p part e) stands
+  covered p part e = covered_by p (among_is p part e) place_is
 
   -- no place of relocatable code is covered
   not_relocatable : (p : ℕ) → covers line part.Relocatable p ≡ false
@@ -191,7 +191,7 @@ module _ (line : AssembledLine) (at : ℕ) (more : List ℕ) (next : ComesNext l
   not_after p le = false_from_ne_true _ (λ e. omega (arith, le, (covered p part.Absolute e).within))
 
   -- a place from there on that is not covered is after the words
-  after_by : (p : ℕ) → covers line part.Absolute p ≡ false → at ≤ p → Stands line.at at more → at + 2 * length more ≤ p
+  after_by : (p : ℕ) → covers line part.Absolute p ≡ false → at ≤ p → IsAt line.at at more → at + 2 * length more ≤ p
   after_by p e le (inl none) = omega (arith, le, none)
   after_by p e le (inr there) =
       let same : same_part line.at.part part.Absolute ≡ true = ap (λ (found : Part). same_part found part.Absolute) there.0 in
@@ -204,7 +204,7 @@ module _ (line : AssembledLine) (at : ℕ) (more : List ℕ) (next : ComesNext l
       where
         apart : covers line part.Absolute p ≡ false → (b : Bool) → nat_le at p ≡ b → content_of from words p ≡ content_of from (words ++ more) p
         apart e true le =
-            let after = after_by p e (grind (arith, nat_tests, le)) stands in
+            let after = after_by p e (grind (arith, nat_tests, le)) place_is in
             sym (content_past from words more p (omega (arith, ends, after)))
         apart e false le =
             let before : p < from + 2 * length words = grind (arith, nat_tests, le, ends) in

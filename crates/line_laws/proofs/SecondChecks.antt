@@ -22,8 +22,8 @@ use Rattle.asm_defs.specs.Modules.{assembled_line, assembled_at, with_room, entr
 use Rattle.line_laws.specs.KnownLines.{KnownLine, known_line, known_lines, are_plain, is_plain, is_plain_statement}
 use Rattle.line_laws.specs.KnownLines.{outcome_words, line_words, all_words, are_close, is_at}
 use Rattle.source_defs.specs.OperandLists.{is_empty}
-use Rattle.line_laws.proofs.LaidLines.{laid_list, location_more, parts_of, first_of, First}
-use Rattle.line_laws.proofs.PlacedWords.{HoldWords, ComesNext, hold_more, few_words, any_none, stands, size, Stands}
+use Rattle.line_laws.proofs.LayoutLines.{layout_list, location_more, parts_of, first_of, First}
+use Rattle.line_laws.proofs.PlacedWords.{HoldWords, ComesNext, hold_more, few_words, any_none, place_is, size, IsAt}
 use Rattle.line_laws.proofs.Small.{both}
 
 abbrev pub as_assembled : KnownLine → AssembledLine
@@ -39,7 +39,7 @@ room_by line full overlap a b = rw (a, b) refl
 
 -- a line whose words come next has room
 module _ (earlier : List AssembledLine) (line : AssembledLine) (from : ℕ) (words more : List ℕ) (hold : HoldWords [] earlier from words) (next : ComesNext line (from + 2 * length words) more) where
-  overlaps_none : Stands line.at (from + 2 * length words) more → overlaps earlier line ≡ false
+  overlaps_none : IsAt line.at (from + 2 * length words) more → overlaps earlier line ≡ false
   overlaps_none (inl none) =
       let empty : bytes_in line.outcome ≡ 0 = omega (arith, size line (from + 2 * length words) more next, none) in
       ap (any_from (is_placed earlier line.at.part) line.at.number) empty
@@ -52,7 +52,7 @@ module _ (earlier : List AssembledLine) (line : AssembledLine) (from : ℕ) (wor
       let after = hold_more line (from + 2 * length words) more next [] earlier from words refl hold in
       let few = few_words (line ∷ earlier) after.none in
       let fits : nat_lt 32768 (word_count (line ∷ earlier)) ≡ false = grind (arith, nat_tests, few) in
-      room_by line _ _ fits (overlaps_none (stands line (from + 2 * length words) more next))
+      room_by line _ _ fits (overlaps_none (place_is line (from + 2 * length words) more next))
 
 known_words : (found : Option (List ℕ)) → is_some found ≡ true → found ≡ Some (unwrap_or found [])
 known_words (Some words) e = refl
@@ -76,11 +76,11 @@ module _ (look : List ℕ → Option Value) (known : Names) (same : look ≡ loo
       let p = parts_of look (location before) text line e in
       let comes : outcome (look_up known) line.at line.found.statement ≡ Ok line.outcome =
       subst (λ look. outcome look line.at line.found.statement ≡ Ok line.outcome) same p.comes in
-      subst (λ at. assembled_at known at line.found.statement earlier ≡ Ok (as_assembled line)) p.stands
+      subst (λ at. assembled_at known at line.found.statement earlier ≡ Ok (as_assembled line)) p.place_is
       (ap (λ answer. answer >>= λ found. with_room earlier (record { at = line.at; outcome = found })) comes ∙ room)
 
   pub record AreAssembled (lines : List KnownLine) (before : List Line) (number : ℕ) (earlier : List AssembledLine) (words : List ℕ) : Type 0 where
-    pub assembled_lines : assembled_lines (assembled_line known) (laid_list before number lines) ≡ Ok (assembled_list earlier lines)
+    pub assembled_lines : assembled_lines (assembled_line known) (layout_list before number lines) ≡ Ok (assembled_list earlier lines)
     pub hold : HoldWords [] (assembled_list earlier lines) from (words ++ all_words lines)
     pub entry : entry (assembled_list earlier lines) ≡ entry earlier
 

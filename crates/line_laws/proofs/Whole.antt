@@ -10,8 +10,8 @@ use Rattle.source_defs.specs.Refusals.{◌>>=◌, at_line}
 use Rattle.expression_defs.specs.Symbols.{look_up, predefined, registers}
 use Rattle.expression_defs.specs.Expression.{Value, Absolute}
 use Rattle.source_defs.specs.Lines.{numbered}
-use Rattle.expression_defs.specs.Layout.{assembled_lines, laid, with_names}
-use Rattle.expression_defs.proofs.LaidLaws.{laid_more}
+use Rattle.expression_defs.specs.Layout.{assembled_lines, line_layout, with_names}
+use Rattle.expression_defs.proofs.LayoutLaws.{layout_more}
 use Rattle.object_defs.specs.declared.spot.Spot.{Spot}
 use Rattle.object_defs.specs.Modules.{Module, Reference}
 use Rattle.asm_defs.specs.declared.causes.AsmCause.{AsmCause}
@@ -32,15 +32,15 @@ use Rattle.asm_defs.specs.Modules.{unused, definition_in}
 use Rattle.line_laws.specs.KnownLines.{KnownLine, known_line, all_names, all_words, names_after, are_new, are_close}
 use Rattle.line_laws.specs.Laws.{looks, AreKnown, HasWords, KnownLinesHaveTheirWords}
 use Rattle.line_laws.proofs.EarlierLines.{is_free}
-use Rattle.line_laws.proofs.LaidLines.{StandFor, laid_list, AreLaid, are_laid, check_after}
+use Rattle.line_laws.proofs.LayoutLines.{LooksUpIn, layout_list, AreLaidOut, earlier_layout, check_after}
 use Rattle.line_laws.proofs.PlacedWords.{HoldWords, few_words, content_of}
 use Rattle.line_laws.proofs.SecondChecks.{as_assembled, assembled_list, assemble_is, AreAssembled, are_assembled, assembled_step}
 use Rattle.line_laws.proofs.SecondChecks.{room_by}
 use Rattle.line_laws.proofs.LinkedPieces.{pieces_held}
 use Rattle.line_laws.proofs.Small.{both, append_none}
 
-pub registers_stand : StandFor predefined registers
-registers_stand name = get-from_entries nat_list_cmp_total registers name
+pub registers_look_up : LooksUpIn predefined registers
+registers_look_up name = get-from_entries nat_list_cmp_total registers name
 
 pub none_by : (b : Bool) (k : ℕ) → ◌≡◌ {A = Option Content} None (if b then slice_get [] k else None)
 none_by true k = refl
@@ -110,7 +110,7 @@ no_bytes found spot e = ap bytes_in e
 
 module _ (half : ℕ) (texts : List (List ℕ)) (last : List ℕ) (defined : List (List ℕ × Value)) (lines : List KnownLine) (end : KnownLine) (spot : Spot) (is : AreKnown (2 * half) texts last defined lines end spot) where
   abbrev pub front : List Line
-  front = laid_list [] 1 lines
+  front = layout_list [] 1 lines
 
   abbrev pub number : ℕ
   number = 1 + length texts
@@ -118,8 +118,8 @@ module _ (half : ℕ) (texts : List (List ℕ)) (last : List ℕ) (defined : Lis
   abbrev pub final : Line
   final = line_of number end.found
 
-  pub first : AreLaid (looks defined) texts lines [] 1 registers
-  first = are_laid (looks defined) texts lines [] 1 registers is.known is.plain registers_stand (ap (are_new registers) is.names ∙ is.new)
+  pub first : AreLaidOut (looks defined) texts lines [] 1 registers
+  first = earlier_layout (looks defined) texts lines [] 1 registers is.known is.plain registers_look_up (ap (are_new registers) is.names ∙ is.new)
 
   pub final_known : known_line (looks defined) (location front) last ≡ Ok end
   final_known = ap (λ at. known_line (looks defined) at last) first.at ∙ is.closing
@@ -130,20 +130,20 @@ module _ (half : ℕ) (texts : List (List ℕ)) (last : List ℕ) (defined : Lis
   pub final_checked : check front number last ≡ Ok final
   final_checked = check_after (looks defined) last end front number final_known final_free (ap (λ label. any_known (names front) (label_in label)) is.unnamed)
 
-  pub all_laid : laid check (numbered 1 (texts ++ last ∷ [])) ≡ Ok (final ∷ front)
-  all_laid =
-      laid_more check last texts [] 1 number front refl first.laid first.going_on
+  pub whole_layout : line_layout check (numbered 1 (texts ++ last ∷ [])) ≡ Ok (final ∷ front)
+  whole_layout =
+      layout_more check last texts [] 1 number front refl first.line_layout first.going_on
       ∙ checked_last front number final (check front number last) final_checked
 
   names_same : names (final ∷ front) ≡ names front
   names_same = ap (with_names (names front)) (own_names end.found.statement end.found.label end.found.move.label is.ends.0 is.unnamed is.ends.1)
 
-  stand : StandFor (names (final ∷ front)) (names_after registers defined)
-  stand = subst (λ entries. StandFor (names (final ∷ front)) (names_after registers entries)) is.names
-      (subst (λ known. StandFor known (names_after registers (all_names lines))) (sym names_same) first.names)
+  at_place : LooksUpIn (names (final ∷ front)) (names_after registers defined)
+  at_place = subst (λ entries. LooksUpIn (names (final ∷ front)) (names_after registers entries)) is.names
+      (subst (λ known. LooksUpIn known (names_after registers (all_names lines))) (sym names_same) first.names)
 
   pub looked : looks defined ≡ look_up (names (final ∷ front))
-  looked i name = sym (stand name) i
+  looked i name = sym (at_place name) i
 
   rest : AreAssembled (looks defined) (names (final ∷ front)) looked (2 * half) lines [] 1 [] []
   rest = are_assembled (looks defined) (names (final ∷ front)) looked (2 * half) texts lines [] 1 [] [] is.known is.plain
@@ -175,7 +175,7 @@ module _ (half : ℕ) (texts : List (List ℕ)) (last : List ℕ) (defined : Lis
 
   pub assembled : module_of_lines (texts ++ last ∷ []) ≡ Ok whole
   assembled =
-      ap (λ answer. answer >>= module_after) all_laid
+      ap (λ answer. answer >>= module_after) whole_layout
       ∙ ap (λ answer. answer >>= λ found. Ok (module_by (final ∷ front) found)) all_assembled
 
   pub has_words : half + length (all_words lines) ≤ 32768 → HasWords (2 * half) (all_words lines) spot whole

@@ -5,7 +5,7 @@ use Rattle.std.specs.Prelude.{Option, Some, None, Ok}
 use Rattle.expression_defs.specs.Expression.{Value}
 use Rattle.expression_defs.specs.Symbols.{registers, look_up}
 use Rattle.source_defs.specs.Lines.{numbered}
-use Rattle.expression_defs.specs.Layout.{laid}
+use Rattle.expression_defs.specs.Layout.{line_layout}
 use Rattle.object_defs.specs.declared.spot.Spot.{Spot}
 use Rattle.object_defs.specs.Modules.{Module}
 use Rattle.asm_defs.specs.declared.location.Location.{Location}
@@ -58,21 +58,21 @@ KnownLinesHaveTheirWords =
     → HaveWords (texts ++ last ∷ []) (2 * half) (all_words lines) entry
 
 -- A line of a source stands at a place, after the lines before it, and comes to something, by the names of all lines.
-pub record StandsIn (texts : List (List ℕ)) (index : ℕ) (at : Location) (come : Outcome) : Type 0 where
+pub record IsAssembledAt (texts : List (List ℕ)) (index : ℕ) (at : Location) (come : Outcome) : Type 0 where
   pub before : List Line
-  pub are_laid : laid check (numbered 1 (take index texts)) ≡ Ok before
+  pub earlier_layout : line_layout check (numbered 1 (take index texts)) ≡ Ok before
   pub line : Line
   pub checked : check before (index + 1) (slice_index_or texts index []) ≡ Ok line
-  pub stands : place before line ≡ at
+  pub place_is : place before line ≡ at
   pub all : List Line
-  pub all_laid : laid check (numbered 1 texts) ≡ Ok all
+  pub whole_layout : line_layout check (numbered 1 texts) ≡ Ok all
   pub comes : outcome (look_up (names all)) at line.statement ≡ Ok come
 
 -- The law, which is proved: each of such lines stands where it is known to stand, and comes to what it is known to
 -- come to.
-abbrev pub KnownLinesStand : Type 0
-KnownLinesStand =
+abbrev pub KnownLinesAreAssembled : Type 0
+KnownLinesAreAssembled =
     (half : ℕ) (texts : List (List ℕ)) (last : List ℕ) (defined : List (List ℕ × Value)) (lines : List KnownLine)
     (end : KnownLine) (entry : Spot) (index : ℕ) (d : KnownLine)
     → AreKnown (2 * half) texts last defined lines end entry → index < length (lines ++ end ∷ [])
-    → let line = slice_index_or (lines ++ end ∷ []) index d in StandsIn (texts ++ last ∷ []) index line.at line.outcome
+    → let line = slice_index_or (lines ++ end ∷ []) index d in IsAssembledAt (texts ++ last ∷ []) index line.at line.outcome

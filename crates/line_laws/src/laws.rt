@@ -1,6 +1,6 @@
 //! Laws of the definitions. Each function does nothing, and its contract is the law.
 
-ghost use Rattle.line_laws.specs.Laws.{KnownLinesHaveTheirWords, KnownLinesStand};
+ghost use Rattle.line_laws.specs.Laws.{KnownLinesHaveTheirWords, KnownLinesAreAssembled};
 ghost use Rattle.line_laws.specs.Texts.{FedTextsHaveTheirLines};
 
 /// The module of plain lines that are known by themselves has their words, one after the other, and nothing else.
@@ -10,9 +10,9 @@ pub fn known_lines_have_their_words()
 {}
 
 /// Each of such lines stands where it is known to stand, and comes to what it is known to come to.
-#[tactic(auto, using(crate::proofs::Locations::known_lines_stand))]
-pub fn known_lines_stand()
-    ensures { KnownLinesStand }
+#[tactic(auto, using(crate::proofs::Locations::known_lines_are_assembled))]
+pub fn known_lines_are_assembled()
+    ensures { KnownLinesAreAssembled }
 {}
 
 /// The lines of a text whose lines are each ended by a line feed are these lines.

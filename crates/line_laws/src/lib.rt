@@ -4,4 +4,4 @@
 
 mod laws;
 
-pub use laws::{fed_texts_have_their_lines, known_lines_have_their_words, known_lines_stand};
+pub use laws::{fed_texts_have_their_lines, known_lines_have_their_words, known_lines_are_assembled};

@@ -7,13 +7,13 @@ use Rattle.std.specs.List.{list_all}
 use Rattle.source_defs.specs.Names.{is_kept_name}
 use Rattle.expression_defs.specs.Expression.{Value, Absolute}
 use Rattle.source_defs.specs.Lines.{numbered}
-use Rattle.expression_defs.specs.Layout.{laid}
+use Rattle.expression_defs.specs.Layout.{line_layout}
 use Rattle.object_defs.specs.declared.spot.Spot.TheVariants as spot
 use Rattle.asm_defs.specs.Locations.{Line}
 use Rattle.asm_defs.specs.FirstChecks.{check, line_of, external_entries, refs_in}
 use Rattle.line_laws.specs.KnownLines.{KnownLine, names_in, all_names, are_plain, is_plain, is_plain_statement}
-use Rattle.line_laws.proofs.LaidLines.{laid_list, plain_free}
-use Rattle.line_laws.proofs.Whole.{front, final, all_laid}
+use Rattle.line_laws.proofs.LayoutLines.{layout_list, plain_free}
+use Rattle.line_laws.proofs.Whole.{front, final, whole_layout}
 use Rattle.native_interp.specs.declared.addresses.TheConstants.{GBOOT}
 use Rattle.line_table.specs.Table.{defined}
 use Rattle.line_table.specs.Rows.{names_of_lines, NamesAreDefined, named, no_name, IsNameRow}
@@ -27,11 +27,11 @@ own_names line number plain =
     append_none (names_in line) (external_entries (refs_in line.found.statement))
     (ap (λ names. external_entries names) (plain_free line.found.statement (both (is_plain_statement line.found.statement) _ plain).0).refs)
 
-names_laid : (some : List KnownLine) (before : List Line) (number : ℕ) → are_plain some ≡ true → names_of_lines (laid_list before number some) ≡ names_of_lines before ++ all_names some
-names_laid [] before number plain = sym (append_none (names_of_lines before) [] refl)
-names_laid (line ∷ some) before number plain =
+layout_names : (some : List KnownLine) (before : List Line) (number : ℕ) → are_plain some ≡ true → names_of_lines (layout_list before number some) ≡ names_of_lines before ++ all_names some
+layout_names [] before number plain = sym (append_none (names_of_lines before) [] refl)
+layout_names (line ∷ some) before number plain =
     let b = both (is_plain line) (are_plain some) plain in
-    names_laid some (line_of number line.found ∷ before) (number + 1) b.1
+    layout_names some (line_of number line.found ∷ before) (number + 1) b.1
     ∙ (ap (λ names. (names_of_lines before ++ names) ++ all_names some) (own_names line number b.0)
     ∙ append_assoc (names_of_lines before) (names_in line) (all_names some))
 
@@ -42,14 +42,14 @@ every =
 
 every_names : names_of_lines every ≡ defined
 every_names =
-    append_none (names_of_lines (laid_list [] 1 front_lines)) [] refl
-    ∙ (names_laid front_lines [] 1 are_known.plain ∙ are_known.names)
+    append_none (names_of_lines (layout_list [] 1 front_lines)) [] refl
+    ∙ (layout_names front_lines [] 1 are_known.plain ∙ are_known.names)
 
 pub names_are_defined : NamesAreDefined
 names_are_defined = record {
   all = every;
-  are_laid = subst (λ texts. laid check (numbered 1 texts) ≡ Ok every) lines_are
-      (all_laid 0x1000 front_texts last defined front_lines ending (spot.Absolute GBOOT) are_known);
+  earlier_layout = subst (λ texts. line_layout check (numbered 1 texts) ≡ Ok every) lines_are
+      (whole_layout 0x1000 front_texts last defined front_lines ending (spot.Absolute GBOOT) are_known);
   names = every_names;
   new = are_known.new;
 }

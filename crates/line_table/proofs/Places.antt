@@ -11,9 +11,9 @@ use Rattle.object_defs.specs.declared.spot.Spot.TheVariants as spot
 use Rattle.asm_defs.specs.SecondChecks.{Outcome, Nothing, Words, Bytes, Entry}
 use Rattle.line_laws.specs.KnownLines as known
 use Rattle.line_laws.specs.KnownLines.{KnownLine, line_words, is_plain, are_plain, is_plain_statement}
-use Rattle.line_laws.specs.Laws.{StandsIn}
+use Rattle.line_laws.specs.Laws.{IsAssembledAt}
 use Rattle.line_laws.proofs.PlacedWords.{are_numbers}
-use Rattle.line_laws.proofs.Locations.{known_lines_stand}
+use Rattle.line_laws.proofs.Locations.{known_lines_are_assembled}
 use Rattle.native_interp.specs.Source.{lines}
 use Rattle.native_interp.specs.Words.{words}
 use Rattle.native_interp.specs.declared.addresses.TheConstants.{GBOOT}
@@ -157,13 +157,13 @@ module _ (some : List KnownLine) (table : List LineRow) (held : List ℕ) (texts
   alike_there : shown line_there ≡ row_shown row_there
   alike_there = shown_alike some table same index ending no_row inside there
 
-  pub row_stands : StandsIn texts index line_there.at line_there.outcome → Places line_there.outcome (line_words line_there)
+  pub row_is_assembled : IsAssembledAt texts index line_there.at line_there.outcome → Places line_there.outcome (line_words line_there)
       → list_all has_words table ≡ true → list_all (is_shipped held) table ≡ true
       → texts ≡ lines → held ≡ words → IsRow index row_there
-  row_stands stands places counted shipped are hold = record {
+  row_is_assembled place_is places counted shipped are hold = record {
     at = line_there.at;
     come = line_there.outcome;
-    stands = subst (λ texts. StandsIn texts index line_there.at line_there.outcome) are stands;
+    place_is = subst (λ texts. IsAssembledAt texts index line_there.at line_there.outcome) are place_is;
     place = place_number row_there ∙ ap (λ (s : Shown). s.at.number) (sym alike_there);
     count = grind (arith, nat_tests, tested has_words table index no_row counted there);
     placed = subst (Places line_there.outcome) (ap (λ (s : Shown). s.words) alike_there) places;
@@ -172,12 +172,12 @@ module _ (some : List KnownLine) (table : List LineRow) (held : List ℕ) (texts
         (tested (is_shipped held) table index no_row shipped there));
   }
 
-pub rows_stand : (index : ℕ) → index < length lines → IsRow index (slice_index_or rows index no_row)
-rows_stand index lt =
+pub rows_are_assembled : (index : ℕ) → index < length lines → IsRow index (slice_index_or rows index no_row)
+rows_are_assembled index lt =
     let inside : index < length all_lines = omega (arith, lt, lines_counted, all_counted) in
     let there : index < length rows = omega (arith, lt, lines_counted, rows_counted) in
-    row_stands all_lines rows words (front_texts ++ last ∷ []) index all_shown inside there
-    (known_lines_stand 0x1000 front_texts last defined front_lines ending (spot.Absolute GBOOT) index ending are_known inside)
+    row_is_assembled all_lines rows words (front_texts ++ last ∷ []) index all_shown inside there
+    (known_lines_are_assembled 0x1000 front_texts last defined front_lines ending (spot.Absolute GBOOT) index ending are_known inside)
     (at_index ending front_lines ending index to_last.plain refl inside) rows_have_words rows_are_shipped lines_are refl
 
 -- the row that is found among the five parts of the table
@@ -190,4 +190,4 @@ row_found index row found a b c d e one two three four five is made lt =
     let there : slice_index_or rows index no_row ≡ as_row (slice_index_or table index nothing) =
     index_map as_row table index nothing no_row (omega (arith, lt, lines_counted, counted)) in
     let here : row ≡ slice_index_or rows index no_row = made ∙ (ap as_row (is ∙ ap (λ table. slice_index_or table index nothing) same) ∙ sym there) in
-    subst (IsRow index) (sym here) (rows_stand index lt)
+    subst (IsRow index) (sym here) (rows_are_assembled index lt)

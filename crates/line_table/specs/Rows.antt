@@ -4,13 +4,13 @@ use Rattle.std.specs.Prelude.{take, drop, map, Ok}
 use Rattle.expression_defs.specs.Expression.{Value, Absolute}
 use Rattle.expression_defs.specs.Symbols.{registers}
 use Rattle.source_defs.specs.Lines.{numbered}
-use Rattle.expression_defs.specs.Layout.{laid}
+use Rattle.expression_defs.specs.Layout.{line_layout}
 use Rattle.asm_defs.specs.declared.location.Location.{Location}
 use Rattle.asm_defs.specs.Locations.{Line}
 use Rattle.asm_defs.specs.FirstChecks.{check}
 use Rattle.asm_defs.specs.SecondChecks.{Outcome, Nothing, Words, Bytes, Entry}
 use Rattle.line_laws.specs.KnownLines.{are_new}
-use Rattle.line_laws.specs.Laws.{StandsIn}
+use Rattle.line_laws.specs.Laws.{IsAssembledAt}
 use Rattle.native_interp.specs.Source.{lines}
 use Rattle.native_interp.specs.Words.{words}
 use Rattle.native_interp.specs.Words.{origin}
@@ -30,7 +30,7 @@ Places (Entry entry) placed = placed ≡ []
 pub record IsRow (index : ℕ) (row : LineRow) : Type 0 where
   pub at : Location
   pub come : Outcome
-  pub stands : StandsIn lines index at come
+  pub place_is : IsAssembledAt lines index at come
   pub place : row.place ≡ at.number
   pub count : length (row_words row) ≡ row.count
   pub placed : Places come (row_words row)
@@ -45,7 +45,7 @@ names_of_lines (line ∷ before) = names_of_lines before ++ line.names
 -- is a register's.
 pub record NamesAreDefined : Type 0 where
   pub all : List Line
-  pub are_laid : laid check (numbered 1 lines) ≡ Ok all
+  pub earlier_layout : line_layout check (numbered 1 lines) ≡ Ok all
   pub names : names_of_lines all ≡ defined
   pub new : IsTrue (are_new registers defined)
 

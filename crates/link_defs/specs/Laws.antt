@@ -39,7 +39,7 @@ abbrev pub used : List ℕ → List ℕ → Uses
 used name places = map (λ place. (place, name)) places
 
 -- no place is used twice, and each is one of memory but 0
-pub record StandApart (uses : Uses) : Type 0 where
+pub record AreApart (uses : Uses) : Type 0 where
   pub apart : IsDistinct nat_eq (map (λ one. one.0) uses)
   pub places : (at : ℕ) → IsSome (find nat_cmp at uses) → (at < most_places) × (at ≢ 0)
 
@@ -47,7 +47,7 @@ pub record StandApart (uses : Uses) : Type 0 where
 -- to one that a chain has passed.
 abbrev pub ChainEnds : List (ℕ × ℕ) → List ℕ → Uses → ℕ → Result Uses LinkCause → Type 0
 ChainEnds words name before last (Ok after) =
-    (places : List ℕ) × Leads words last places 0 × (after ≡ before ++ used name places) × StandApart after
+    (places : List ℕ) × Leads words last places 0 × (after ≡ before ++ used name places) × AreApart after
 ChainEnds words name before last (Err (ChainOutside at)) =
     (places : List ℕ) × Leads words last places at × (at ≢ 0) × (find nat_cmp at words ≡ None)
 ChainEnds words name before last (Err (ChainCycle at)) =
@@ -62,5 +62,5 @@ ChainEnds words name before last (Err NoEntry) = ⊥
 abbrev pub ChainsAreFollowed : Type 0
 ChainsAreFollowed =
     (words : List (ℕ × ℕ)) (name : List ℕ) (before : Uses) (last : ℕ)
-    → ((at : ℕ) → IsSome (find nat_cmp at words) → at < most_places) → StandApart before
+    → ((at : ℕ) → IsSome (find nat_cmp at words) → at < most_places) → AreApart before
     → ChainEnds words name before last (uses_from most_places words name before last)

@@ -13,7 +13,7 @@ use Rattle.std.proofs.lemmas.Map.Keys.{IsDistinct-push, IsDistinct-cons}
 use Rattle.std.proofs.lemmas.Map.Steps.{length-le_from_distinct_below}
 use Rattle.link_defs.specs.Causes.{ChainOutside, ChainCycle}
 use Rattle.link_defs.specs.Chains.{Uses, most_places, uses_from}
-use Rattle.link_defs.specs.Laws.{Leads, used, StandApart, ChainEnds, ChainsAreFollowed}
+use Rattle.link_defs.specs.Laws.{Leads, used, AreApart, ChainEnds, ChainsAreFollowed}
 use Rattle.link_loader.proofs.Words.{pick, pick_option, ties, tied}
 use Rattle.link_loader.proofs.Uses.{ends}
 
@@ -36,11 +36,11 @@ used_more name places place before =
     ∙ ap (λ uses. before ++ uses) (sym (map-append (λ (at : ℕ). (at, name)) places (place ∷ [])))
 
 -- one use more, at a place that has none
-apart_more : (uses : Uses) (place : ℕ) (name : List ℕ) → StandApart uses → place < most_places → place ≢ 0 → find nat_cmp place uses ≡ None → StandApart (uses ++ (place, name) ∷ [])
-apart_more uses place name stand below some none = record {
-  apart = rw (map-append (λ (one : ℕ × List ℕ). one.0) uses ((place, name) ∷ [])) (IsDistinct-push nat_eq_equiv (places_of uses) place stand.apart (rw none at (sym (is_used place uses))));
+apart_more : (uses : Uses) (place : ℕ) (name : List ℕ) → AreApart uses → place < most_places → place ≢ 0 → find nat_cmp place uses ≡ None → AreApart (uses ++ (place, name) ∷ [])
+apart_more uses place name apart_so_far below some none = record {
+  apart = rw (map-append (λ (one : ℕ × List ℕ). one.0) uses ((place, name) ∷ [])) (IsDistinct-push nat_eq_equiv (places_of uses) place apart_so_far.apart (rw none at (sym (is_used place uses))));
   places = λ at found. pick (eq_by_cmp nat_cmp at place) (λ e. rw (tied at place e) (below, some))
-      (λ e. stand.places at (rw (find-append nat_cmp nat_cmp_total uses place name at none, e) at found));
+      (λ e. apart_so_far.places at (rw (find-append nat_cmp nat_cmp_total uses place name at none, e) at found));
 }
 
 none_zero : (places : List ℕ) → list_any (eqb 0) places ≡ false → AllByRecursion (λ (y : ℕ). eqb 0 y ≡ false) places
@@ -48,12 +48,12 @@ none_zero [] e = tt
 none_zero (place ∷ places) e = let parts = or_parts _ _ e in (parts.0, none_zero places parts.1)
 
 -- the uses are fewer than there are places
-few : (uses : Uses) → StandApart uses → length uses + 1 ≤ most_places
-few uses stand =
-    let no_zero : list_any (eqb 0) (places_of uses) ≡ false = false_from_ne_true _ (λ used. (stand.places 0 (is_used 0 uses ∙ used)).1 refl) in
-    let distinct = IsDistinct-cons eqb 0 (places_of uses) (none_zero (places_of uses) no_zero) stand.apart in
+few : (uses : Uses) → AreApart uses → length uses + 1 ≤ most_places
+few uses apart_so_far =
+    let no_zero : list_any (eqb 0) (places_of uses) ≡ false = false_from_ne_true _ (λ used. (apart_so_far.places 0 (is_used 0 uses ∙ used)).1 refl) in
+    let distinct = IsDistinct-cons eqb 0 (places_of uses) (none_zero (places_of uses) no_zero) apart_so_far.apart in
     let below : (q : ℕ) → list_any (eqb q) (0 ∷ places_of uses) ≡ true → q < most_places =
-    λ q among. pick (eqb q 0) (λ is. let zero_place : q ≡ 0 = grind (arith, is) in omega (arith, zero_place)) (λ is. (stand.places q (is_used q uses ∙ rw is at among)).0) in
+    λ q among. pick (eqb q 0) (λ is. let zero_place : q ≡ 0 = grind (arith, is) in omega (arith, zero_place)) (λ is. (apart_so_far.places q (is_used q uses ∙ rw is at among)).0) in
     omega (arith, length-le_from_distinct_below (0 ∷ places_of uses) most_places distinct below, length-map uses (λ (one : ℕ × List ℕ). one.0))
 
 module _ (words : List (ℕ × ℕ)) (name : List ℕ) (uses : Uses) (left place : ℕ) (other : place ≢ 0) where
@@ -76,21 +76,21 @@ module _ (words : List (ℕ × ℕ)) (name : List ℕ) (before : Uses) (last : �
   abbrev uses_so : List ℕ → Uses
   uses_so places = before ++ used name places
 
-  chain_goes : (left : ℕ) (places : List ℕ) (place : ℕ) → Leads words last places place → StandApart (uses_so places) → most_places ≤ length (uses_so places) + left
+  chain_goes : (left : ℕ) (places : List ℕ) (place : ℕ) → Leads words last places place → AreApart (uses_so places) → most_places ≤ length (uses_so places) + left
       → ChainEnds words name before last (uses_from left words name (uses_so places) place)
-  chain_goes zero places place leads stand all = absurd (omega (arith, few (uses_so places) stand, all))
-  chain_goes (suc left) places place leads stand all =
+  chain_goes zero places place leads apart_so_far all = absurd (omega (arith, few (uses_so places) apart_so_far, all))
+  chain_goes (suc left) places place leads apart_so_far all =
       elim (cases_eq place 0) [
-        | inl is ↦ rw (is, ends words name (uses_so places) (suc left)) (places, rw is at leads, refl, stand)
+        | inl is ↦ rw (is, ends words name (uses_so places) (suc left)) (places, rw is at leads, refl, apart_so_far)
         | inr other ↦ pick_option (find nat_cmp place words) (λ w. rw (outside words name (uses_so places) left place other w) (places, leads, other, w))
             (λ word w. pick_option (find nat_cmp place (uses_so places))
             (λ t. let more = used_more name places place before in
-            let stand' = rw more at (apart_more (uses_so places) place name stand (inside place (rw w refl)) other t) in
+            let apart_next = rw more at (apart_more (uses_so places) place name apart_so_far (inside place (rw w refl)) other t) in
             rw (next_use words name (uses_so places) left place other word w t, more)
-            (chain_goes left (places ++ place ∷ []) word (leads_more words last places place word leads other w) stand' (rw (sym more) (omega (arith, all, length-append (uses_so places) ((place, name) ∷ []))))))
+            (chain_goes left (places ++ place ∷ []) word (leads_more words last places place word leads other w) apart_next (rw (sym more) (omega (arith, all, length-append (uses_so places) ((place, name) ∷ []))))))
             (λ earlier t. rw (cycle words name (uses_so places) left place other word earlier w t) (places, leads, other, rw t refl)))
       ]
 
 pub chains_are_followed : ChainsAreFollowed
-chains_are_followed words name before last inside stand =
-    rw (append-nil before) at (chain_goes words name before last inside most_places [] last refl (rw (append-nil before) stand) (omega arith))
+chains_are_followed words name before last inside apart_so_far =
+    rw (append-nil before) at (chain_goes words name before last inside most_places [] last refl (rw (append-nil before) apart_so_far) (omega arith))

@@ -9,7 +9,7 @@ use Rattle.console_defs.specs.Runs.{IsRun, end_at}
 use Rattle.console_defs.specs.declared.run_end.RunEnd.{RunEnd}
 use Rattle.link_defs.specs.LinkedMemory.{LinkedMemory}
 use Rattle.report_defs.specs.Exec.{exec_lines, end_status}
-use Rattle.report_defs.specs.Laws.{IsFrontOf}
+use Rattle.report_defs.specs.Laws.{IsPrefixOf}
 use Rattle.report_defs.specs.ObjectInput.{linked_input}
 use Rattle.report_defs.specs.Report.{Report, Whole}
 use Rattle.report_defs.proofs.OneReport.{one_start, one_number, same_run, some_apart}
@@ -56,7 +56,7 @@ not_shorter limit few made x y ending goes run =
     (λ e. absurd (some_apart ending _ run.ends (goes made (grind (arith, nat_tests)))))
     (λ e. grind (arith, nat_tests))
 
-begins_run : (limit : ℕ) (linked : LinkedMemory) (front report : Report) → ShowsInstructions limit linked front → ReportsSteps limit linked report → IsFrontOf front report
+begins_run : (limit : ℕ) (linked : LinkedMemory) (front report : Report) → ShowsInstructions limit linked front → ReportsSteps limit linked report → IsPrefixOf front report
 begins_run limit linked front report p q =
     let start : q.executes.start ≡ p.start = one_start linked q.executes.start p.start q.executes.is_start p.is_start in
     let run : IsRun None limit q.executes.made p.start q.ending q.left =
@@ -68,11 +68,11 @@ begins_run limit linked front report p q =
     q.is ∙ ap (λ s. whole s q.executes.made q.ending q.left) start
     ∙ ap (λ lines. Whole (end_status q.ending) (lines ++ after)) later.1
     ∙ ap (Whole (end_status q.ending)) (append_assoc (step_lines p.start p.made) later.0 after) in
-    subst (λ f. IsFrontOf f report) (sym p.is) (end_status q.ending, later.0 ++ after, is)
+    subst (λ f. IsPrefixOf f report) (sym p.is) (end_status q.ending, later.0 ++ after, is)
 
-begins : (limit : ℕ) (linked : Result LinkedMemory (List ℕ)) (front report : Report) → StepsFront limit linked front → StepsReport limit linked report → IsFrontOf front report
+begins : (limit : ℕ) (linked : Result LinkedMemory (List ℕ)) (front report : Report) → StepsFront limit linked front → StepsReport limit linked report → IsPrefixOf front report
 begins limit (Ok linked) front report p q = begins_run limit linked front report p q
-begins limit (Err line) front report p q = subst (λ f. IsFrontOf f report) (sym p) q
+begins limit (Err line) front report p q = subst (λ f. IsPrefixOf f report) (sym p) q
 
 pub one_steps_report : OneStepsReport
 one_steps_report limit input first second p q = one limit (linked_input input) first second p q

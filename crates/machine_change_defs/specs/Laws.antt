@@ -5,7 +5,7 @@ use Rattle.console_defs.specs.Machine.{MachineState}
 use Rattle.console_defs.specs.Runs.{after_steps}
 use Rattle.report_defs.specs.ObjectInput.{linked_input}
 use Rattle.report_defs.specs.Report.{Report}
-use Rattle.report_defs.specs.Laws.{IsFrontOf}
+use Rattle.report_defs.specs.Laws.{IsPrefixOf}
 use Rattle.machine_change_defs.specs.Seen.{SeenMemory, seen_memory}
 use Rattle.machine_change_defs.specs.Changes.{memory_applied}
 use Rattle.machine_change_defs.specs.Lines.{step_changes}
@@ -46,4 +46,4 @@ abbrev pub StepsFrontsBeginReports : Type 0
 StepsFrontsBeginReports =
     (limit : ℕ) (input : List ℕ) (front report : Report)
     → StepsFront limit (linked_input input) front → StepsReport limit (linked_input input) report
-    → IsFrontOf front report
+    → IsPrefixOf front report

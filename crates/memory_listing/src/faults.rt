@@ -74,7 +74,7 @@ pub fn link_line(error: &LinkError) -> Result<Line, AllocError>
 fn name_line(words: &[u8], name: &[u8]) -> Line
     requires words { length words.now ≤ 32 }
     requires name { length name.now ≤ 6 }
-    ensures { result.items ≡ spec.said_of words.now name.now }
+    ensures { result.items ≡ spec.fault_text words.now name.now }
 {
     let mut line = line_of(words);
     append(&mut line, name);
@@ -86,7 +86,7 @@ fn name_line(words: &[u8], name: &[u8]) -> Line
 #[tactic(auto, using(std::proofs::Common::append_assoc))]
 fn word_line(words: &[u8], address: u16) -> Line
     requires { length words.now ≤ 32 }
-    ensures { result.items ≡ spec.said_of words.now (hex_word address) }
+    ensures { result.items ≡ spec.fault_text words.now (hex_word address) }
 {
     let mut line = line_of(words);
     append_word(&mut line, address);
@@ -97,7 +97,7 @@ fn word_line(words: &[u8], address: u16) -> Line
 /// What is said of an address where no word may be loaded. It may have more than four digits.
 #[tactic(auto, using(std::proofs::Common::append_assoc))]
 fn address_line(address: u32) -> Line
-    ensures { result.items ≡ spec.said_of (codes "outside memory ") (spec.marked_address address) }
+    ensures { result.items ≡ spec.fault_text (codes "outside memory ") (spec.marked_address address) }
 {
     let mut line = line_of(b"outside memory ");
     let low = (address % 0x1_0000) as u16;

@@ -10,7 +10,7 @@ use Rattle.asm_defs.specs.declared.location.Part.{Part}
 use Rattle.asm_defs.specs.declared.location.Part.TheVariants as part
 use Rattle.asm_defs.specs.Memory.{AssembledLine, contents, same_part, is_placed_in, word_count, overlaps}
 use Rattle.asm_defs.specs.Modules.{with_room}
-use Rattle.module_image.specs.Images.{IsImage, IsLaid, any_in, any_laid}
+use Rattle.module_image.specs.Images.{IsImage, IsPut, any_in, any_put}
 use Rattle.module_image.specs.declared.image.Image.{Image}
 use Rattle.module_image.proofs.HoldingLaws.{part_holds, any_there, any_nowhere, words_are}
 
@@ -42,12 +42,12 @@ words_counted references lines image is =
     )
 
 module _ (references : List Reference) (earlier : List AssembledLine) (line : AssembledLine) (at : Location) (given : List Content) (old : Image) (is : IsImage references earlier old) (is_at : line.at ≡ at) (is_given : is_placed_in at.part ≡ true → given ≡ contents references earlier line) (within : at.number + length given ≤ 65536) where
-  pub image_after : (new : Image) → IsLaid at given old new → IsImage references (line ∷ earlier) new
-  image_after new laid = record {
+  pub image_after : (new : Image) → IsPut at given old new → IsImage references (line ∷ earlier) new
+  image_after new put_there = record {
     relocatable = part_holds references earlier line at given is_at is_given within part.Relocatable (same_part at.part part.Relocatable)
-        old.relocatable.cells.items new.relocatable.cells.items refl old.relocatable.size is.relocatable laid.relocatable;
+        old.relocatable.cells.items new.relocatable.cells.items refl old.relocatable.size is.relocatable put_there.relocatable;
     absolute = part_holds references earlier line at given is_at is_given within part.Absolute (same_part at.part part.Absolute)
-        old.absolute.cells.items new.absolute.cells.items refl old.absolute.size is.absolute laid.absolute;
+        old.absolute.cells.items new.absolute.cells.items refl old.absolute.size is.absolute put_there.absolute;
   }
 
   any_by : (found : Part) → at.part ≡ found → any_in found old at.number (length given) ≡ overlaps earlier line
@@ -57,5 +57,5 @@ module _ (references : List Reference) (earlier : List AssembledLine) (line : As
       any_there references earlier line at given is_at is_given within part.Absolute old.absolute.cells.items is.absolute there refl
   any_by part.Dummy there = any_nowhere references earlier line at given is_at is_given within there
 
-  pub overlaps_are : any_laid old at (length given) ≡ overlaps earlier line
+  pub overlaps_are : any_put old at (length given) ≡ overlaps earlier line
   overlaps_are = any_by at.part refl

@@ -22,10 +22,10 @@ use Rattle.asm_defs.specs.Memory.{spot_by, word_of, after_word, contents_by, con
 use Rattle.asm_defs.specs.Memory.{is_placed_in}
 use Rattle.asm_defs.proofs.PlacedWords.{word_contents, after_words}
 use Rattle.asm_defs.specs.Modules.{with_room, entry_by}
-use Rattle.asm_defs.specs.Growing.{is_own, stands}
+use Rattle.asm_defs.specs.Growing.{is_own, is_resolved}
 use Rattle.module_image.specs.Tables.{cell, put_from}
-use Rattle.module_image.specs.Images.{IsImage, IsLaid}
-use Rattle.module_image.specs.Standing.{StandsAfter, AllStand, FillsPlace, SamePlaces}
+use Rattle.module_image.specs.Images.{IsImage, IsPut}
+use Rattle.module_image.specs.ResolvedLines.{IsResolvedAfter, AreAllResolved, FillsPlace, SamePlaces}
 use Rattle.module_image.specs.declared.image.Image.{Image}
 use Rattle.module_image.proofs.TableLaws.{count_same}
 use Rattle.module_image.proofs.HoldingLaws.{chosen, any_same, are_same, part_same, part_placed, put_cell, is_among, contents_length}
@@ -54,21 +54,21 @@ own_uses part references at (word ∷ words) own =
     let each = and_parts (is_own word) (list_all is_own words) own in
     rw (own_use references (spot_by part at) word each.0) (own_uses part references (at + 2) words each.1)
 
-pub stands_alone : (at : Location) (first second : List Reference) (outcome : Outcome) → stands outcome ≡ true
+pub resolved_alone : (at : Location) (first second : List Reference) (outcome : Outcome) → is_resolved outcome ≡ true
     → contents_by at first outcome ≡ contents_by at second outcome
-stands_alone at first second (Words words) own = own_words at.part first second at.number words own
-stands_alone at first second _ own = refl
+resolved_alone at first second (Words words) own = own_words at.part first second at.number words own
+resolved_alone at first second _ own = refl
 
 either_same : (b : Bool) (first second : List Reference) → first ≡ second → (if b then first else second) ≡ second
 either_same true first second same = same
 either_same false first second same = refl
 
-pub uses_none : (at : Location) (references : List Reference) (outcome : Outcome) → stands outcome ≡ true → after_by at references outcome ≡ references
+pub uses_none : (at : Location) (references : List Reference) (outcome : Outcome) → is_resolved outcome ≡ true → after_by at references outcome ≡ references
 uses_none at references (Words words) own =
     either_same (is_placed_in at.part) (after_words at.part references at.number words) references (own_uses at.part references at.number words own)
 uses_none at references _ own = refl
 
-pub enters_none : (entry : Option Spot) (outcome : Outcome) → stands outcome ≡ true → entry_by entry outcome ≡ entry
+pub enters_none : (entry : Option Spot) (outcome : Outcome) → is_resolved outcome ≡ true → entry_by entry outcome ≡ entry
 enters_none entry (Entry found) own = cc own
 enters_none entry _ own = refl
 
@@ -94,11 +94,11 @@ room_same first second same line =
     ∙ ap (λ b. room_of (word_count (line ∷ second)) b line)
     (any_same (is_placed first line.at.part) (is_placed second line.at.part) line.at.number (bytes_in line.outcome) (λ p. same line.at.part p))
 
-pub stand_same : (first second lines : List AssembledLine) → SamePlaces first second → AllStand first lines → AllStand second lines
-stand_same first second [] same all = tt
-stand_same first second (line ∷ lines) same all = (
-  record { room = sym (room_same first second same line) ∙ all.0.room; stands = all.0.stands },
-  stand_same (line ∷ first) (line ∷ second) lines (same_after first second same line) all.1,
+pub resolved_same : (first second lines : List AssembledLine) → SamePlaces first second → AreAllResolved first lines → AreAllResolved second lines
+resolved_same first second [] same all = tt
+resolved_same first second (line ∷ lines) same all = (
+  record { room = sym (room_same first second same line) ∙ all.0.room; is_resolved = all.0.is_resolved },
+  resolved_same (line ∷ first) (line ∷ second) lines (same_after first second same line) all.1,
 )
 
 -- a line that has room overlaps no other
@@ -140,7 +140,7 @@ module _ (references : List Reference) (done : List AssembledLine) (held line : 
       ∙ (sym (chosen (covers held part p) false (slice_get (contents references done held) (p - held.at.number)) (content_at references done part p) (covers_same part p ∙ e))
       ∙ sym (chosen (covers line part p) false (slice_get (contents references done line) (p - line.at.number)) (content_at references (held ∷ done) part p) e))
 
-  module _ (old new : List AssembledLine) (swapped : IsSwapped old new) (has : Has old) (found : AssembledLine) (after_it : StandsAfter old found) where
+  module _ (old new : List AssembledLine) (swapped : IsSwapped old new) (has : Has old) (found : AssembledLine) (after_it : IsResolvedAfter old found) where
     free : overlaps old found ≡ false
     free = room_apart (nat_lt 32768 (word_count (found ∷ old))) (overlaps old found) found after_it.room
 
@@ -164,7 +164,7 @@ module _ (references : List Reference) (done : List AssembledLine) (held line : 
     next_by part p true e =
         chosen _ true _ _ e
         ∙ (ap (λ (contents : List Content). slice_get contents (p - found.at.number))
-        (stands_alone found.at (references_of references new) (references_of references old) found.outcome after_it.stands)
+        (resolved_alone found.at (references_of references new) (references_of references old) found.outcome after_it.is_resolved)
         ∙ (sym (chosen (covers found part p) true (slice_get (contents references old found) (p - found.at.number)) (content_at references old part p) e)
         ∙ sym (chosen (covers line part p) false (slice_get (contents references done line) (p - line.at.number)) (content_at references (found ∷ old) part p)
         (apart_by part p (covers line part p) refl e))))
@@ -173,18 +173,18 @@ module _ (references : List Reference) (done : List AssembledLine) (held line : 
         ∙ (swapped part p
         ∙ ap (new_at part p) (sym (chosen (covers found part p) false (slice_get (contents references old found) (p - found.at.number)) (content_at references old part p) e)))
 
-  all_swapped : (old new founds : List AssembledLine) → IsSwapped old new → Has old → AllStand old founds → IsSwapped (onto old founds) (onto new founds)
+  all_swapped : (old new founds : List AssembledLine) → IsSwapped old new → Has old → AreAllResolved old founds → IsSwapped (onto old founds) (onto new founds)
   all_swapped old new [] swapped has all = swapped
   all_swapped old new (found ∷ founds) swapped has all =
       all_swapped (found ∷ old) (found ∷ new) founds (λ part p. next_by old new swapped has found all.0 part p (covers found part p) refl)
       (λ part p there. or_right (covers found part p) (is_placed old part p) (has part p there)) all.1
 
-  swapped : (founds : List AssembledLine) → AllStand (held ∷ done) founds → IsSwapped (onto (held ∷ done) founds) (onto (line ∷ done) founds)
+  swapped : (founds : List AssembledLine) → AreAllResolved (held ∷ done) founds → IsSwapped (onto (held ∷ done) founds) (onto (line ∷ done) founds)
   swapped founds all =
       all_swapped (held ∷ done) (line ∷ done) founds (λ part p. first_by part p (covers line part p) refl)
       (λ part p there. or_left (covers held part p) (is_placed done part p) there) all
 
-  module _ (founds : List AssembledLine) (all : AllStand (held ∷ done) founds) (given : List Content) (is_given : is_placed_in line.at.part ≡ true → given ≡ contents references done line) (within : line.at.number + length given ≤ 65536) where
+  module _ (founds : List AssembledLine) (all : AreAllResolved (held ∷ done) founds) (given : List Content) (is_given : is_placed_in line.at.part ≡ true → given ≡ contents references done line) (within : line.at.number + length given ≤ 65536) where
     part_filled : (part : Part) (b : Bool) (old new : List (Option Content)) → same_part line.at.part part ≡ b → length old ≡ 65536
         → ((p : ℕ) → cell old p ≡ content_at references (onto (held ∷ done) founds) part p)
         → new ≡ (if b then put_from old line.at.number given else old)
@@ -208,13 +208,13 @@ module _ (references : List Reference) (done : List AssembledLine) (held line : 
         ∙ sym (swapped founds all part p)))
 
     -- the image with the line in the place that was held for it
-    pub image_filled : (old new : Image) → IsImage references (onto (held ∷ done) founds) old → IsLaid line.at given old new
+    pub image_filled : (old new : Image) → IsImage references (onto (held ∷ done) founds) old → IsPut line.at given old new
         → IsImage references (onto (line ∷ done) founds) new
-    image_filled old new is laid = record {
+    image_filled old new is put_there = record {
       relocatable = part_filled part.Relocatable (same_part line.at.part part.Relocatable) old.relocatable.cells.items new.relocatable.cells.items refl
-          old.relocatable.size is.relocatable laid.relocatable;
+          old.relocatable.size is.relocatable put_there.relocatable;
       absolute = part_filled part.Absolute (same_part line.at.part part.Absolute) old.absolute.cells.items new.absolute.cells.items refl
-          old.absolute.size is.absolute laid.absolute;
+          old.absolute.size is.absolute put_there.absolute;
     }
 
 pub onto_same : (first second lines : List AssembledLine) → SamePlaces first second → SamePlaces (onto first lines) (onto second lines)

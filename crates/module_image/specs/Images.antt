@@ -24,12 +24,12 @@ pub record IsImage (references : List Reference) (lines : List AssembledLine) (i
   pub absolute : Holds references lines part.Absolute image.absolute
 
 -- the cells of a part after bytes that are laid from a place on
-abbrev pub laid_in : Part → Location → List Content → List (Option Content) → List (Option Content)
-laid_in part at contents cells = if same_part at.part part then put_from cells at.number contents else cells
+abbrev pub put_in : Part → Location → List Content → List (Option Content) → List (Option Content)
+put_in part at contents cells = if same_part at.part part then put_from cells at.number contents else cells
 
-pub record IsLaid (at : Location) (contents : List Content) (old new : Image) : Type 0 where
-  pub relocatable : new.relocatable.cells.items ≡ laid_in part.Relocatable at contents old.relocatable.cells.items
-  pub absolute : new.absolute.cells.items ≡ laid_in part.Absolute at contents old.absolute.cells.items
+pub record IsPut (at : Location) (contents : List Content) (old new : Image) : Type 0 where
+  pub relocatable : new.relocatable.cells.items ≡ put_in part.Relocatable at contents old.relocatable.cells.items
+  pub absolute : new.absolute.cells.items ≡ put_in part.Absolute at contents old.absolute.cells.items
 
 -- one of some bytes from a place on was laid
 abbrev pub any_in : Part → Image → ℕ → ℕ → Bool
@@ -37,8 +37,8 @@ any_in part.Relocatable image from count = any_from (is_taken image.relocatable.
 any_in part.Absolute image from count = any_from (is_taken image.absolute.cells.items) from count
 any_in part.Dummy image from count = false
 
-abbrev pub any_laid : Image → Location → ℕ → Bool
-any_laid image at count = any_in at.part image at.number count
+abbrev pub any_put : Image → Location → ℕ → Bool
+any_put image at count = any_in at.part image at.number count
 
 -- a line was placed after others, and whether it has room
 pub record IsPlacedAfter {A : Type 0} (references : List Reference) (earlier : List AssembledLine)

@@ -1,4 +1,4 @@
 pub mod Tables
 pub mod Holding
 pub mod Images
-pub mod Standing
+pub mod ResolvedLines

@@ -3,7 +3,7 @@
 ghost use Rattle.std.specs.Prelude.{◌≡◌, ◌≤◌, ◌+◌, List, length, IfOk};
 ghost use Rattle.object_defs.specs.Modules.{Reference};
 ghost use Rattle.asm_defs.specs.Memory as spec;
-ghost use Rattle.module_image.specs.Images.{IsEmpty, IsLaid, any_laid, Places};
+ghost use Rattle.module_image.specs.Images.{IsEmpty, IsPut, any_put, Places};
 
 use crate::memory::Table;
 use asm_defs::{AsmCause, Content, Location, Part};
@@ -55,7 +55,7 @@ impl Image {
     /// Lays bytes from a place on. Nothing is laid in the part of dummy lines.
     pub fn fill_reserved(&mut self, at: Location, contents: &[Content])
         requires { at.number + length contents.now ≤ 65536 }
-        ensures { IsLaid at contents.now self.old self.new }
+        ensures { IsPut at contents.now self.old self.new }
     {
         match at.part {
             Part::Relocatable => self.relocatable.put_all(at.number as usize, contents),
@@ -67,7 +67,7 @@ impl Image {
     /// Whether one of some bytes from a place on was laid before.
     fn has_any(&self, at: Location, count: usize) -> bool
         requires { at.number + count ≤ 65536 }
-        ensures { result ≡ any_laid self.now at count }
+        ensures { result ≡ any_put self.now at count }
     {
         match at.part {
             Part::Relocatable => self.relocatable.any_taken(at.number as usize, count),

@@ -128,8 +128,8 @@ abbrev pub follow : ℕ → List (ℕ × List ℕ) → Bool
 follow address [] = true
 follow address (routine ∷ rest) = nat_eq address routine.0 && follow (address + 2 * length routine.1) rest
 
-abbrev pub RoutinesStand : Type 0
-RoutinesStand = IsTrue (follow origin routines)
+abbrev pub RoutinesAreInPlace : Type 0
+RoutinesAreInPlace = IsTrue (follow origin routines)
 
 -- Where the instruction of an operation begins: its own place, or the place of the operands of all rows, where MUL and
 -- DIV have a wider destination, and ST reads nothing there. A code byte that is no instruction's stops.

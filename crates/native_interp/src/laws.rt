@@ -8,8 +8,8 @@ pub fn entries_come_first()
 {}
 
 /// Each part of the interpreter stands at the address that is its constant.
-pub fn routines_stand()
-    ensures { spec.RoutinesStand }
+pub fn routines_are_in_place()
+    ensures { spec.RoutinesAreInPlace }
 {}
 
 /// The first table leads from each code byte to the instruction of its operation, and from the others to the stop.

@@ -16,7 +16,7 @@ pub use addresses::{
     STREAM, STROW, TAKE, UNKN, WHERE, WIDE, WORKSPACE,
 };
 pub use laws::{
-    codes_are_dispatched, entries_come_first, lines_are_in_form, routines_stand,
+    codes_are_dispatched, entries_come_first, lines_are_in_form, routines_are_in_place,
     rows_are_dispatched,
 };
 pub use source::{COPY_LINES, FLOW_LINES, OPERATION_LINES, ROUTINE_LINES, TABLE_LINES};

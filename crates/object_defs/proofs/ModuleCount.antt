@@ -11,7 +11,7 @@ use Rattle.object_defs.specs.declared.tag.Tag.TheVariants as tags
 use Rattle.object_defs.specs.Modules.{Module, most_modules}
 use Rattle.object_defs.specs.Groups.{Group, Header, EndOfModule, FoundGroup, Whole, Broken}
 use Rattle.object_defs.specs.Groups.{tag_found, groups_of}
-use Rattle.object_defs.specs.Reading.{Found, NumberedLine, stands, stands_first, module_of, added, with_group, with_groups, with_lines, ended, nothing_found}
+use Rattle.object_defs.specs.Reading.{Found, NumberedLine, is_allowed, is_allowed_first, module_of, added, with_group, with_groups, with_lines, ended, nothing_found}
 use Rattle.object_defs.specs.Reading.{last_number, form_of, text_lines, read}
 
 -- the module that is open counts too
@@ -47,7 +47,7 @@ grows modules first before _ le = le
 
 -- the first group of a module
 begins : (modules : List Module) (character : ℕ) (group : Group) (tag : Tag) → length modules + 0 ≤ 64
-    → stands_first (length modules) character (tag_found (Whole character group)) ≡ Ok tag → count_of (added (record { modules = modules; current = [] }) group) ≤ 64
+    → is_allowed_first (length modules) character (tag_found (Whole character group)) ≡ Ok tag → count_of (added (record { modules = modules; current = [] }) group) ≤ 64
 unfolding open_count
 begins modules character (Header size name) tag le e = by (nat_le most_modules (length modules)) refl e
   where
@@ -67,15 +67,15 @@ keeps : (modules : List Module) (current : List Group) (at : FoundGroup) (next :
     → with_group (record { modules = modules; current = current }) at ≡ Ok next → count_of next ≤ 64
 unfolding open_count
 keeps modules current (Broken character tag cause) next le e =
-    absurd (never (stands (length modules) current character tag) cause next e)
+    absurd (never (is_allowed (length modules) current character tag) cause next e)
 keeps modules [] (Whole character group) next le e =
     let found : Found = record { modules = modules; current = [] } in
-    let stood = bound (stands_first (length modules) character (tag_found (Whole character group))) (λ tag. Ok (added found group)) next e in
+    let stood = bound (is_allowed_first (length modules) character (tag_found (Whole character group))) (λ tag. Ok (added found group)) next e in
     let is : added found group ≡ next = same_found _ _ stood.leads in
     subst (λ (x : Found). count_of x ≤ 64) is (begins modules character group stood.value le stood.is)
 keeps modules (first ∷ before) (Whole character group) next le e =
     let found : Found = record { modules = modules; current = first ∷ before } in
-    let stood = bound (stands (length modules) (first ∷ before) character (tag_found (Whole character group))) (λ tag. Ok (added found group)) next e in
+    let stood = bound (is_allowed (length modules) (first ∷ before) character (tag_found (Whole character group))) (λ tag. Ok (added found group)) next e in
     subst (λ (x : Found). count_of x ≤ 64) (same_found _ _ stood.leads) (grows modules first before group le)
 
 keeps_groups : (groups : List FoundGroup) (found next : Found) → count_of found ≤ 64 → with_groups found groups ≡ Ok next → count_of next ≤ 64

@@ -67,12 +67,12 @@ all_name_characters bytes = list_all is_name_character bytes
 abbrev pub is_module_name : List ℕ → Bool
 is_module_name bytes = (length bytes == 8) && all_name_characters bytes
 
-abbrev pub StandsEven : Piece → Type 0
-StandsEven piece = number_of piece.at % 2 ≡ 0
+abbrev pub IsAtEvenPlace : Piece → Type 0
+IsAtEvenPlace piece = number_of piece.at % 2 ≡ 0
 
 -- what a module must be to have a text: its words stand at even places, and it passes no limit
 pub record HasText (m : Module) : Type 0 where
-  pub even_places : AllByRecursion StandsEven m.pieces
+  pub even_places : AllByRecursion IsAtEvenPlace m.pieces
   pub words : length m.pieces ≤ most_words
   pub defs : length m.defs ≤ most_names
   pub refs : length m.refs ≤ most_names

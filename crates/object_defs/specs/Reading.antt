@@ -131,28 +131,28 @@ module_of groups =
 -- Which tags may stand. Profile: a tag that may not, or that passes a limit, is refused before its fields are.
 
 -- where no module is open and some have ended: a module begins with its header
-abbrev pub stands_first : ℕ → ℕ → Option Tag → Result Tag TagCause
-stands_first ended character (Some tags.Header) = if nat_le most_modules ended then Err TooMany else Ok tags.Header
-stands_first ended character _ = Err (BadTag character)
+abbrev pub is_allowed_first : ℕ → ℕ → Option Tag → Result Tag TagCause
+is_allowed_first ended character (Some tags.Header) = if nat_le most_modules ended then Err TooMany else Ok tags.Header
+is_allowed_first ended character _ = Err (BadTag character)
 
 -- after the groups of its module: neither a second header nor a second entry
-abbrev pub stands_after : Module → ℕ → Option Tag → Result Tag TagCause
-stands_after m character None = Err (BadTag character)
-stands_after m character (Some tags.Header) = Err (BadTag character)
-stands_after m character (Some (tags.Entry kind)) =
+abbrev pub is_allowed_after : Module → ℕ → Option Tag → Result Tag TagCause
+is_allowed_after m character None = Err (BadTag character)
+is_allowed_after m character (Some tags.Header) = Err (BadTag character)
+is_allowed_after m character (Some (tags.Entry kind)) =
     if is_some m.entry then Err (BadTag character) else Ok (tags.Entry kind)
-stands_after m character (Some (tags.Reference kind)) =
+is_allowed_after m character (Some (tags.Reference kind)) =
     if nat_le most_names (length m.refs) then Err TooMany else Ok (tags.Reference kind)
-stands_after m character (Some (tags.Definition kind)) =
+is_allowed_after m character (Some (tags.Definition kind)) =
     if nat_le most_names (length m.defs) then Err TooMany else Ok (tags.Definition kind)
-stands_after m character (Some (tags.Word kind)) =
+is_allowed_after m character (Some (tags.Word kind)) =
     if nat_le most_words (length m.pieces) then Err TooMany else Ok (tags.Word kind)
-stands_after m character (Some tag) = Ok tag
+is_allowed_after m character (Some tag) = Ok tag
 
 -- no groups: no module is open
-abbrev pub stands : ℕ → List Group → ℕ → Option Tag → Result Tag TagCause
-stands ended [] character tag = stands_first ended character tag
-stands ended (group ∷ before) character tag = stands_after (module_of (group ∷ before)) character tag
+abbrev pub is_allowed : ℕ → List Group → ℕ → Option Tag → Result Tag TagCause
+is_allowed ended [] character tag = is_allowed_first ended character tag
+is_allowed ended (group ∷ before) character tag = is_allowed_after (module_of (group ∷ before)) character tag
 
 -- The groups of a text, one after the other.
 
@@ -172,7 +172,7 @@ added found group = record found { current = group ∷ found.current }
 -- A group is added where its tag may stand and it is whole.
 abbrev pub with_group : Found → FoundGroup → Result Found TagCause
 with_group found at = do
-  tag ← stands (length found.modules) found.current (character_found at) (tag_found at)
+  tag ← is_allowed (length found.modules) found.current (character_found at) (tag_found at)
   group ← group_found at
   Ok (added found group)
 

@@ -10,7 +10,7 @@ use Rattle.object_defs.specs.declared.spot.Spot.{Spot}
 use Rattle.object_defs.specs.declared.spot.Spot.TheVariants.{Absolute, Relocatable}
 use Rattle.object_defs.specs.declared.spot.Piece.{Piece}
 use Rattle.object_defs.specs.declared.causes.TagCause.{TagCause}
-use Rattle.object_defs.specs.Modules.{Definition, Reference, number_of, moved, even, same_spot, StandsEven}
+use Rattle.object_defs.specs.Modules.{Definition, Reference, number_of, moved, even, same_spot, IsAtEvenPlace}
 use Rattle.object_defs.specs.Digits.{padded}
 use Rattle.object_defs.specs.Tags.{tag_of}
 use Rattle.object_defs.specs.Groups.{Group, Entry, Referred, Defined, Address, Word, Whole, found_with, found_at, group_size, ends_line}
@@ -81,7 +81,7 @@ adds_both m between after a b p q kept before rest =
     ∙ (p kept before (b ++ rest) ∙ (q kept (before ++ a) rest ∙ ap (λ (xs : List ℕ). leads (with_current kept after) xs rest) (append_assoc before a b)))
 
 -- a word after its address
-addressed_adds : (m : OpenModule) (piece : Piece) → FitsPiece piece → StandsEven piece → length m.found.pieces < 32768 → Adds m (address_text piece.at ++ word_text piece.word) (with_piece m piece)
+addressed_adds : (m : OpenModule) (piece : Piece) → FitsPiece piece → IsAtEvenPlace piece → length m.found.pieces < 32768 → Adds m (address_text piece.at ++ word_text piece.word) (with_piece m piece)
 addressed_adds m piece fits evens few =
     adds_both m (with_load m piece.at) (with_piece m piece) (address_text piece.at) (word_text piece.word) (address_adds m piece.at fits.at evens) (word_adds (with_load m piece.at) piece.word fits.word few)
 
@@ -91,7 +91,7 @@ same_is (Relocatable a) (Relocatable b) h = let e : a ≡ b = grind (arith, nat_
 same_is _ _ h = cc
 
 -- a word, with its address where that is not the next
-pub piece_adds : (next : Option Spot) (m : OpenModule) (piece : Piece) → ((s : Spot) → next ≡ Some s → m.load ≡ s) → FitsPiece piece → StandsEven piece → length m.found.pieces < 32768
+pub piece_adds : (next : Option Spot) (m : OpenModule) (piece : Piece) → ((s : Spot) → next ≡ Some s → m.load ≡ s) → FitsPiece piece → IsAtEvenPlace piece → length m.found.pieces < 32768
     → Adds m (item_text next (Placed piece)) (with_piece m piece)
 piece_adds None m piece at fits evens few = addressed_adds m piece fits evens few
 piece_adds (Some s) m piece at fits evens few = by (same_spot s piece.at) refl

@@ -11,7 +11,7 @@ use Rattle.object_defs.specs.Fields.{all_blank}
 use Rattle.object_defs.specs.Groups.{Group, Header, Entry, Referred, Defined, Word, FoundGroup, Whole, Broken}
 use Rattle.object_defs.specs.Groups.{tag_of_group, groups_from}
 use Rattle.object_laws.proofs.Places.{all_places}
-use Rattle.object_defs.specs.Reading.{last_address, words_since, place_after, module_of, stands_first, stands_after, Found, nothing_found, added, with_group}
+use Rattle.object_defs.specs.Reading.{last_address, words_since, place_after, module_of, is_allowed_first, is_allowed_after, Found, nothing_found, added, with_group}
 use Rattle.object_defs.specs.Reading.{with_groups, NumberedLine, with_lines, last_number, ended, form_of, text_lines, read}
 use Rattle.object_laws.specs.Running.{OpenModule, first_of, grown, more, begun, Kept, nothing_kept, kept_with, kept_groups, kept_line, kept_lines, finished}
 
@@ -73,13 +73,13 @@ module _ (modules : List Module) (last : ℕ) where
 
   with_is : (groups : List Group) (at : FoundGroup) → kept_with (kept_of last (found_by groups)) at ≡ kept last (with_group (found_by groups) at)
   unfolding begun more
-  with_is [] (Whole character (Header size name)) = first (stands_first (length modules) character (Some (tag_of_group (Header size name)))) size name
-  with_is [] (Broken character tag cause) = broken_first (stands_first (length modules) character tag) cause (first_of character) (added (found_by []))
-  with_is (last_group ∷ before) (Whole character (Entry at)) = rest_is (stands_after (module_of (last_group ∷ before)) character (Some (tag_of_group (Entry at)))) (last_group ∷ before) (Entry at) refl
-  with_is (last_group ∷ before) (Whole character (Referred reference)) = rest_is (stands_after (module_of (last_group ∷ before)) character (Some (tag_of_group (Referred reference)))) (last_group ∷ before) (Referred reference) refl
-  with_is (last_group ∷ before) (Whole character (Defined definition)) = rest_is (stands_after (module_of (last_group ∷ before)) character (Some (tag_of_group (Defined definition)))) (last_group ∷ before) (Defined definition) refl
-  with_is (last_group ∷ before) (Whole character (Word word)) = rest_is (stands_after (module_of (last_group ∷ before)) character (Some (tag_of_group (Word word)))) (last_group ∷ before) (Word word) (word_grown (last_group ∷ before) word)
-  with_is (last_group ∷ before) (Broken character tag cause) = broken (stands_after (module_of (last_group ∷ before)) character tag) cause (grown (open_of (last_group ∷ before))) (added (found_by (last_group ∷ before)))
+  with_is [] (Whole character (Header size name)) = first (is_allowed_first (length modules) character (Some (tag_of_group (Header size name)))) size name
+  with_is [] (Broken character tag cause) = broken_first (is_allowed_first (length modules) character tag) cause (first_of character) (added (found_by []))
+  with_is (last_group ∷ before) (Whole character (Entry at)) = rest_is (is_allowed_after (module_of (last_group ∷ before)) character (Some (tag_of_group (Entry at)))) (last_group ∷ before) (Entry at) refl
+  with_is (last_group ∷ before) (Whole character (Referred reference)) = rest_is (is_allowed_after (module_of (last_group ∷ before)) character (Some (tag_of_group (Referred reference)))) (last_group ∷ before) (Referred reference) refl
+  with_is (last_group ∷ before) (Whole character (Defined definition)) = rest_is (is_allowed_after (module_of (last_group ∷ before)) character (Some (tag_of_group (Defined definition)))) (last_group ∷ before) (Defined definition) refl
+  with_is (last_group ∷ before) (Whole character (Word word)) = rest_is (is_allowed_after (module_of (last_group ∷ before)) character (Some (tag_of_group (Word word)))) (last_group ∷ before) (Word word) (word_grown (last_group ∷ before) word)
+  with_is (last_group ∷ before) (Broken character tag cause) = broken (is_allowed_after (module_of (last_group ∷ before)) character tag) cause (grown (open_of (last_group ∷ before))) (added (found_by (last_group ∷ before)))
   with_is _ _ = refl
 
 -- ---- the groups of a line, and lines

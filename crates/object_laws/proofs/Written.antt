@@ -13,7 +13,7 @@ use Rattle.object_defs.specs.declared.form.TextForm.TheVariants.{Plain}
 use Rattle.object_defs.specs.declared.spot.Spot.{Spot}
 use Rattle.object_defs.specs.declared.spot.Piece.{Piece}
 use Rattle.object_defs.specs.declared.tag.Tag.TheVariants as tags
-use Rattle.object_defs.specs.Modules.{Module, Definition, Reference, HasText, StandsEven, moved, all_name_characters}
+use Rattle.object_defs.specs.Modules.{Module, Definition, Reference, HasText, IsAtEvenPlace, moved, all_name_characters}
 use Rattle.source_defs.specs.Digits.{word_digits}
 use Rattle.object_defs.specs.Digits.{four_digits, padded, checksum}
 use Rattle.object_defs.specs.Tags.{tag_of}
@@ -151,7 +151,7 @@ record GroupTakes (m : OpenModule) (text : List ℕ) (after : OpenModule) : Type
 record PieceTakes (m : OpenModule) (piece : Piece) (after : OpenModule) : Type 0 where
   is : after ≡ with_piece m piece
   fits : FitsPiece piece
-  evens : StandsEven piece
+  evens : IsAtEvenPlace piece
   few : length m.found.pieces < 32768
 
 abbrev Takes : OpenModule → Item → OpenModule → Type 0
@@ -265,7 +265,7 @@ with_refs m refs = record m { found = record m.found { refs = m.found.refs ++ re
 abbrev with_entry_of : OpenModule → Option Spot → OpenModule
 with_entry_of m entry = record m { found = record m.found { entry = entry } }
 
-run_pieces : (pieces : List Piece) (rest : List Item) (m end : OpenModule) → AllByRecursion FitsPiece pieces → AllByRecursion StandsEven pieces → length m.found.pieces + length pieces ≤ 32768
+run_pieces : (pieces : List Piece) (rest : List Item) (m end : OpenModule) → AllByRecursion FitsPiece pieces → AllByRecursion IsAtEvenPlace pieces → length m.found.pieces + length pieces ≤ 32768
     → Run (with_pieces m pieces) rest end → Run m (map Placed pieces ++ rest) end
 run_pieces [] rest m end fits evens few run = rw append-nil at run
 run_pieces (piece ∷ pieces) rest m end fits evens few run = (

@@ -13,7 +13,7 @@ use Rattle.object_defs.specs.Fields.{all_blank}
 use Rattle.object_defs.specs.Groups.{Group, Header, Entry, Referred, Defined, Sum, IgnoredSum, Address, Word}
 use Rattle.object_defs.specs.Groups.{EndOfLine, EndOfModule, FoundGroup, Whole, Broken, tag_found, character_found}
 use Rattle.object_defs.specs.Groups.{group_found, found_at, ends_line, size_found}
-use Rattle.object_defs.specs.Reading.{stands_first, stands_after, NumberedLine}
+use Rattle.object_defs.specs.Reading.{is_allowed_first, is_allowed_after, NumberedLine}
 
 -- a module whose end is not read yet, and the load address
 pub record OpenModule : Type 0 where
@@ -34,7 +34,7 @@ first_of character _ = Err (BadTag character)
 -- the module that a group begins, where some have ended
 unfoldable pub begun : ℕ → FoundGroup → Result OpenModule TagCause
 begun ended at = do
-  tag ← stands_first ended (character_found at) (tag_found at)
+  tag ← is_allowed_first ended (character_found at) (tag_found at)
   group ← group_found at
   first_of (character_found at) group
 
@@ -58,7 +58,7 @@ grown m EndOfModule = m
 -- the module with one more group
 unfoldable pub more : OpenModule → FoundGroup → Result OpenModule TagCause
 more m at = do
-  tag ← stands_after m.found (character_found at) (tag_found at)
+  tag ← is_allowed_after m.found (character_found at) (tag_found at)
   group ← group_found at
   Ok (grown m group)
 

@@ -44,7 +44,7 @@ impl OpenModule {
     ) -> Result<OpenModule, Failure>
         ensures { Makes model_of_open result (running.begun ended (model_of_found found)) }
     {
-        stands_first(ended, found.character(), found.tag())?;
+        is_allowed_first(ended, found.character(), found.tag())?;
         match found.group()? {
             Group::Header { size, name } => Ok(OpenModule::new(alloc, size, name)),
             _ => Err(Failure::Cause(TagCause::BadTag(found.character()))),
@@ -74,14 +74,14 @@ impl OpenModule {
         ensures { Leaves result (model_of_open self.new)
             (running.more (model_of_open self.old) (model_of_found found)) }
     {
-        self.stands_after(found.character(), found.tag())?;
+        self.is_allowed_after(found.character(), found.tag())?;
         self.grow(found.group()?)?;
         Ok(())
     }
 
     /// The tag, where it may stand after the groups of the module.
-    fn stands_after(&self, character: u8, tag: Option<Tag>) -> Result<Tag, TagCause>
-        ensures { result ≡ reading.stands_after (model_of_module self.now.found) character tag }
+    fn is_allowed_after(&self, character: u8, tag: Option<Tag>) -> Result<Tag, TagCause>
+        ensures { result ≡ reading.is_allowed_after (model_of_module self.now.found) character tag }
     {
         match tag {
             None | Some(Tag::Header) => Err(TagCause::BadTag(character)),
@@ -126,8 +126,8 @@ impl OpenModule {
 }
 
 /// The tag, where it may begin a module and some modules have ended.
-fn stands_first(ended: usize, character: u8, tag: Option<Tag>) -> Result<Tag, TagCause>
-    ensures { result ≡ reading.stands_first ended character tag }
+fn is_allowed_first(ended: usize, character: u8, tag: Option<Tag>) -> Result<Tag, TagCause>
+    ensures { result ≡ reading.is_allowed_first ended character tag }
 {
     match tag {
         Some(Tag::Header) if ended >= MOST_MODULES => Err(TagCause::TooMany),

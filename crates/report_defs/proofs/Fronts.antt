@@ -15,33 +15,33 @@ use Rattle.report_defs.specs.Program.{program_status}
 use Rattle.report_defs.specs.Trace.{ShowsChanges, step_lines, changes_text}
 use Rattle.report_defs.specs.Report.{Report, Whole, Faulty, largest_input, AcceptedReport, OnInput}
 use Rattle.report_defs.specs.Report.{ReportsProgram, ShowsSteps, EnteredReport, ProgramReport, run_lines, shown_lines}
-use Rattle.report_defs.specs.Laws.{IsFrontOf, PrefixesBeginReports}
+use Rattle.report_defs.specs.Laws.{IsPrefixOf, PrefixesBeginReports}
 use Rattle.gpl_defs.proofs.ImageLaws.{bytes_alone}
 
 -- the lines of the steps begin the report of the run
 begins_shown : (shows : ShowsChanges) (limit : ℕ) (image : Image) (entry : ℕ) (front report : Report)
-    → ShowsSteps shows limit image entry front → ReportsProgram (shown_lines shows) limit image entry report → IsFrontOf front report
+    → ShowsSteps shows limit image entry front → ReportsProgram (shown_lines shows) limit image entry report → IsPrefixOf front report
 begins_shown shows limit image entry front report p q =
     let shown : List ℕ → Report = λ (b : List ℕ). Whole Done (step_lines shows (start b entry) (run limit (start b entry)).done) in
     let bytes : p.bytes ≡ q.bytes = bytes_alone image p.bytes q.bytes p.of_image q.of_image in
     let same : front ≡ shown q.bytes = p.is ∙ ap shown bytes in
     let s = start q.bytes entry in
     let r = run limit s in
-    let whole : IsFrontOf (shown q.bytes) report = (program_status r.stop, run_lines (record { image = image; begun = s; made = r; left = q.left }), q.is) in
-    subst (λ f. IsFrontOf f report) (sym same) whole
+    let whole : IsPrefixOf (shown q.bytes) report = (program_status r.stop, run_lines (record { image = image; begun = s; made = r; left = q.left }), q.is) in
+    subst (λ f. IsPrefixOf f report) (sym same) whole
 
 begins_entered : (shows : ShowsChanges) (limit : ℕ) (image : Image) (entry : Option ℕ) (front report : Report)
     → EnteredReport (ShowsSteps shows limit) image entry front
     → EnteredReport (ReportsProgram (shown_lines shows) limit) image entry report
-    → IsFrontOf front report
+    → IsPrefixOf front report
 begins_entered shows limit image (Some entry) front report p q = begins_shown shows limit image entry front report p q
-begins_entered shows limit image None front report p q = subst (λ f. IsFrontOf f report) (sym p) q
+begins_entered shows limit image None front report p q = subst (λ f. IsPrefixOf f report) (sym p) q
 
 pub begins_program : (shows : ShowsChanges) (limit : ℕ) (source : Result Program (Refusal GplCause)) (front report : Report)
     → ProgramReport (ShowsSteps shows limit) source front → ProgramReport (ReportsProgram (shown_lines shows) limit) source report
-    → IsFrontOf front report
+    → IsPrefixOf front report
 begins_program shows limit (Ok program) front report p q = begins_entered shows limit program.image program.entry front report p q
-begins_program shows limit (Err refused) front report p q = subst (λ f. IsFrontOf f report) (sym p) q
+begins_program shows limit (Err refused) front report p q = subst (λ f. IsPrefixOf f report) (sym p) q
 
 -- the report on an input that is not too large
 pub accepted : (Accepted : List ℕ → Report → Type 0) (input : List ℕ) (report : Report) → length input ≤ largest_input

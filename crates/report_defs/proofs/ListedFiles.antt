@@ -8,7 +8,7 @@ use Rattle.tms_defs.specs.Instructions.{instr_at}
 use Rattle.source_defs.specs.Refusals.{Refusal}
 use Rattle.source_defs.specs.ListedLines.{listed}
 use Rattle.source_defs.specs.Lines.{numbered}
-use Rattle.expression_defs.specs.Layout.{laid}
+use Rattle.expression_defs.specs.Layout.{line_layout}
 use Rattle.object_defs.specs.Modules.{Module}
 use Rattle.instruction_defs.specs.Printed.{printed}
 use Rattle.asm_defs.specs.declared.causes.AsmCause.{AsmCause}
@@ -23,12 +23,12 @@ use Rattle.shelf_defs.specs.Assembly.{texts, places, place_of, in_place, module_
 use Rattle.listed_lines.proofs.LineTexts.{lines_joined, clean_lines, text_of}
 use Rattle.word_listings.specs.Listing.{memory_listing}
 use Rattle.word_listings.specs.Modules.{wraps, wrapping_from, first_wrapping, unless_far}
-use Rattle.word_listings.specs.Law.{StandEven, listed_module}
-use Rattle.word_listings.proofs.ListingLaw.{AllBytes, aorg_text, are_words, words_fit, listing_texts, listing_ends, clean_all, listing_is, after_laid, odd_texts}
+use Rattle.word_listings.specs.Law.{AreFromEvenAddress, listed_module}
+use Rattle.word_listings.proofs.ListingLaw.{AllBytes, aorg_text, are_words, words_fit, listing_texts, listing_ends, clean_all, listing_is, after_layout, odd_texts}
 use Rattle.word_listings.proofs.After.{texts_from}
 use Rattle.word_listings.proofs.ListingLaw.{OwnLine, AreOwn, own_end, own_front, front_texts}
 use Rattle.report_defs.specs.Report.{asm_report}
-use Rattle.report_defs.proofs.ListedWords.{listed as written_listing, stand_even, not_large}
+use Rattle.report_defs.proofs.ListedWords.{listed as written_listing, are_from_even_address, not_large}
 use Rattle.report_defs.specs.FileReports.{copy_report}
 use Rattle.report_defs.specs.ProgramCommands.{AsmFiles, OverFiles}
 use Rattle.report_defs.specs.FileReports.{ReportWith}
@@ -44,7 +44,7 @@ module _ (last : Bool) (text : List ℕ) (own : OwnLine last text) where
 
   ends_as : ends_source (listed text) ≡ last
   unfolding ends_source statement_in
-  ends_as = rw (own.cut.fields_are, own.cut.name_is, own.cut.field_is, own.says) own.last_is
+  ends_as = rw (own.cut.fields_are, own.cut.name_is, own.cut.field_is, own.parses) own.last_is
 
 -- the lines of the input itself by their places
 abbrev placed : ℕ → List (List ℕ) → List PlacedLine
@@ -85,7 +85,7 @@ copied_is copy (text ∷ front) end number copies are own =
     rw (asks_itself false text are.0, ends_as false text are.0, copied_is copy front end (number + 1) copies are.1 own) refl
 
 -- the module of such lines
-after_copied : (lines : List (List ℕ)) (all : List Line) (answer : Result Module (Refusal AsmCause)) → laid check (numbered 1 lines) ≡ Ok all → module_after all ≡ answer
+after_copied : (lines : List (List ℕ)) (all : List Line) (answer : Result Module (Refusal AsmCause)) → line_layout check (numbered 1 lines) ≡ Ok all → module_after all ≡ answer
     → module_of_copied (whole 1 0 lines) ≡ in_place (placed 1 lines) answer
 after_copied lines all answer a b = rw (texts_placed 1 lines, a, b) refl
 
@@ -107,38 +107,38 @@ same_report : (lines : List (List ℕ)) (found : Module) (far : Option ℕ) → 
 same_report lines found None some = refl
 same_report lines found (Some number) some = rw (place_is lines number (some number refl)) refl
 
-module _ (half : ℕ) (bytes : List ℕ) (files : Files) (stands : StandEven (2 * half) bytes) where
+module _ (half : ℕ) (bytes : List ℕ) (files : Files) (from_even : AreFromEvenAddress (2 * half) bytes) where
   abbrev all : AllBytes bytes
-  all = stands.holds.fits
+  all = from_even.holds.fits
 
   abbrev found_texts : List (List ℕ)
-  found_texts = listing_texts half bytes None all stands.below stands.within tt
+  found_texts = listing_texts half bytes None all from_even.below from_even.within tt
 
   abbrev found_front : List (List ℕ)
-  found_front = front_texts (2 * half) stands.below bytes
+  found_front = front_texts (2 * half) from_even.below bytes
 
   texts_are : found_texts ≡ found_front ++ codes "END" ∷ []
   texts_are =
-      ap (λ texts. aorg_text (2 * half) stands.below ∷ texts) (sym (append_assoc (texts_from (length (words_of_bytes bytes)) (2 * half) (words_of_bytes bytes)) (odd_texts bytes) (codes "END" ∷ [])))
+      ap (λ texts. aorg_text (2 * half) from_even.below ∷ texts) (sym (append_assoc (texts_from (length (words_of_bytes bytes)) (2 * half) (words_of_bytes bytes)) (odd_texts bytes) (codes "END" ∷ [])))
 
   copied_all : copied files (concat (memory_listing (2 * half) bytes)) ≡ whole 1 0 (map listed found_texts)
   unfolding memory_listing
   copied_all =
       let fit = words_fit bytes in
-      let within = stands.within in
+      let within = from_even.within in
       let below : 2 * half + 2 * length (words_of_bytes bytes) ≤ 65536 = omega (arith, fit, within) in
       ap (λ lines. copied files (concat lines)) (listing_is (2 * half) bytes (codes "END"))
       ∙ (ap (copied files) (text_of found_texts)
-      ∙ (ap (lines_in (copy_line (of_files files) deepest) None 0) (lines_joined (map listed found_texts) (clean_lines found_texts (clean_all half bytes None all stands.below stands.within tt)))
+      ∙ (ap (lines_in (copy_line (of_files files) deepest) None 0) (lines_joined (map listed found_texts) (clean_lines found_texts (clean_all half bytes None all from_even.below from_even.within tt)))
       ∙ subst (λ texts. lines_in (copy_line (of_files files) deepest) None 0 (numbered 1 (map listed texts)) ≡ whole 1 0 (map listed texts)) (sym texts_are)
       (copied_is (copy_line (of_files files) deepest) found_front (codes "END") 1 0
-      (own_front (2 * half) stands.below bytes all stands.even below (are_words bytes all)) (own_end None tt))))
+      (own_front (2 * half) from_even.below bytes all from_even.even below (are_words bytes all)) (own_end None tt))))
 
   module_is : module_of_files files (concat (memory_listing (2 * half) bytes)) ≡ in_place (placed 1 (map listed found_texts)) (listed_module (2 * half) bytes None)
   module_is =
-      let ends = listing_ends half bytes None all stands.below stands.within tt in
+      let ends = listing_ends half bytes None all from_even.below from_even.within tt in
       ap module_of_copied copied_all
-      ∙ after_copied (map listed found_texts) ends.all _ ends.laid_is (after_laid ends.all _ ends.names_are ends.module_is)
+      ∙ after_copied (map listed found_texts) ends.all _ ends.layout_is (after_layout ends.all _ ends.names_are ends.module_is)
 
   report_is : asm_report (listed_module (2 * half) bytes None) ≡ copy_report (module_of_files files (concat (memory_listing (2 * half) bytes)))
   report_is =
@@ -148,17 +148,17 @@ module _ (half : ℕ) (bytes : List ℕ) (files : Files) (stands : StandEven (2 
       (λ number e. let le = first_from (length (words_of_bytes bytes)) (words_of_bytes bytes) 2 (2 * half) number e in omega (arith, le))
       )
 
-report_at : (at : ℕ) (input : List ℕ) (files : Files) → StandEven at input
+report_at : (at : ℕ) (input : List ℕ) (files : Files) → AreFromEvenAddress at input
     → asm_report (listed_module at input None) ≡ copy_report (module_of_files files (concat (memory_listing at input)))
-report_at at input files stands =
-    let even = stands.even in
+report_at at input files from_even =
+    let even = from_even.even in
     let same : 2 * (at / 2) ≡ at = omega (arith, even) in
     subst (λ at. asm_report (listed_module at input None) ≡ copy_report (module_of_files files (concat (memory_listing at input)))) same
-    (report_is (at / 2) input files (subst (λ at. StandEven at input) (sym same) stands))
+    (report_is (at / 2) input files (subst (λ at. AreFromEvenAddress at input) (sym same) from_even))
 
 pub listed_words_come_back_with : ListedWordsComeBackWith
 listed_words_come_back_with at input pieces files holds even below reports =
     let is = written_listing at input (memory_listing at input) pieces reports in
-    let stands = stand_even at input holds even below is.within in
+    let from_even = are_from_even_address at input holds even below is.within in
     subst (λ pieces. ReportWith (OverFiles AsmFiles) (concat pieces) files (asm_report (listed_module at input None))) (sym is.pieces_are)
-    (rw (not_large at input stands) (report_at at input files stands))
+    (rw (not_large at input from_even) (report_at at input files from_even))

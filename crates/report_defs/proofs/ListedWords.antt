@@ -6,7 +6,7 @@ use Rattle.std.proofs.lemmas.Bool.Decides.{nat_tests}
 use Rattle.tms_defs.specs.Bytes.{HoldsBytes}
 use Rattle.asm_defs.specs.Modules.{module_of_source}
 use Rattle.word_listings.specs.Listing.{memory_listing}
-use Rattle.word_listings.specs.Law.{StandEven, listed_module}
+use Rattle.word_listings.specs.Law.{AreFromEvenAddress, listed_module}
 use Rattle.word_listings.proofs.ListingLaw.{words_fit, word_listings_come_back}
 use Rattle.word_listings.proofs.ShortLaw.{word_listings_are_short}
 use Rattle.report_defs.specs.declared.command.Command.TheVariants.{Asm}
@@ -32,22 +32,22 @@ listed at input lines pieces reports = by (nat_lt largest_input (length input)) 
     by false true is same = absurd (cc same)
     by false false is same = record { within = grind (arith, nat_tests, is); pieces_are = cc same }
 
-pub stand_even : (at : ℕ) (input : List ℕ) → HoldsBytes (length input) input → at % 2 ≡ 0 → at < 65536 → at + length input ≤ 65536 → StandEven at input
-stand_even at input holds even below within = record { holds = holds; even = even; below = below; within = within }
+pub are_from_even_address : (at : ℕ) (input : List ℕ) → HoldsBytes (length input) input → at % 2 ≡ 0 → at < 65536 → at + length input ≤ 65536 → AreFromEvenAddress at input
+are_from_even_address at input holds even below within = record { holds = holds; even = even; below = below; within = within }
 
-pub not_large : (at : ℕ) (input : List ℕ) → StandEven at input → nat_lt largest_input (length (concat (memory_listing at input))) ≡ false
-not_large at input stands =
-    let within = stands.within in
+pub not_large : (at : ℕ) (input : List ℕ) → AreFromEvenAddress at input → nat_lt largest_input (length (concat (memory_listing at input))) ≡ false
+not_large at input from_even =
+    let within = from_even.within in
     let fit = words_fit input in
-    let short = word_listings_are_short at input stands in
+    let short = word_listings_are_short at input from_even in
     let le : length (concat (memory_listing at input)) ≤ 1048576 = omega (arith, within, fit, short) in
     grind (arith, nat_tests, le)
 
 pub listed_words_come_back : ListedWordsComeBack
 listed_words_come_back at input pieces holds even below reports =
     let is = listed at input (memory_listing at input) pieces reports in
-    let stands = stand_even at input holds even below is.within in
+    let from_even = are_from_even_address at input holds even below is.within in
     let again : asm_report (listed_module at input None) ≡ asm_report (module_of_source (concat (memory_listing at input))) =
-    ap asm_report (sym (word_listings_come_back at input stands)) in
+    ap asm_report (sym (word_listings_come_back at input from_even)) in
     subst (λ pieces. ReportOn Asm (concat pieces) (asm_report (listed_module at input None))) (sym is.pieces_are)
-    (rw (not_large at input stands) again)
+    (rw (not_large at input from_even) again)

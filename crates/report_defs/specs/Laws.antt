@@ -11,7 +11,7 @@ use Rattle.link_defs.specs.Causes.{LinkCause}
 use Rattle.link_defs.specs.LinkedMemory.{LinkedMemory}
 use Rattle.shelf_defs.specs.Files.{Files}
 use Rattle.word_listings.specs.Modules.{padded_words}
-use Rattle.word_listings.specs.Law.{StandEven, listed_module, entered_listing}
+use Rattle.word_listings.specs.Law.{AreFromEvenAddress, listed_module, entered_listing}
 use Rattle.word_listings.specs.Linking.{first_outside, GivesWords}
 use Rattle.report_defs.specs.declared.command.Command.{Command}
 use Rattle.report_defs.specs.declared.command.Command.TheVariants.{Asm, Gasm, Dis, Gdis, Link}
@@ -27,18 +27,18 @@ use Rattle.report_defs.specs.FileReports.{ReportWith}
 
 -- One report is a front of another: its pieces are the first of the other's. The report of an input that is refused is
 -- a front of itself alone.
-abbrev pub IsFrontOf : Report → Report → Type 0
-IsFrontOf (Whole status shown) report =
+abbrev pub IsPrefixOf : Report → Report → Type 0
+IsPrefixOf (Whole status shown) report =
     (end : Status) × (others : List (List ℕ)) × (report ≡ Whole end (shown ++ others))
-IsFrontOf (Faulty fault) report = report ≡ Faulty fault
-IsFrontOf (Rejected line) report = report ≡ Rejected line
-IsFrontOf (RejectedAfter pieces line) report = report ≡ RejectedAfter pieces line
+IsPrefixOf (Faulty fault) report = report ≡ Faulty fault
+IsPrefixOf (Rejected line) report = report ≡ Rejected line
+IsPrefixOf (RejectedAfter pieces line) report = report ≡ RejectedAfter pieces line
 
 -- the law, which is proved: what is written before the end of a report is known begins the report
 abbrev pub PrefixesBeginReports : Type 0
 PrefixesBeginReports =
     (command : Command) (input : List ℕ) (front report : Report)
-    → PrefixOn command input front → ReportOn command input report → IsFrontOf front report
+    → PrefixOn command input front → ReportOn command input report → IsPrefixOf front report
 
 -- the text that gdis lists of bytes from an address on
 abbrev pub listed_text : ℕ → List ℕ → List ℕ
@@ -87,7 +87,7 @@ ListedWordsComeBackWith =
 -- the object text of the same module with that entry; or the same refusal.
 abbrev pub EnteredWordsComeBack : Type 0
 EnteredWordsComeBack =
-    (at : ℕ) (input : List ℕ) (entry : ℕ) → StandEven at input → entry < 65536
+    (at : ℕ) (input : List ℕ) (entry : ℕ) → AreFromEvenAddress at input → entry < 65536
     → ReportOn Asm (concat (entered_listing at input entry)) (asm_report (listed_module at input (Some entry)))
 
 -- The law, which is proved: where that is object text, no larger than an input may be, the report of link on it is the
@@ -95,7 +95,7 @@ EnteredWordsComeBack =
 -- first address at which nothing is loaded, exactly where there is one.
 abbrev pub EnteredWordsLink : Type 0
 EnteredWordsLink =
-    (at : ℕ) (input : List ℕ) (entry : ℕ) (pieces : List (List ℕ)) → StandEven at input → entry < 65536
+    (at : ℕ) (input : List ℕ) (entry : ℕ) (pieces : List (List ℕ)) → AreFromEvenAddress at input → entry < 65536
     → ReportOn Asm (concat (entered_listing at input entry)) (Whole Done pieces)
     → length (concat pieces) ≤ largest_input
     → (answer : Result LinkedMemory LinkCause)

@@ -36,14 +36,14 @@ marked_address address =
     ++ word_digits (address % 65536))
 
 -- words, what they speak of, and a line feed
-abbrev pub said_of : List ℕ → List ℕ → List ℕ
-said_of words what = words ++ (what ++ codes "\n")
+abbrev pub fault_text : List ℕ → List ℕ → List ℕ
+fault_text words what = words ++ (what ++ codes "\n")
 
 abbrev pub link_line : LinkCause → List ℕ
-link_line (DuplicateDef name) = said_of (codes "duplicate def ") name
-link_line (OutOfMemoryRange address) = said_of (codes "outside memory ") (marked_address address)
-link_line (Overlap address) = said_of (codes "overlap at ") (hex_word address)
-link_line (ChainOutside address) = said_of (codes "chain outside ") (hex_word address)
-link_line (ChainCycle address) = said_of (codes "chain cycle ") (hex_word address)
-link_line (Unresolved name) = said_of (codes "unresolved ") name
+link_line (DuplicateDef name) = fault_text (codes "duplicate def ") name
+link_line (OutOfMemoryRange address) = fault_text (codes "outside memory ") (marked_address address)
+link_line (Overlap address) = fault_text (codes "overlap at ") (hex_word address)
+link_line (ChainOutside address) = fault_text (codes "chain outside ") (hex_word address)
+link_line (ChainCycle address) = fault_text (codes "chain cycle ") (hex_word address)
+link_line (Unresolved name) = fault_text (codes "unresolved ") name
 link_line NoEntry = codes "no entry\n"

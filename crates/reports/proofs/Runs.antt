@@ -6,7 +6,7 @@ use Rattle.report_defs.specs.Report.{Report, Whole, Faulty, Rejected, RejectedAf
 use Rattle.base_defs.specs.Counts.{Rose}
 use Rattle.reports.specs.Outputs.{Outputs, EndsWith, WroteReport, MissedReport}
 use Rattle.reports.specs.Answers.{EndsByLine}
-use Rattle.reports.specs.Run.{Program, Run, EndsByUsage, EndsSaid}
+use Rattle.reports.specs.Run.{Program, Run, EndsByUsage, EndsParsed}
 use Rattle.reports.proofs.Streams.{streams_get_the_report}
 use Rattle.reports.specs.RunLaws.{OneReport, HasNoFault, WroteTheReport, Completeness, BeginAlike, OneAnswer, LawsOfProgram}
 
@@ -31,7 +31,7 @@ module _ {C W X : Type 0} (p : Program C W X) where
   -- a run ends by the writing of a report that is no usage line
   pub by_report : (command : C) (run : Run C W) (report : Report) (end : Status)
       → p.Reports command run.before run.after report → (status_of report ≡ status.Usage → ⊥)
-      → EndsWith run.outputs report end → EndsSaid p (Some command) run end
+      → EndsWith run.outputs report end → EndsParsed p (Some command) run end
   by_report command run report status.Done is none ends = (report, is, ends)
   by_report command run report status.Refused is none ends = (report, is, ends)
   by_report command run report status.Usage is none ends = absurd (none ends.0)
@@ -47,7 +47,7 @@ module _ {C W X : Type 0} (p : Program C W X) where
     status_is : end ≡ status_of report
     wrote : WroteReport run.outputs report
 
-  reported : IsProgram p → (command : C) (run : Run C W) (end : Status) → EndsSaid p (Some command) run end
+  reported : IsProgram p → (command : C) (run : Run C W) (end : Status) → EndsParsed p (Some command) run end
       → HasNoFault p run → end ≢ status.Memory → Reported command run end
   reported is command run status.Done (report, on, (same, wrote)) none some =
       record { report = report; is_report = on; status_is = sym same; wrote = wrote }
@@ -65,7 +65,7 @@ module _ {C W X : Type 0} (p : Program C W X) where
       record { report = report; is_report = on; status_is = sym same; wrote = wrote }
 
   pub written : IsProgram p → (command : C) (run : Run C W) (read : X) (end : Status) → p.Shows command run.before read
-      → HasNoFault p run → EndsSaid p (Some command) run end → end ≢ status.Memory
+      → HasNoFault p run → EndsParsed p (Some command) run end → end ≢ status.Memory
       → WroteTheReport (p.ReportOn command read) run.outputs end
   written is command run read end shows none ends some =
       let r = reported is command run end ends none some in
@@ -79,8 +79,8 @@ module _ {C W X : Type 0} (p : Program C W X) where
       }
 
   completeness : IsProgram p → Completeness p
-  completeness is run command read end said shows none ends some =
-      written is command run read end shows none (subst (λ found. EndsSaid p found run end) said ends) some
+  completeness is run command read end parsed shows none ends some =
+      written is command run read end shows none (subst (λ found. EndsParsed p found run end) parsed ends) some
 
   pub usage_answer : (run : Run C W) (end : Status) → HasNoFault p run → EndsByUsage p run end → end ≡ status.Usage
   usage_answer run end none ends = by ends.line
@@ -89,20 +89,20 @@ module _ {C W X : Type 0} (p : Program C W X) where
       by (inl (is, wrote)) = is
       by (inr (is, missed)) = absurd (none.err missed.rose)
 
-  alike : IsProgram p → (a b : Run C W) (found : Option C) (s t : Status) → a.said ≡ found → BeginAlike p a b
-      → HasNoFault p a → HasNoFault p b → EndsSaid p found a s → EndsSaid p found b t
+  alike : IsProgram p → (a b : Run C W) (found : Option C) (s t : Status) → a.parsed ≡ found → BeginAlike p a b
+      → HasNoFault p a → HasNoFault p b → EndsParsed p found a s → EndsParsed p found b t
       → s ≢ status.Memory → t ≢ status.Memory → s ≡ t
-  alike is a b None s t said begin none other ends ends' some some' =
+  alike is a b None s t parsed begin none other ends ends' some some' =
       usage_answer a s none ends ∙ sym (usage_answer b t other ends')
-  alike is a b (Some command) s t said begin none other ends ends' some some' =
-      let x = written is command a begin.read s (begin.one command said) none ends some in
-      let y = written is command b begin.read t (begin.other command (sym begin.said ∙ said)) other ends' some' in
+  alike is a b (Some command) s t parsed begin none other ends ends' some some' =
+      let x = written is command a begin.read s (begin.one command parsed) none ends some in
+      let y = written is command b begin.read t (begin.other command (sym begin.parsed ∙ parsed)) other ends' some' in
       x.status_is ∙ ap status_of (y.only x.report x.reported) ∙ sym y.status_is
 
   one_answer : IsProgram p → OneAnswer p
   one_answer is a b s t begin none other ends ends' some some' =
-      let same = subst (λ found. EndsSaid p found b t) (sym begin.said) ends' in
-      alike is a b a.said s t refl begin none other ends same some some'
+      let same = subst (λ found. EndsParsed p found b t) (sym begin.parsed) ends' in
+      alike is a b a.parsed s t refl begin none other ends same some some'
 
   pub laws_of : IsProgram p → LawsOfProgram p
   laws_of is = record {

@@ -119,24 +119,24 @@ streams_get_the_report p one_report shown = record {
 }
 
 -- the runs of a program under words that say a command, or none
-abbrev pub said_ending : {C W X : Type 0} → Program C W X → Option C → (SourceState → W) → (SourceState → W) → Ending
-said_ending p said enter leave before after outputs end =
-    EndsBy p (record { said = said; before = enter before; after = leave after; outputs = outputs }) end
+abbrev pub parsed_ending : {C W X : Type 0} → Program C W X → Option C → (SourceState → W) → (SourceState → W) → Ending
+parsed_ending p parsed enter leave before after outputs end =
+    EndsBy p (record { parsed = parsed; before = enter before; after = leave after; outputs = outputs }) end
 
 -- Runs over a slice and two vectors, which were empty. They hold the report, if it was written whole.
 pub vectors_hold_the_report : {C W X : Type 0} (p : Program C W X) → StreamsGetTheReport p
-    → (enter leave : SourceState → W) (said : Option C) (bytes out_bytes err_bytes : List ℕ) (held : Option (List ℕ))
+    → (enter leave : SourceState → W) (parsed : Option C) (bytes out_bytes err_bytes : List ℕ) (held : Option (List ℕ))
     (source : SourceState) (out err : SinkState) (end : Status) → held ≡ Some [] → IsWhole end
-    → EndsThrough (said_ending p said enter leave) (record { left = Some bytes; out = held; err = Some [] }) source out err end
+    → EndsThrough (parsed_ending p parsed enter leave) (record { left = Some bytes; out = held; err = Some [] }) source out err end
     → ShowsStream out.held (Some out_bytes) → ShowsStream err.held (Some err_bytes)
-    → (command : C) (read : X) → said ≡ Some command → p.Shows command (enter (new_source (Some bytes))) read
+    → (command : C) (read : X) → parsed ≡ Some command → p.Shows command (enter (new_source (Some bytes))) read
     → StreamsHoldTheReport (p.ReportOn command read) [] [] (new_sink (Some out_bytes)) (new_sink (Some err_bytes)) end
-vectors_hold_the_report {C} p get enter leave said bytes out_bytes err_bytes held source out err end none whole ends shown
+vectors_hold_the_report {C} p get enter leave parsed bytes out_bytes err_bytes held source out err end none whole ends shown
     shown' command read is shows =
     let Ends : Option C → Option (List ℕ) → Type 0 = λ s h.
-    EndsThrough (said_ending p s enter leave) (record { left = Some bytes; out = h; err = Some [] }) source out err end
+    EndsThrough (parsed_ending p s enter leave) (record { left = Some bytes; out = h; err = Some [] }) source out err end
     in
-    let over = subst (λ s. Ends s (Some [])) is (subst (λ h. Ends said h) none ends) in
+    let over = subst (λ s. Ends s (Some [])) is (subst (λ h. Ends parsed h) none ends) in
     let had = get.through command enter leave read bytes [] [] source out err end shows whole over in
     record {
       report = had.report;

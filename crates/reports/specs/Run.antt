@@ -29,7 +29,7 @@ pub record Program (C W X : Type 0) : Type 1 where
 
 -- what the words say, what is read before and after the run, and the outputs
 pub record Run (C W : Type 0) : Type 0 where
-  pub said : Option C
+  pub parsed : Option C
   pub before : W
   pub after : W
   pub outputs : Outputs
@@ -59,13 +59,13 @@ pub record EndsByUsage {C W X : Type 0} (p : Program C W X) (run : Run C W) (end
 
 -- The statuses of a command, each with its cause. None is the one of usage. Memory that runs out has no cause, but it
 -- is never reported after something was written.
-abbrev pub EndsSaid : {C W X : Type 0} → Program C W X → Option C → Run C W → Status → Type 0
-EndsSaid p None run end = EndsByUsage p run end
-EndsSaid p (Some command) run Usage = ⊥
-EndsSaid p (Some command) run ReadFault = WroteNothing p command run × p.ReadFails command run.before run.after
-EndsSaid p (Some command) run WriteFault = EndsByFault p command run
-EndsSaid p (Some command) run Memory = WroteNothing p command run
-EndsSaid p (Some command) run end = EndsByReport p command run end
+abbrev pub EndsParsed : {C W X : Type 0} → Program C W X → Option C → Run C W → Status → Type 0
+EndsParsed p None run end = EndsByUsage p run end
+EndsParsed p (Some command) run Usage = ⊥
+EndsParsed p (Some command) run ReadFault = WroteNothing p command run × p.ReadFails command run.before run.after
+EndsParsed p (Some command) run WriteFault = EndsByFault p command run
+EndsParsed p (Some command) run Memory = WroteNothing p command run
+EndsParsed p (Some command) run end = EndsByReport p command run end
 
 abbrev pub EndsBy : {C W X : Type 0} → Program C W X → Run C W → Status → Type 0
-EndsBy p run end = EndsSaid p run.said run end
+EndsBy p run end = EndsParsed p run.parsed run end

@@ -33,16 +33,16 @@ pub record WroteTheReport (Reports : Report → Type 0) (outputs : Outputs) (sta
 abbrev pub Completeness : {C W X : Type 0} → Program C W X → Type 0
 Completeness {C} {W} {X} p =
     (run : Run C W) (command : C) (read : X) (end : Status)
-    → run.said ≡ Some command → p.Shows command run.before read → HasNoFault p run
+    → run.parsed ≡ Some command → p.Shows command run.before read → HasNoFault p run
     → EndsBy p run end → end ≢ Memory
     → WroteTheReport (p.ReportOn command read) run.outputs end
 
 -- the words of two runs say the same, and what their command reads is shown and is the same
 pub record BeginAlike {C W X : Type 0} (p : Program C W X) (first second : Run C W) : Type 0 where
-  pub said : first.said ≡ second.said
+  pub parsed : first.parsed ≡ second.parsed
   pub read : X
-  pub one : (command : C) → first.said ≡ Some command → p.Shows command first.before read
-  pub other : (command : C) → second.said ≡ Some command → p.Shows command second.before read
+  pub one : (command : C) → first.parsed ≡ Some command → p.Shows command first.before read
+  pub other : (command : C) → second.parsed ≡ Some command → p.Shows command second.before read
 
 -- two such runs in which no count rose have one status, if memory runs out in neither
 abbrev pub OneAnswer : {C W X : Type 0} → Program C W X → Type 0

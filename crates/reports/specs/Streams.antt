@@ -95,7 +95,7 @@ showing left out err = record { left = Some left; out = Some out; err = Some err
 -- the runs of a command of a program over streams, by what the command reads before and after it
 abbrev pub run_ending : {C W X : Type 0} → Program C W X → C → (SourceState → W) → (SourceState → W) → Ending
 run_ending p command enter leave before after outputs end =
-    EndsBy p (record { said = Some command; before = enter before; after = leave after; outputs = outputs }) end
+    EndsBy p (record { parsed = Some command; before = enter before; after = leave after; outputs = outputs }) end
 
 -- Where the streams show their bytes and what the command reads is shown, a run that ends by status 0, 1 or 7 has written
 -- the one report on what the command read, whole, to the writer that it goes to; with a buffer and without.

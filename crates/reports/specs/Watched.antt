@@ -19,8 +19,8 @@ end_lines (found.Hit step from item change) session = []
 end_lines found.None session = stop_lines session.ended (gpl_state_of session).pc
 
 abbrev pub watched_lines : Found → SessionState → List (List ℕ)
-watched_lines said session =
-    found_line said ∷ (end_lines said session ++ state_lines (gpl_state_of session) session.machine)
+watched_lines parsed session =
+    found_line parsed ∷ (end_lines parsed session ++ state_lines (gpl_state_of session) session.machine)
 
 -- after a hit the program has not ended, and the report is whole
 abbrev pub watched_status : Found → SessionState → Status

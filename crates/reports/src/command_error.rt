@@ -44,8 +44,8 @@ impl CommandError {
         }) (error_answer self.now) result }
     {
         match self {
-            CommandError::Refused(line) => tell(line.as_slice(), Status::Refused, err),
-            CommandError::Fault(fault) => tell(
+            CommandError::Refused(line) => end_with_line(line.as_slice(), Status::Refused, err),
+            CommandError::Fault(fault) => end_with_line(
                 fault_line(*fault).as_slice(),
                 fault_status(*fault),
                 err,
@@ -57,7 +57,7 @@ impl CommandError {
 }
 
 /// Writes a line by one call, and gives this status, or a write fault where the output failed. It takes no memory.
-pub fn tell<E: Sink>(line: &[u8], status: Status, err: &mut E) -> Status
+pub fn end_with_line<E: Sink>(line: &[u8], status: Status, err: &mut E) -> Status
     ensures { EndsByLine line.now status (E.state err.old) (E.state err.new) result }
 {
     match put_chunk(err, line) {

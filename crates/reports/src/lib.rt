@@ -12,7 +12,7 @@ mod outcome;
 mod report;
 mod watched;
 
-pub use crate::command_error::{CommandError, tell};
+pub use crate::command_error::{CommandError, end_with_line};
 pub use crate::execution::{end_status, put_execution};
 pub use crate::listing::Listing;
 pub use crate::outcome::finish;

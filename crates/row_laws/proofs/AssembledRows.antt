@@ -6,7 +6,7 @@ use Rattle.source_defs.specs.Refusals.{Refusal, ◌>>=◌, at_line}
 use Rattle.source_defs.specs.Lines.{line_texts}
 use Rattle.source_defs.proofs.RefusalLaws.{bound}
 use Rattle.expression_defs.specs.Symbols.{Names, look_up}
-use Rattle.expression_defs.specs.Layout.{laid, assembled_lines}
+use Rattle.expression_defs.specs.Layout.{line_layout, assembled_lines}
 use Rattle.base_defs.specs.declared.size.TheConstants.{GROM_SIZE}
 use Rattle.gpl_defs.specs.Bytes.{bytes_of, rest_of}
 use Rattle.gpl_defs.specs.Valid.{is_valid}
@@ -22,12 +22,12 @@ use Rattle.gpl_source_defs.specs.SecondChecks.{Outcome, Bytes, instruction, outc
 use Rattle.gpl_source_defs.specs.Programs.{AssembledLine, Program, assembled_line, bytes_in, program_by, program_after}
 use Rattle.gpl_source_defs.proofs.Sizes.{outcome_size}
 use Rattle.gpl_list_defs.specs.Rows.{Row, address, outcome_bytes, placed_bytes, row_of, rows}
-use Rattle.gpl_list_defs.specs.Listing.{assembled_listing, laid_listing, listing_of}
+use Rattle.gpl_list_defs.specs.Listing.{assembled_listing, layout_listing, listing_of}
 use Rattle.source_modules.proofs.Answers.{ok_has}
-use Rattle.row_laws.specs.Laws.{RowStands, ShowsLine, ShowsLines, RowsStandInRuns}
+use Rattle.row_laws.specs.Laws.{RowIsIn, ShowsLine, ShowsLines, RowsStayInRuns}
 use Rattle.row_laws.proofs.StillImage.{run_still}
-use Rattle.row_laws.proofs.StandingRows.{row_shows, all_show, rows_stand}
-use Rattle.row_laws.proofs.ValidLines.{FitsStatement, instruction_valid, IsLaid, AreLaid, lines_laid, line_found}
+use Rattle.row_laws.proofs.RowsInRuns.{row_shows, all_show, rows_are_in}
+use Rattle.row_laws.proofs.ValidLines.{FitsStatement, instruction_valid, IsLaid, AreLaidOut, lines_laid, line_found}
 
 -- what each of the lines comes to
 module _ (known : Names) where
@@ -44,7 +44,7 @@ module _ (known : Names) where
       came later before (later ++ line ∷ before) line a.0 refl a.1
 
 -- what is known of a line among others
-laid_among : (later before : List Line) (line : Line) → AreLaid (later ++ line ∷ before) → IsLaid before line
+laid_among : (later before : List Line) (line : Line) → AreLaidOut (later ++ line ∷ before) → IsLaid before line
 laid_among [] before line are = are.0
 laid_among (other ∷ later) before line are = laid_among later before line are.1
 
@@ -89,7 +89,7 @@ module _ (s : GplState) (known : Names) (at : Location) (skeleton : Skeleton) wh
 
   instruction_shows : (row : Row) (some : Outcome) → FitsStatement statement → HasRoom at (declared_size statement)
       → outcome (look_up known) at statement ≡ Ok some
-      → row.bytes ≡ bytes_in some → row.at ≡ at.number → RowStands s.image row → ShowsLine s known at skeleton row
+      → row.bytes ≡ bytes_in some → row.at ≡ at.number → RowIsIn s.image row → ShowsLine s known at skeleton row
   unfolding outcome
   instruction_shows row some fits room e bytes there stands =
       let a = bound (instruction (look_up known) at skeleton) _ some e in
@@ -117,13 +117,13 @@ module _ (s : GplState) (known : Names) (at : Location) (skeleton : Skeleton) wh
 -- the row of a line with an instruction
 line_shows : (s : GplState) (known : Names) (texts : List (ℕ × List ℕ)) (before : List Line) (line : Line) (skeleton : Skeleton) (some : Outcome)
     → line.statement ≡ Instruction skeleton → IsLaid before line → outcome (look_up known) (place before line) line.statement ≡ Ok some
-    → RowStands s.image (row_of (placed_bytes known) texts before line)
+    → RowIsIn s.image (row_of (placed_bytes known) texts before line)
     → ShowsLine s known (place before line) skeleton (row_of (placed_bytes known) texts before line)
-line_shows s known texts before line skeleton some is laid e stands =
+line_shows s known texts before line skeleton some is line_layout e stands =
     let at = place before line in
     let row = row_of (placed_bytes known) texts before line in
-    instruction_shows s known at skeleton row some (subst FitsStatement is laid.fits)
-    (subst (λ statement. HasRoom at (declared_size statement)) is (room_of before line laid))
+    instruction_shows s known at skeleton row some (subst FitsStatement is line_layout.fits)
+    (subst (λ statement. HasRoom at (declared_size statement)) is (room_of before line line_layout))
     (subst (λ statement. outcome (look_up known) at statement ≡ Ok some) is e)
     (ap outcome_bytes e)
     (ap (λ statement. address at statement) is) stands
@@ -134,44 +134,44 @@ module _ (source : List ℕ) (s : GplState) where
   abbrev texts : List (ℕ × List ℕ)
   texts = line_texts source
 
-  lines_show : (lines : List Line) (found : List AssembledLine) → laid check texts ≡ Ok lines → assembled_lines (assembled_line (names lines)) lines ≡ Ok found
+  lines_show : (lines : List Line) (found : List AssembledLine) → line_layout check texts ≡ Ok lines → assembled_lines (assembled_line (names lines)) lines ≡ Ok found
       → (listing_of source).rows ≡ rows (placed_bytes (names lines)) texts lines
-      → AllByRecursion (RowStands s.image) (listing_of source).rows → ShowsLines source s
-  lines_show lines found laid e is stand = record {
+      → AllByRecursion (RowIsIn s.image) (listing_of source).rows → ShowsLines source s
+  lines_show lines found line_layout e is are_bytes_at = record {
     lines = lines;
-    laid = laid;
+    line_layout = line_layout;
     rows = is;
     each = λ later before line skeleton split says.
         let some = came (names lines) later before lines line found split e in
-        let are = laid_among later before line (subst AreLaid split (lines_laid texts lines laid)) in
-        let all : AllByRecursion (RowStands s.image) (rows (placed_bytes (names lines)) texts (later ++ line ∷ before)) =
-        subst (λ all. AllByRecursion (RowStands s.image) (rows (placed_bytes (names lines)) texts all)) split
-        (subst (AllByRecursion (RowStands s.image)) is stand) in
-        line_shows s (names lines) texts before line skeleton some.0 says are some.1 (row_among (RowStands s.image) (names lines) texts later before line all);
+        let are = laid_among later before line (subst AreLaidOut split (lines_laid texts lines line_layout)) in
+        let all : AllByRecursion (RowIsIn s.image) (rows (placed_bytes (names lines)) texts (later ++ line ∷ before)) =
+        subst (λ all. AllByRecursion (RowIsIn s.image) (rows (placed_bytes (names lines)) texts all)) split
+        (subst (AllByRecursion (RowIsIn s.image)) is are_bytes_at) in
+        line_shows s (names lines) texts before line skeleton some.0 says are some.1 (row_among (RowIsIn s.image) (names lines) texts later before line all);
   }
 
-  assembled_show : (lines : List Line) (program : Program) (answer : Result (List AssembledLine) (Refusal GplCause)) → laid check texts ≡ Ok lines
+  assembled_show : (lines : List Line) (program : Program) (answer : Result (List AssembledLine) (Refusal GplCause)) → line_layout check texts ≡ Ok lines
       → assembled_lines (assembled_line (names lines)) lines ≡ answer → (answer >>= λ found. Ok (program_by lines found)) ≡ Ok program
-      → AllByRecursion (RowStands s.image) (listing_of source).rows → ShowsLines source s
-  assembled_show lines program (Err refused) laid e made stand = cc made
-  assembled_show lines program (Ok found) laid e made stand =
-      let is : listing_of source ≡ assembled_listing texts lines (Ok found) = ap (laid_listing texts) laid ∙ ap (assembled_listing texts lines) e in
-      lines_show lines found laid e (ap (λ listing. listing.rows) is) stand
+      → AllByRecursion (RowIsIn s.image) (listing_of source).rows → ShowsLines source s
+  assembled_show lines program (Err refused) line_layout e made are_bytes_at = cc made
+  assembled_show lines program (Ok found) line_layout e made are_bytes_at =
+      let is : listing_of source ≡ assembled_listing texts lines (Ok found) = ap (layout_listing texts) line_layout ∙ ap (assembled_listing texts lines) e in
+      lines_show lines found line_layout e (ap (λ listing. listing.rows) is) are_bytes_at
 
-  source_shows : (answer : Result (List Line) (Refusal GplCause)) (program : Program) → laid check texts ≡ answer → (answer >>= program_after) ≡ Ok program
-      → AllByRecursion (RowStands s.image) (listing_of source).rows → ShowsLines source s
-  source_shows (Err refused) program laid made stand = cc made
-  source_shows (Ok lines) program laid made stand =
-      assembled_show lines program (assembled_lines (assembled_line (names lines)) lines) laid refl made stand
+  source_shows : (answer : Result (List Line) (Refusal GplCause)) (program : Program) → line_layout check texts ≡ answer → (answer >>= program_after) ≡ Ok program
+      → AllByRecursion (RowIsIn s.image) (listing_of source).rows → ShowsLines source s
+  source_shows (Err refused) program line_layout made are_bytes_at = cc made
+  source_shows (Ok lines) program line_layout made are_bytes_at =
+      assembled_show lines program (assembled_lines (assembled_line (names lines)) lines) line_layout refl made are_bytes_at
 
-pub rows_stand_in_runs : RowsStandInRuns
-rows_stand_in_runs =
+pub rows_stay_in_runs : RowsStayInRuns
+rows_stay_in_runs =
     record {
       image = λ s made. run_still made s;
-      rows = rows_stand;
+      rows = rows_are_in;
       shows = λ source program bytes entry made is are.
-          all_show (run made (start bytes entry)).last (listing_of source).rows (rows_stand source program bytes entry made is are);
+          all_show (run made (start bytes entry)).last (listing_of source).rows (rows_are_in source program bytes entry made is are);
       lines = λ source program bytes entry made is are.
-          source_shows source (run made (start bytes entry)).last (laid check (line_texts source)) program refl is
-          (rows_stand source program bytes entry made is are);
+          source_shows source (run made (start bytes entry)).last (line_layout check (line_texts source)) program refl is
+          (rows_are_in source program bytes entry made is are);
     }

@@ -1,5 +1,5 @@
 pub mod StillImage
-pub mod StandingRows
+pub mod RowsInRuns
 pub mod ValidLines
 pub mod AssembledRows
 pub mod StandingNames

@@ -16,7 +16,7 @@ use Rattle.source_defs.specs.Refusals.{Refusal, unless, at_line}
 use Rattle.source_defs.proofs.RefusalLaws.{bound}
 use Rattle.expression_defs.specs.Expression.{Value, External, known_value}
 use Rattle.expression_defs.specs.Symbols.{Names, look_up}
-use Rattle.expression_defs.specs.Layout.{with_names, laid_after, laid, assembled_lines}
+use Rattle.expression_defs.specs.Layout.{with_names, layout_after, line_layout, assembled_lines}
 use Rattle.object_defs.specs.declared.spot.Spot.{Spot}
 use Rattle.object_defs.specs.Modules.{Module, Definition, Reference}
 use Rattle.asm_defs.specs.declared.causes.AsmCause.{AsmCause}
@@ -32,10 +32,10 @@ use Rattle.asm_defs.specs.Memory.{AssembledLine, with_use, after_word, words_at,
 use Rattle.asm_defs.specs.Modules.{assembled_line, spot_of, definition_in, unused, module_by, module_after}
 use Rattle.shelf_defs.specs.Files.{Contents}
 use Rattle.shelf_defs.specs.Copied.{PlacedLine, Ending, Open, Ended, Refused, Copied, copied_by}
-use Rattle.shelf_defs.specs.Assembly.{texts, in_place, unless_refused, laid_copied, module_of_copied}
+use Rattle.shelf_defs.specs.Assembly.{texts, in_place, unless_refused, layout_copied, module_of_copied}
 use Rattle.asm_list_defs.specs.Listed.{shown, ListedName, defined, listed_names, listing_after, listing_by, listing_of}
 use Rattle.row_laws.specs.Listings.{Lists, ListsDefinition, ListsReference, ListsAll, ListingsHaveAll}
-use Rattle.row_laws.proofs.StandingRows.{all_append, none_of_two}
+use Rattle.row_laws.proofs.RowsInRuns.{all_append, none_of_two}
 use Rattle.row_laws.proofs.StandingNames.{paired_length, shown_length, defined_length, numbered_length, Lines, laid_length, IsDefined, IsAmong, among_left}
 use Rattle.row_laws.proofs.StandingNames.{among_right, all_list, Stands, same_name, insert_self, names_in, lines_define, AllKnown, lines_stand, rows_values}
 
@@ -148,7 +148,7 @@ moved_new before line found e new =
 
 record IsNew (before : List Line) (line : Line) : Type 0 where
   fresh : AllByRecursion (IsFresh (names before)) line.names
-  stand : (name : List ℕ) → IsDefined (refs_in line.statement) name → look_up (names (line ∷ before)) name ≡ Some (External name)
+  are_bytes_at : (name : List ℕ) → IsDefined (refs_in line.statement) name → look_up (names (line ∷ before)) name ≡ Some (External name)
   named : (name : List ℕ) → IsDefined (refs_in line.statement) name → IsDefined (names_in line.names) name
 
 line_new : (before : List Line) (number : ℕ) (text : List ℕ) (line : Line) → check before number text ≡ Ok line → IsNew before line
@@ -161,7 +161,7 @@ line_new before number text line e =
     (record {
       fresh = all_append (IsFresh (names before)) (label_entry a.0.label a.0.move.label) (external_entries (refs_in a.0.statement))
           (label_fresh (names before) a.0.label a.0.move.label new.new_label) (externals_fresh (names before) (refs_in a.0.statement) new.new_refs);
-      stand = line_externals a.0.label a.0.move.label (refs_in a.0.statement) (names before);
+      are_bytes_at = line_externals a.0.label a.0.move.label (refs_in a.0.statement) (names before);
       named = line_named a.0.label a.0.move.label (refs_in a.0.statement);
     })
 
@@ -173,12 +173,12 @@ line_found : {A : Type 0} (number : ℕ) (answer : Result A AsmCause) (found : A
 line_found number (Ok value) found e = cc e
 line_found number (Err cause) found e = cc e
 
-last_new : (last : Bool) (left : List (ℕ × List ℕ)) (found lines : List Line) → AreNew found → (laid_after check found left ≡ Ok lines → AreNew lines)
-    → ◌≡◌ {A = Lines} (if last then Ok found else laid_after check found left) (Ok lines) → AreNew lines
+last_new : (last : Bool) (left : List (ℕ × List ℕ)) (found lines : List Line) → AreNew found → (layout_after check found left ≡ Ok lines → AreNew lines)
+    → ◌≡◌ {A = Lines} (if last then Ok found else layout_after check found left) (Ok lines) → AreNew lines
 last_new true left found lines new next e = let same : found ≡ lines = cc e in subst AreNew same new
 last_new false left found lines new next e = next e
 
-lines_new : (left : List (ℕ × List ℕ)) (before lines : List Line) → AreNew before → laid_after check before left ≡ Ok lines → AreNew lines
+lines_new : (left : List (ℕ × List ℕ)) (before lines : List Line) → AreNew before → layout_after check before left ≡ Ok lines → AreNew lines
 lines_new [] before lines new e = let same : before ≡ lines = cc e in subst AreNew same new
 lines_new (text ∷ left) before lines new e =
     let a = bound (at_line text.0 (check before text.0 text.1)) _ lines e in
@@ -213,7 +213,7 @@ refs_external (line ∷ before) new name is =
           }
       | inr here ↦
           record {
-            stands = new.0.stand name here;
+            stands = new.0.are_bytes_at name here;
             among = among_right (defined before) (names_in line.names ∷ []) name (inl (new.0.named name here));
           }
     ]
@@ -310,13 +310,13 @@ unless_refused_ok Open lines found e = cc e
 unless_refused_ok Ended lines found e = cc e
 unless_refused_ok (Refused refusal) lines found e = cc e
 
-laid_ok : (copied : Copied) (lines : List Line) → laid_copied copied ≡ Ok lines → laid check (numbered 1 (texts copied.lines)) ≡ Ok lines
+laid_ok : (copied : Copied) (lines : List Line) → layout_copied copied ≡ Ok lines → line_layout check (numbered 1 (texts copied.lines)) ≡ Ok lines
 laid_ok copied lines e =
-    let a = bound (in_place copied.lines (laid check (numbered 1 (texts copied.lines)))) _ lines e in
-    in_place_ok copied.lines (laid check (numbered 1 (texts copied.lines))) a.0 a.1 ∙ ap Ok (unless_refused_ok copied.ending a.0 lines a.2)
+    let a = bound (in_place copied.lines (line_layout check (numbered 1 (texts copied.lines)))) _ lines e in
+    in_place_ok copied.lines (line_layout check (numbered 1 (texts copied.lines))) a.0 a.1 ∙ ap Ok (unless_refused_ok copied.ending a.0 lines a.2)
 
 -- what is listed of a source that is accepted
-module _ (copied : Copied) (lines : List Line) (found : List AssembledLine) (is : laid_copied copied ≡ Ok lines)
+module _ (copied : Copied) (lines : List Line) (found : List AssembledLine) (is : layout_copied copied ≡ Ok lines)
     (came : assembled_lines (assembled_line (names lines)) lines ≡ Ok found) where
   abbrev known : Names
   known = names lines
@@ -349,7 +349,7 @@ module _ (copied : Copied) (lines : List Line) (found : List AssembledLine) (is 
 of_copied : (copied : Copied) (m : Module) (contents : Contents) (source : List ℕ) → copied ≡ copied_by contents source → module_of_copied copied ≡ Ok m
     → ListsAll m contents source (listing_of copied)
 of_copied copied m contents source same e =
-    let a = bound (laid_copied copied) _ m e in
+    let a = bound (layout_copied copied) _ m e in
     let b = bound (assembled_lines (assembled_line (names a.0)) a.0) _ m (in_place_ok copied.lines (module_after a.0) m a.2) in
     let made : module_by a.0 b.0 ≡ m = cc b.2 in
     let all = names a.0 in
@@ -358,7 +358,7 @@ of_copied copied m contents source same e =
     (subst (λ (m : Module). ListsAll m contents source (listing_after copied.lines a.0 (Ok b.0))) made
     (record {
       lines = a.0;
-      laid = ap laid_copied (sym same) ∙ a.1;
+      line_layout = ap layout_copied (sym same) ∙ a.1;
       rows =
           let size = shown_length (Some all) a.0 in
           paired_length copied.lines (shown (Some all) a.0) (omega (arith, few copied a.0 b.0 a.1 b.1, size)) ∙ size;

@@ -14,14 +14,14 @@ use Rattle.source_defs.specs.Refusals.{Refusal, at_line}
 use Rattle.source_defs.proofs.RefusalLaws.{bound}
 use Rattle.expression_defs.specs.Expression.{Value}
 use Rattle.expression_defs.specs.Symbols.{Names, predefined, look_up}
-use Rattle.expression_defs.specs.Layout.{with_names, laid_after}
+use Rattle.expression_defs.specs.Layout.{with_names, layout_after}
 use Rattle.asm_defs.specs.declared.causes.AsmCause.{AsmCause}
 use Rattle.asm_defs.specs.Locations.{Line, place}
 use Rattle.asm_defs.specs.FirstChecks.{names}
 use Rattle.asm_defs.specs.FirstChecks.{check}
 use Rattle.shelf_defs.specs.Copied.{PlacedLine}
 use Rattle.asm_list_defs.specs.Listed.{shown_at, shown, paired, ListedName, defined, names_of_line}
-use Rattle.row_laws.proofs.StandingRows.{all_append}
+use Rattle.row_laws.proofs.RowsInRuns.{all_append}
 use Rattle.row_laws.specs.Listings.{Lists, HasValue}
 
 -- ---- as many rows as lines
@@ -52,12 +52,12 @@ abbrev pub Lines : Type 0
 Lines = Result (List Line) (Refusal AsmCause)
 
 last_length : (last : Bool) (left : List (ℕ × List ℕ)) (found lines : List Line) (count : ℕ) → length found ≤ count
-    → (laid_after check found left ≡ Ok lines → length lines ≤ count) → ◌≡◌ {A = Lines} (if last then Ok found else laid_after check found left) (Ok lines)
+    → (layout_after check found left ≡ Ok lines → length lines ≤ count) → ◌≡◌ {A = Lines} (if last then Ok found else layout_after check found left) (Ok lines)
     → length lines ≤ count
 last_length true left found lines count le next e = let same : found ≡ lines = cc e in omega (arith, ap length same, le)
 last_length false left found lines count le next e = next e
 
-pub laid_length : (left : List (ℕ × List ℕ)) (before lines : List Line) → laid_after check before left ≡ Ok lines → length lines ≤ length before + length left
+pub laid_length : (left : List (ℕ × List ℕ)) (before lines : List Line) → layout_after check before left ≡ Ok lines → length lines ≤ length before + length left
 laid_length [] before lines e = let same : before ≡ lines = cc e in omega (arith, ap length same)
 laid_length (text ∷ left) before lines e =
     let a = bound (at_line text.0 (check before text.0 text.1)) _ lines e in

@@ -8,7 +8,7 @@ use Rattle.source_defs.specs.Lines.{lines_from, line_texts}
 use Rattle.source_defs.specs.Operands.{operands_from}
 use Rattle.expression_defs.specs.Expression.{Absolute}
 use Rattle.expression_defs.specs.Symbols.{Names, predefined, registers, look_up}
-use Rattle.expression_defs.specs.Layout.{laid}
+use Rattle.expression_defs.specs.Layout.{line_layout}
 use Rattle.source_defs.specs.Refusals.{◌>>=◌}
 use Rattle.expression_defs.specs.Tokens.{token_at, tokens_from}
 use Rattle.gpl_source_defs.specs.Skeletons as skeletons
@@ -51,7 +51,7 @@ use Rattle.report_defs.specs.Report.{Report, Whole, ProgramRun, ProgramReport, R
 use Rattle.report_defs.specs.Trace.{seen_state, step_front, changed_from, changed_text, cell_place, register_place, changes_text, step_line, step_lines}
 use Rattle.row_laws.specs.OneTrace.{source, first_line, second_line, last_line, IsTraced, OneSourceIsTraced}
 use Rattle.row_laws.proofs.StillImage.{run_on}
-use Rattle.row_laws.proofs.StandingRows.{get_other, new_hold}
+use Rattle.row_laws.proofs.RowsInRuns.{get_other, new_hold}
 
 -- ---- what does not differ
 
@@ -301,15 +301,15 @@ third_assembled : assembled_line known (two ∷ one ∷ []) (second_placed ∷ f
 unfolding outcome token_at tokens_from
 third_assembled = rw start_known refl
 
-laid_is : laid check (line_texts source) ≡ Ok (three ∷ two ∷ one ∷ [])
-laid_is = ap (laid check) texts_are ∙ rw first_checked (rw second_checked (rw third_checked refl))
+layout_is : line_layout check (line_texts source) ≡ Ok (three ∷ two ∷ one ∷ [])
+layout_is = ap (line_layout check) texts_are ∙ rw first_checked (rw second_checked (rw third_checked refl))
 
 abbrev made : Program
 made = record { image = image; entry = Some 0x6000; names = known }
 
 program_is : program_of_source source ≡ Ok made
 program_is =
-    ap (λ answer. answer >>= program_after) laid_is
+    ap (λ answer. answer >>= program_after) layout_is
     ∙ rw first_assembled (rw second_assembled (rw third_assembled refl))
 
 -- ---- its report

@@ -12,7 +12,7 @@ use Rattle.source_defs.specs.QuotedTexts.{quoted}
 use Rattle.source_defs.proofs.RefusalLaws.{bound}
 use Rattle.expression_defs.specs.Expression.{Value}
 use Rattle.expression_defs.specs.Symbols.{Names, look_up}
-use Rattle.expression_defs.specs.Layout.{laid_after, set_or}
+use Rattle.expression_defs.specs.Layout.{layout_after, set_or}
 use Rattle.base_defs.specs.declared.size.TheConstants.{GROM_SIZE}
 use Rattle.gpl_defs.specs.declared.instruction.GplInstr.{GplInstr}
 use Rattle.gpl_defs.specs.declared.instruction.GplSource.{GplSource}
@@ -39,7 +39,7 @@ use Rattle.gpl_source_defs.specs.Statements.{statement_by, statement_at, declare
 use Rattle.gpl_source_defs.specs.Locations.{Line, location, after, address_of, origin_of, passes, branch_offset}
 use Rattle.gpl_source_defs.specs.FirstChecks.{as_text, parsed, checked, check, line_of, names, is_full, is_bad}
 use Rattle.gpl_source_defs.specs.SecondChecks.{immediate_of, register_of, value, source_value, length_value, moved, instruction}
-use Rattle.gpl_source_defs.proofs.CheckLaws.{is_let_through}
+use Rattle.gpl_source_defs.proofs.CheckLaws.{is_accepted}
 use Rattle.gpl_lines.specs.Validity.{HasForm}
 use Rattle.gpl_lines.proofs.FormLaws.{named_has_form}
 use Rattle.gpl_asm.proofs.LineLaws.{location_more}
@@ -269,12 +269,12 @@ pub record IsLaid (before : List Line) (line : Line) : Type 0 where
   pub from : (location before).grom ≤ (location before).number
   pub ends : (location before).number + declared_size line.statement ≤ (location before).grom + GROM_SIZE
 
-abbrev pub AreLaid : List Line → Type 0
-AreLaid [] = ⊤
-AreLaid (line ∷ before) = IsLaid before line × AreLaid before
+abbrev pub AreLaidOut : List Line → Type 0
+AreLaidOut [] = ⊤
+AreLaidOut (line ∷ before) = IsLaid before line × AreLaidOut before
 
 record AreFound (lines : List Line) : Type 0 where
-  laid : AreLaid lines
+  line_layout : AreLaidOut lines
   leads : LiesInItsGrom (location lines)
 
 first_location : LiesInItsGrom (location [])
@@ -285,11 +285,11 @@ one_found before number text line are e =
     let here = location before in
     let a = bound (checked (names before) here text) _ line e in
     let made : line_of here number a.0 ≡ line = cc a.2 in
-    let through = is_let_through (names before) here text a.0 a.1 in
+    let through = is_accepted (names before) here text a.0 a.1 in
     let fits = ok_has FitsStatement (parsed (names before) here text) a.0.statement through.parsed (parsed_fits (names before) here text) in
     let there = leads here a.0.label a.0.statement are.leads through.fits through.fine in
     subst (λ (line : Line). AreFound (line ∷ before)) made (record {
-      laid = (
+      line_layout = (
         record {
           fits = fits;
           none = refl;
@@ -297,7 +297,7 @@ one_found before number text line are e =
           from = are.leads.from;
           ends = let full = through.fits in grind (arith, nat_tests, full);
         },
-        are.laid,
+        are.line_layout,
       );
       leads = subst LiesInItsGrom (sym (location_more number a.0 before)) there;
     })
@@ -309,17 +309,17 @@ line_found number (Err cause) found e = cc e
 abbrev Lines : Type 0
 Lines = Result (List Line) (Refusal GplCause)
 
-last_or : (last : Bool) (texts : List (ℕ × List ℕ)) (found lines : List Line) → AreFound found → (laid_after check found texts ≡ Ok lines → AreFound lines)
-    → ◌≡◌ {A = Lines} (if last then Ok found else laid_after check found texts) (Ok lines) → AreFound lines
+last_or : (last : Bool) (texts : List (ℕ × List ℕ)) (found lines : List Line) → AreFound found → (layout_after check found texts ≡ Ok lines → AreFound lines)
+    → ◌≡◌ {A = Lines} (if last then Ok found else layout_after check found texts) (Ok lines) → AreFound lines
 last_or true texts found lines are next e = let same : found ≡ lines = cc e in subst AreFound same are
 last_or false texts found lines are next e = next e
 
-all_found : (texts : List (ℕ × List ℕ)) (before lines : List Line) → AreFound before → laid_after check before texts ≡ Ok lines → AreFound lines
+all_found : (texts : List (ℕ × List ℕ)) (before lines : List Line) → AreFound before → layout_after check before texts ≡ Ok lines → AreFound lines
 all_found [] before lines are e = let same : before ≡ lines = cc e in subst AreFound same are
 all_found (text ∷ texts) before lines are e =
     let a = bound (at_line text.0 (check before text.0 text.1)) _ lines e in
     let one = one_found before text.0 text.1 a.0 are (line_found text.0 (check before text.0 text.1) a.0 a.1) in
     last_or a.0.last texts (a.0 ∷ before) lines one (λ e. all_found texts (a.0 ∷ before) lines one e) a.2
 
-pub lines_laid : (texts : List (ℕ × List ℕ)) (lines : List Line) → laid_after check [] texts ≡ Ok lines → AreLaid lines
-lines_laid texts lines e = (all_found texts [] lines (record { laid = tt; leads = first_location }) e).laid
+pub lines_laid : (texts : List (ℕ × List ℕ)) (lines : List Line) → layout_after check [] texts ≡ Ok lines → AreLaidOut lines
+lines_laid texts lines e = (all_found texts [] lines (record { line_layout = tt; leads = first_location }) e).line_layout

@@ -3,7 +3,7 @@ use Rattle.std.specs.Prelude.{◌≡◌, ℕ, ◌+◌, ◌%◌, ◌<◌, ◌≤�
 use Rattle.std.specs.List.{AllByRecursion}
 use Rattle.source_defs.specs.Lines.{line_texts}
 use Rattle.expression_defs.specs.Symbols.{Names, look_up}
-use Rattle.expression_defs.specs.Layout.{laid}
+use Rattle.expression_defs.specs.Layout.{line_layout}
 use Rattle.base_defs.specs.declared.size.TheConstants.{GROM_SIZE}
 use Rattle.gpl_defs.specs.declared.instruction.GplInstr.{GplInstr}
 use Rattle.gpl_defs.specs.Image.{AreBytesOf}
@@ -24,8 +24,8 @@ use Rattle.gpl_list_defs.specs.Rows.{Row, placed_bytes, row_of, rows}
 use Rattle.gpl_list_defs.specs.Listing.{listing_of}
 
 -- the bytes of a row stand in an image at the row's address and those that follow it
-abbrev pub RowStands : List ℕ → Row → Type 0
-RowStands image row =
+abbrev pub RowIsIn : List ℕ → Row → Type 0
+RowIsIn image row =
     (k : ℕ) → k < length row.bytes → row.at + k < 65536
     → slice_index image (row.at + k) ≡ slice_index row.bytes k
 
@@ -55,7 +55,7 @@ pub record ShowsLine (s : GplState) (known : Names) (at : Location) (skeleton : 
 -- of a line with an instruction shows what that line is assembled to.
 pub record ShowsLines (source : List ℕ) (s : GplState) : Type 0 where
   pub lines : List Line
-  pub laid : laid check (line_texts source) ≡ Ok lines
+  pub line_layout : line_layout check (line_texts source) ≡ Ok lines
   pub rows : (listing_of source).rows ≡ rows (placed_bytes (names lines)) (line_texts source) lines
   pub each : (later before : List Line) (line : Line) (skeleton : Skeleton)
       → lines ≡ later ++ line ∷ before
@@ -66,11 +66,11 @@ pub record ShowsLines (source : List ℕ) (s : GplState) : Type 0 where
 -- The law, which is proved. No step changes the image. So the bytes of all rows that `glist` lists of an accepted
 -- source stand in each state of a run of its program, and a step that begins at a row shows the row's instruction,
 -- whatever the state is otherwise; if it is the row of a line with an instruction, what the line is assembled to.
-pub record RowsStandInRuns : Type 0 where
+pub record RowsStayInRuns : Type 0 where
   pub image : (s : GplState) (made : ℕ) → (run made s).last.image ≡ s.image
   pub rows : (source : List ℕ) (program : Program) (image : List ℕ) (entry made : ℕ)
       → program_of_source source ≡ Ok program → AreBytesOf program.image image
-      → AllByRecursion (RowStands (run made (start image entry)).last.image) (listing_of source).rows
+      → AllByRecursion (RowIsIn (run made (start image entry)).last.image) (listing_of source).rows
   pub shows : (source : List ℕ) (program : Program) (image : List ℕ) (entry made : ℕ)
       → program_of_source source ≡ Ok program → AreBytesOf program.image image
       → AllByRecursion (ShowsRow (run made (start image entry)).last) (listing_of source).rows

@@ -8,7 +8,7 @@ use Rattle.asm_defs.specs.Locations.{Line}
 use Rattle.asm_defs.specs.Modules.{spot_of}
 use Rattle.shelf_defs.specs.Files.{Contents}
 use Rattle.shelf_defs.specs.Copied.{copied_by}
-use Rattle.shelf_defs.specs.Assembly.{module_by, laid_copied}
+use Rattle.shelf_defs.specs.Assembly.{module_by, layout_copied}
 use Rattle.asm_list_defs.specs.Listed.{ListedName, Listing, listing}
 
 -- a name is listed with a value
@@ -33,7 +33,7 @@ ListsReference rows found = Lists rows found.name (External found.name)
 -- the module is listed.
 pub record ListsAll (module_ : Module) (contents : Contents) (source : List ℕ) (found : Listing) : Type 0 where
   pub lines : List Line
-  pub laid : laid_copied (copied_by contents source) ≡ Ok lines
+  pub line_layout : layout_copied (copied_by contents source) ≡ Ok lines
   pub rows : length found.lines ≡ length lines
   pub values : AllByRecursion HasValue found.names
   pub defs : AllByRecursion (ListsDefinition found.names) module_.defs

@@ -57,7 +57,7 @@ fn played_cartridge(alloc: Global) -> Option<MemSink> {
 }
 
 #[test]
-fn play_begins_where_a_session_stands(rt: HostRuntime) -> Result<(), Fail> {
+fn play_begins_where_a_session_is(rt: HostRuntime) -> Result<(), Fail> {
     let out = played_cartridge(rt.alloc());
     assert!(rt;
         out.is_some_and(|sink| sink.bytes()

@@ -6,7 +6,7 @@ use Rattle.std.specs.Prelude.{ℕ, ◌-◌, List, map, slice_get, None, Result, 
 use Rattle.std.specs.Option.{unwrap_or}
 use Rattle.source_defs.specs.Refusals.{Refusal, ◌>>=◌}
 use Rattle.source_defs.specs.Lines.{numbered}
-use Rattle.expression_defs.specs.Layout.{laid}
+use Rattle.expression_defs.specs.Layout.{line_layout}
 use Rattle.object_defs.specs.Modules.{Module}
 use Rattle.asm_defs.specs.declared.causes.AsmCause.{AsmCause}
 use Rattle.asm_defs.specs.Locations.{Line}
@@ -38,14 +38,14 @@ unless_refused Ended lines = Ok lines
 unless_refused (Refused refusal) lines = Err refusal
 
 -- the lines by the first checks, in the order in which they are copied
-abbrev pub laid_copied : Copied → Result (List Line) CopyRefusal
-laid_copied found = do
-  lines ← in_place found.lines (laid check (numbered 1 (texts found.lines)))
+abbrev pub layout_copied : Copied → Result (List Line) CopyRefusal
+layout_copied found = do
+  lines ← in_place found.lines (line_layout check (numbered 1 (texts found.lines)))
   unless_refused found.ending lines
 
 abbrev pub module_of_copied : Copied → Result Module CopyRefusal
 module_of_copied found = do
-  lines ← laid_copied found
+  lines ← layout_copied found
   in_place found.lines (module_after lines)
 
 -- the module of a source with the files that it copies, or why there is none

@@ -65,9 +65,9 @@ unfoldable pub asked : List ℕ → LineKind
 asked line = asked_in line (fields line)
 
 -- a line ends its source where it says END
-abbrev pub says_end : Result Statement AsmCause → Bool
-says_end (Ok statement) = is_end statement
-says_end (Err cause) = false
+abbrev pub parses_as_end : Result Statement AsmCause → Bool
+parses_as_end (Ok statement) = is_end statement
+parses_as_end (Err cause) = false
 
 unfoldable pub ends_source : List ℕ → Bool
-ends_source line = says_end (parse_line line)
+ends_source line = parses_as_end (parse_line line)

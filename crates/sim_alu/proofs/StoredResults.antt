@@ -2,7 +2,7 @@
 use Rattle.std.proofs.Common.{ℕ, ⊎_elim, ◌∙◌, ◌≡◌, ap, arith, List, refl, Result, slice_set, Some, subst, sym, true}
 use Rattle.sim_rows.proofs.Common.{ShowsChanges, ChangedFrom, Changes, ReachesWithin, comes, comes_as, comes_on, comes_then, EndsRow, even, Exits, Goes, gone_on}
 use Rattle.sim_rows.proofs.Common.{GplOperation, GSTEP, high, idle_again, is_view, join, MachineState, most_of_alu_row, most_of_store, PortsAreIdle, Reason}
-use Rattle.sim_rows.proofs.Common.{row_width, RunsRow, SeesFinished, SeesResult, SHOW, Stands, STATB, STATUS, STO, store_then, stored_idle, StoresResult}
+use Rattle.sim_rows.proofs.Common.{row_width, RunsRow, SeesFinished, SeesResult, SHOW, IsAt, STATB, STATUS, STO, store_then, stored_idle, StoresResult}
 use Rattle.sim_rows.proofs.Common.{StoresValue, Storing, unchanged, View, view, with_status, with_value}
 use Rattle.sim_alu.specs.Family.{is_alu, result_piece}
 use Rattle.sim_alu.specs.Tails.{StoresWithStatus}
@@ -56,7 +56,7 @@ result_idle op x y t u f i e =
 
 -- ---- a row
 
-module _ (op : GplOperation) (x y z : MachineState) (t u w : ℕ) (f : is_alu (Some op) ≡ true) (start : ℕ) (stands : Stands x start)
+module _ (op : GplOperation) (x y z : MachineState) (t u w : ℕ) (f : is_alu (Some op) ≡ true) (start : ℕ) (is_at : IsAt x start)
     (e : Exits x y t u (result_piece op (view x))) where
   pub by_sto : y.cpu.pc ≡ STO → StoresResult y z u w → RunsRow op most_of_alu_row x z t w
   by_sto at d s place source o a operands =
@@ -68,8 +68,8 @@ module _ (op : GplOperation) (x y z : MachineState) (t u w : ℕ) (f : is_alu (S
       let a1 = comes {Q = Storing c (row_width s) place m.number} e (record { within = m.within; to_is = m.to; holds = m.storing }) in
       let a2 = comes_on 3 45 a1 (d c (row_width s) place m.number a1.holds) refl in
       subst P (sym m.is) (comes_as 50 (SeesFinished (with_value (row_width s) place m.number c)) a2 (omega arith) (λ q h. h)))
-      (λ (m : Flagged op s place source (result_piece op v)). let pc = e.stands.pc in let to = m.to in absurd (omega arith))
-      (MadeResults.made v (is_view x stands.machine) s place source a op f o operands)
+      (λ (m : Flagged op s place source (result_piece op v)). let pc = e.is_at.pc in let to = m.to in absurd (omega arith))
+      (MadeResults.made v (is_view x is_at.machine) s place source a op f o operands)
 
   pub by_store : (y.cpu.pc ≡ STO → ⊥) → StoresWithStatus y z u w → RunsRow op most_of_alu_row x z t w
   by_store away d s place source o a operands =
@@ -77,10 +77,10 @@ module _ (op : GplOperation) (x y z : MachineState) (t u w : ℕ) (f : is_alu (S
       let c : Changes = unchanged (gone_on s) in
       let P : Result Changes Reason → Type 0 = λ r. ReachesWithin 50 x z t w GSTEP (SeesResult r) in
       ⊎_elim
-      (λ (m : Plain op s place source (result_piece op v)). absurd (away (e.stands.pc ∙ m.to)))
+      (λ (m : Plain op s place source (result_piece op v)). absurd (away (e.is_at.pc ∙ m.to)))
       (λ (m : Flagged op s place source (result_piece op v)).
       let a1 = comes {Q = Storing c (row_width s) place m.number} e (record { within = m.within; to_is = m.to; holds = m.storing }) in
       let r12 : (view y).r.r12 ≡ join m.status 0 = ap (λ (q : View). q.r.r12) e.shows ∙ m.keeps in
       let a2 = comes_on 6 44 a1 (d c (row_width s) place m.number m.status a1.holds r12) refl in
       subst P (sym m.is) (comes_as 50 (SeesFinished (with_status m.status (with_value (row_width s) place m.number c))) a2 (omega arith) (λ q h. h)))
-      (MadeResults.made v (is_view x stands.machine) s place source a op f o operands)
+      (MadeResults.made v (is_view x is_at.machine) s place source a op f o operands)

@@ -2,7 +2,7 @@
 
 ghost use Rattle.std.specs.Prelude.{◌<◌, ◌≡◌, Some};
 ghost use Rattle.sim_rows.specs.Prelude.{AtDispatch, AtEntry, Exits, IsVisible, One, PortsAreIdle};
-ghost use Rattle.sim_rows.specs.Prelude.{from_dispatch, row_entry, RunsRow, Stands, state_at_dispatch, Turned, Two};
+ghost use Rattle.sim_rows.specs.Prelude.{from_dispatch, row_entry, RunsRow, IsAt, state_at_dispatch, Turned, Two};
 ghost use Rattle.sim_rows.specs.Prelude.{view};
 ghost use Rattle.sim_alu.specs.Family.{is_alu, result_piece};
 ghost use Rattle.sim_alu.specs.Tails.{StoresWithStatus};
@@ -22,7 +22,7 @@ use std::sync::ledger::Ledger;
 
 /// Makes the result of a row. Other rows are left where they stand.
 fn make_result<L: Ledger>(machine: &mut Machine, steps: &mut Steps<L>, operation: GplOperation)
-    requires { Stands machine.old (row_entry (Some operation)) }
+    requires { IsAt machine.old (row_entry (Some operation)) }
     ensures { Exits machine.old machine.new steps.old steps.new (result_piece operation (view machine.old)) }
 {
     match operation {
@@ -38,7 +38,7 @@ fn make_result<L: Ledger>(machine: &mut Machine, steps: &mut Steps<L>, operation
 
 /// Makes the result of one operand.
 fn make_result_of_one<L: Ledger>(machine: &mut Machine, steps: &mut Steps<L>, name: OneName)
-    requires { Stands machine.old (row_entry (Some (One name))) }
+    requires { IsAt machine.old (row_entry (Some (One name))) }
     ensures { Exits machine.old machine.new steps.old steps.new (result_piece (One name) (view machine.old)) }
 {
     match name {
@@ -56,7 +56,7 @@ fn make_result_of_one<L: Ledger>(machine: &mut Machine, steps: &mut Steps<L>, na
 
 /// Makes the result of two operands.
 fn make_result_of_two<L: Ledger>(machine: &mut Machine, steps: &mut Steps<L>, name: TwoName)
-    requires { Stands machine.old (row_entry (Some (Two name))) }
+    requires { IsAt machine.old (row_entry (Some (Two name))) }
     ensures { Exits machine.old machine.new steps.old steps.new (result_piece (Two name) (view machine.old)) }
 {
     match name {
@@ -75,7 +75,7 @@ fn make_result_of_two<L: Ledger>(machine: &mut Machine, steps: &mut Steps<L>, na
 
 /// Stores the result of a row, which is in register 9, and then the status that register 12 keeps, and ends the row.
 fn finish_with_status<L: Ledger>(machine: &mut Machine, steps: &mut Steps<L>)
-    requires stands { Stands machine.old address.STORE }
+    requires is_at { IsAt machine.old address.STORE }
     requires idle { PortsAreIdle machine.old.cpu.memory }
     requires space { (view machine.old).r.r8 < 2 }
     requires visible { let r = (view machine.old).r in IsVisible r.r8 r.r7 r.r3 }

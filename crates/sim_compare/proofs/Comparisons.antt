@@ -4,7 +4,7 @@ use Rattle.std.proofs.Common.{slice_set, Some, subst, sym, true}
 use Rattle.sim_rows.proofs.Common.{Byte, bytes_by, CEQ, CGE, CGT, CH, CHE, CLOG, ReachesWithin, comes, comes_then, CTRUE, CZ, Exits, Goes, goes_in, gone_on}
 use Rattle.sim_rows.proofs.Common.{GplOperation, GplState, GSTEP, in_register, is_turn_end, IsView, loaded_of, MachineState, modulus, next_of, One, ones_cleared}
 use Rattle.sim_rows.proofs.Common.{ones_set, operation_in, Place, reads_destination, row_result, row_width, RunsRow, ShowsState, SeesFinished, SeesResult, signed}
-use Rattle.sim_rows.proofs.Common.{Source, ST, Stands, Two, unchanged, value_at, View, view, Width, width_in, with_condition, Word}
+use Rattle.sim_rows.proofs.Common.{Source, ST, IsAt, Two, unchanged, value_at, View, view, Width, width_in, with_condition, Word}
 use Rattle.sim_compare.specs.Pieces.{end_of, decided}
 use Rattle.sim_compare.specs.Family.{comparison, ending, is_comparison, IsDecided}
 use Rattle.sim_compare.proofs.Numbers.{at_most, at_most_signed, below_in_register, equal_in_register, number_fits, ones_in_register, order_in_register}
@@ -36,11 +36,11 @@ pub goes_on : (b : Bool) → is_turn_end (end_of b) ≡ false
 goes_on true = refl
 goes_on false = refl
 
-which_end : (x : MachineState) (b : Bool) → Stands x (end_of b) → (x.cpu.pc == CTRUE) ≡ b
-which_end x b stands = ap (λ (p : ℕ). p == CTRUE) stands.pc ∙ at_end b
+which_end : (x : MachineState) (b : Bool) → IsAt x (end_of b) → (x.cpu.pc == CTRUE) ≡ b
+which_end x b is_at = ap (λ (p : ℕ). p == CTRUE) is_at.pc ∙ at_end b
 
-pub is_decided : (x : MachineState) (b : Bool) → Stands x (end_of b) → IsDecided x
-is_decided x b stands = subst (λ (c : Bool). Stands x (end_of c)) (sym (which_end x b stands)) stands
+pub is_decided : (x : MachineState) (b : Bool) → IsAt x (end_of b) → IsDecided x
+is_decided x b is_at = subst (λ (c : Bool). IsAt x (end_of c)) (sym (which_end x b is_at)) is_at
 
 abbrev status_set : (ℕ → ℕ) → List ℕ → List ℕ
 status_set f cells = slice_set cells 0x7C (f (slice_index cells 0x7C))
@@ -57,7 +57,7 @@ pub decides : (most : ℕ) (s : GplState) (next : ℕ) (b : Bool) {x a y : Machi
     Exits a y u v (ending (a.cpu.pc == CTRUE) (view a)) → ReachesWithin (most + 3) x y t v GSTEP (SeesFinished (with_condition b (unchanged (record s { pc = next }))))
 decides most s next b {x = x} {a = a} {y = y} {t = t} {u = u} {v = v} c e =
     let Q : Bool → Type 0 = λ h. Exits a y u v (ending h (view a)) in
-    comes_then most 3 c (subst Q (which_end a b c.stands) e) (ends_with s next b (view a) c.holds) (goes_on b)
+    comes_then most 3 c (subst Q (which_end a b c.is_at) e) (ends_with s next b (view a) c.holds) (goes_on b)
 
 -- ---- the comparisons
 
@@ -157,4 +157,4 @@ runs op e {x = x} {a = a} {y = y} {t = t} {u = u} {v = v} bounds first second s 
     subst (λ r. ReachesWithin 6 x y t v GSTEP (SeesResult r)) (sym (result_is op e s place source)) done
 
 pub comparison_decided : (op : GplOperation) → is_comparison (Some op) ≡ true → {x a : MachineState} {t u : ℕ} → Exits x a t u (comparison op (view x)) → IsDecided a
-comparison_decided op e {x = x} {a = a} first = is_decided a (flag op (view x)) (comes first (compares op e (view x))).stands
+comparison_decided op e {x = x} {a = a} first = is_decided a (flag op (view x)) (comes first (compares op e (view x))).is_at

@@ -19,7 +19,7 @@ of_one op e = first (is_comparison (Some (One op))) false e refl
 
 module _ {x : MachineState} (at : AtDispatch is_compare x) where
   pub comparison : {o : Option GplOperation} → operation_in_view (view x) ≡ o → is_comparison o ≡ true → AtDispatch is_comparison x
-  comparison is e = record { stands = at.stands; dispatched = at.dispatched; family = subst (λ (p : Option GplOperation). is_comparison p ≡ true) (sym is) e }
+  comparison is e = record { is_at = at.is_at; dispatched = at.dispatched; family = subst (λ (p : Option GplOperation). is_comparison p ≡ true) (sym is) e }
 
   family_of : {o : Option GplOperation} → operation_in_view (view x) ≡ o → is_compare o ≡ true
   family_of is = subst (λ (p : Option GplOperation). is_compare p ≡ true) is at.family
@@ -28,4 +28,4 @@ module _ {x : MachineState} (at : AtDispatch is_compare x) where
   row_of_one op is = comparison is (of_one op (family_of is))
 
   pub test : (op : PlainOp) → operation_in_view (view x) ≡ Some (Plain op) → AtDispatch is_test x
-  test op is = record { stands = at.stands; dispatched = at.dispatched; family = subst (λ (p : Option GplOperation). is_test p ≡ true) (sym is) (family_of is) }
+  test op is = record { is_at = at.is_at; dispatched = at.dispatched; family = subst (λ (p : Option GplOperation). is_test p ≡ true) (sym is) (family_of is) }

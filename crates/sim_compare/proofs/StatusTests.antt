@@ -106,10 +106,10 @@ module _ {x a : MachineState} {t u : ℕ} (name : PlainOp) (is : operation_in_vi
   flag = is_set (status_of s) (tested o)
 
   at_flag : ReachesWithin 4 x a t u (end_of flag) (ShowsState s (after_code s))
-  at_flag = comes first (tests o e s (after_code s) (view x) at.dispatched.sees (is_view x at.stands.machine))
+  at_flag = comes first (tests o e s (after_code s) (view x) at.dispatched.sees (is_view x at.is_at.machine))
 
   pub test_decided : IsDecided a
-  test_decided = is_decided a flag at_flag.stands
+  test_decided = is_decided a flag at_flag.is_at
 
   pub test_turns : {y : MachineState} {v : ℕ} → Exits a y u v (ending (a.cpu.pc == CTRUE) (view a)) → Turned s x y (from_dispatch t v) Stepped
   test_turns {y = y} {v = v} second =
@@ -118,7 +118,7 @@ module _ {x a : MachineState} {t u : ℕ} (name : PlainOp) (is : operation_in_vi
       let b = bound_is s o e is in
       turned_by x y t v most_to_dispatch Stepped s (Ok next) (step_is s o e is) (
         refl,
-        reaches most_to_dispatch (bound s) c (ap is_turn_end at.stands.pc ∙ ap (λ (p : Option GplOperation). is_turn_end (operation_entry p)) is ∙ starts o e) refl
+        reaches most_to_dispatch (bound s) c (ap is_turn_end at.is_at.pc ∙ ap (λ (p : Option GplOperation). is_turn_end (operation_entry p)) is ∙ starts o e) refl
             (omega arith),
-        matches next y c.stands c.holds,
+        matches next y c.is_at c.holds,
       )

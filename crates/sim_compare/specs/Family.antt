@@ -2,7 +2,7 @@
 use Rattle.std.specs.Prelude.{◌==◌, ◌||◌, Bool, false, Option, Some, true}
 use Rattle.sim_rows.specs.Prelude.{CARRY, CEQ, CGE, CGT, CH, CHE, CLOG, CTRUE, CZ, Exit, exit}
 use Rattle.sim_rows.specs.Prelude.{GplOperation, GT, H, MachineState, One, OVF}
-use Rattle.sim_rows.specs.Prelude.{Plain, Stands, Two, View}
+use Rattle.sim_rows.specs.Prelude.{Plain, IsAt, Two, View}
 use Rattle.sim_compare.specs.Pieces as piece
 
 -- the comparisons of operands
@@ -49,7 +49,7 @@ test operation v = exit 0 0 v
 
 -- The machine is at one of the two ends of a comparison.
 abbrev pub IsDecided : MachineState → Type 0
-IsDecided x = Stands x (piece.end_of (x.cpu.pc == CTRUE))
+IsDecided x = IsAt x (piece.end_of (x.cpu.pc == CTRUE))
 
 -- the piece at such an end
 abbrev pub ending : Bool → View → Exit

@@ -2,7 +2,7 @@
 
 ghost use Rattle.std.specs.Prelude.{◌≡◌, Some, true};
 ghost use Rattle.sim_rows.specs.Prelude.{AtDispatch, AtEntry, Exits, operation_entry};
-ghost use Rattle.sim_rows.specs.Prelude.{operation_in_view, Plain, row_entry, RunsRow, Stands, state_at_dispatch};
+ghost use Rattle.sim_rows.specs.Prelude.{operation_in_view, Plain, row_entry, RunsRow, IsAt, state_at_dispatch};
 ghost use Rattle.sim_rows.specs.Prelude.{from_dispatch, Turned, view};
 ghost use Rattle.sim_compare.specs.Family.{comparison, is_compare, is_comparison, is_test, test};
 
@@ -19,7 +19,7 @@ use std::sync::ledger::Ledger;
 
 /// Runs the piece of a comparison.
 fn compare_operands<L: Ledger>(machine: &mut Machine, steps: &mut Steps<L>, operation: GplOperation)
-    requires stands { Stands machine.old (row_entry (Some operation)) }
+    requires is_at { IsAt machine.old (row_entry (Some operation)) }
     requires comparison { is_comparison (Some operation) ≡ true }
     ensures { Exits machine.old machine.new steps.old steps.new (comparison operation (view machine.old)) }
 {
@@ -46,7 +46,7 @@ fn run_comparison<L: Ledger>(machine: &mut Machine, steps: &mut Steps<L>, operat
 
 /// Runs the piece of a test.
 fn test_status<L: Ledger>(machine: &mut Machine, steps: &mut Steps<L>, name: PlainOp)
-    requires stands { Stands machine.old (operation_entry (Some (Plain name))) }
+    requires is_at { IsAt machine.old (operation_entry (Some (Plain name))) }
     requires test { is_test (Some (Plain name)) ≡ true }
     ensures { Exits machine.old machine.new steps.old steps.new (test (Some (Plain name)) (view machine.old)) }
 {

@@ -3,7 +3,7 @@ use Rattle.std.proofs.Common.{ℕ, ◌%◌, ◌<◌, ◌∙◌, ◌≡◌, ◌�
 use Rattle.sim_rows.proofs.Common.{after_code, bound, bound_made, BRANCH, Branch, branched, BTARG, Byte, CFALSE, Changes, code_byte, ReachesWithin, comes, comes_on}
 use Rattle.sim_rows.proofs.Common.{comes_then, condition, Dispatched, exclusive_or_of, Exits, finished, Goes, goes_in, GplState, GromState, GSTEP, high}
 use Rattle.sim_rows.proofs.Common.{in_grom_of, is_turn_end, is_set, is_taken, is_view, IsView, join, last_out, MachineState, matches, most_to_dispatch, next_in_grom}
-use Rattle.sim_rows.proofs.Common.{from_dispatch, ones_cleared, operation_in, past, reaches, SeesFinished, ShowsState, SRL, Stands, step_branch, Stepped, TAKE, Turned, turned_by}
+use Rattle.sim_rows.proofs.Common.{from_dispatch, ones_cleared, operation_in, past, reaches, SeesFinished, ShowsState, SRL, IsAt, step_branch, Stepped, TAKE, Turned, turned_by}
 use Rattle.sim_rows.proofs.Common.{unchanged, View, view, with_condition}
 use Rattle.sim_jumps.specs.Jumps.{TakesBranch}
 use Rattle.sim_compare.specs.Pieces as compare
@@ -91,12 +91,12 @@ passes : (s : GplState) (w : View) → ShowsState s (next_after s) w → Goes (c
 passes s w h = goes_in (omega arith) (record { cells = ap status_cleared h.cells; vdp = h.vdp; registers = h.registers; held = h.held; grom = h.grom })
 
 module _ {s : GplState} {x a : MachineState} {t t1 : ℕ} (on : Bool) (is : operation_in s ≡ Some (Branch on))
-    (stands : Stands x BRANCH) (d : Dispatched s (view x)) (e1 : Exits x a t t1 (pieces.test_branch (view x))) where
+    (is_at : IsAt x BRANCH) (d : Dispatched s (view x)) (e1 : Exits x a t t1 (pieces.test_branch (view x))) where
   abbrev taken : Bool
   taken = is_taken on (condition s)
 
   code_fits : code_byte s < 256
-  code_fits = subst (λ (l : List ℕ). slice_index l s.pc < 256) (ap (λ (g : GromState). g.image) d.sees.grom) ((is_view x stands.machine).grom.image.fits s.pc)
+  code_fits = subst (λ (l : List ℕ). slice_index l s.pc < 256) (ap (λ (g : GromState). g.image) d.sees.grom) ((is_view x is_at.machine).grom.image.fits s.pc)
 
   tested : ReachesWithin 5 x a t t1 (end_of taken) (left_by s taken)
   tested =
@@ -111,31 +111,31 @@ module _ {s : GplState} {x a : MachineState} {t t1 : ℕ} (on : Bool) (is : oper
       let step_is = step_branch s on is ∙ ap (λ (c : Changes). Ok (finished c)) same in
       let m = bound_made s (finished (changed_by s c)) (Some (Branch on)) is step_is in
       turned_by x y t t2 most_to_dispatch Stepped s (Ok (finished (changed_by s c))) step_is
-      (refl, reaches most_to_dispatch (bound s) run (ap is_turn_end stands.pc) refl (omega arith), matches (finished (changed_by s c)) y run.stands run.holds)
+      (refl, reaches most_to_dispatch (bound s) run (ap is_turn_end is_at.pc) refl (omega arith), matches (finished (changed_by s c)) y run.is_at run.holds)
 
   -- what holds where it ended
   left_at : (c : Bool) → taken ≡ c → ReachesWithin 5 x a t t1 (end_of c) (left_by s c)
   left_at c e = subst (λ (c : Bool). ReachesWithin 5 x a t t1 (end_of c) (left_by s c)) e tested
 
   pub at_target : a.cpu.pc ≡ BTARG → ReachesWithin 5 x a t t1 BTARG (Dispatched s)
-  at_target here = left_at true (taken_at taken a.cpu.pc tested.stands.pc here)
+  at_target here = left_at true (taken_at taken a.cpu.pc tested.is_at.pc here)
 
   pub passed_by : (a.cpu.pc ≡ BTARG → ⊥) → ReachesWithin 5 x a t t1 CFALSE (ShowsState s (next_after s))
-  passed_by elsewhere = left_at false (passed_at taken a.cpu.pc tested.stands.pc elsewhere)
+  passed_by elsewhere = left_at false (passed_at taken a.cpu.pc tested.is_at.pc elsewhere)
 
   pub takes : {b y : MachineState} {t2 t3 : ℕ} → a.cpu.pc ≡ BTARG → Exits a b t1 t2 (pieces.read_branch_target (view a)) → TakesBranch b y t2 t3 →
       Turned s x y (from_dispatch t t3) Stepped
   takes {b = b} here e2 goes =
       let c1 = at_target here in
-      let c2 = comes_then 5 8 c1 e2 (targets s (view a) c1.holds (is_view a c1.stands.machine)) refl in
+      let c2 = comes_then 5 8 c1 e2 (targets s (view a) c1.holds (is_view a c1.is_at.machine)) refl in
       let h = c2.holds.sees in
       let seen : ShowsState (record s { pc = target s }) (next_after s) (view b) =
       record { cells = h.cells; vdp = h.vdp; registers = h.registers; held = h.held; grom = h.grom } in
-      let is_true = taken_at taken a.cpu.pc tested.stands.pc here in
+      let is_true = taken_at taken a.cpu.pc tested.is_at.pc here in
       turns true is_true (comes_on 13 5 c2 (goes (record s { pc = target s }) (next_after s) seen c2.holds.to) refl) (omega arith)
 
   pub passes_on : {y : MachineState} {t2 : ℕ} → (a.cpu.pc ≡ BTARG → ⊥) → Exits a y t1 t2 (compare.clear_condition (view a))
       → Turned s x y (from_dispatch t t2) Stepped
   passes_on elsewhere e2 =
       let c1 = passed_by elsewhere in
-      turns false (passed_at taken a.cpu.pc tested.stands.pc elsewhere) (comes_then 5 3 c1 e2 (passes s (view a) c1.holds) refl) (omega arith)
+      turns false (passed_at taken a.cpu.pc tested.is_at.pc elsewhere) (comes_then 5 3 c1 e2 (passes s (view a) c1.holds) refl) (omega arith)

@@ -3,7 +3,7 @@ use Rattle.std.proofs.Common.{ℕ, ◌*◌, ◌<◌, ◌==◌, ◌∙◌, ◌≡
 use Rattle.sim_rows.proofs.Common.{AtRow, bytes_by, CASE, CASEN, CASET, CASEV, ReachesWithin, comes, comes_on, comes_then, destination_bytes, Exit, exit, Exits, from}
 use Rattle.sim_rows.proofs.Common.{Goes, GplOperation, GplState, grom_at, GromState, GSTEP, in_register, is_view, IsView, just, known, loaded_of, located_at}
 use Rattle.sim_rows.proofs.Common.{lost, MachineState, most_of_case_row, next_of, One, operation_in, Place, plus, reads_destination, return_of, row_result}
-use Rattle.sim_rows.proofs.Common.{row_width, RunsRow, SEEK, ShowsState, SeesResult, set_is, size_of, Source, Stands, sum_of, TAKE, value_at, View, view, WHERE}
+use Rattle.sim_rows.proofs.Common.{row_width, RunsRow, SEEK, ShowsState, SeesResult, set_is, size_of, Source, IsAt, sum_of, TAKE, value_at, View, view, WHERE}
 use Rattle.sim_rows.proofs.Common.{where_found, Width, width_again, width_in, Word}
 use Rattle.sim_jumps.specs.Jumps.{TakesBranch}
 use Rattle.sim_rows.specs.sim_operands.Pieces as operands
@@ -13,11 +13,11 @@ use Rattle.sim_flow.specs.Pieces as pieces
 
 -- ---- where the two routines return to
 
-pub at_target : {x a b : MachineState} {t t1 t2 : ℕ} → Exits x a t t1 (pieces.ask_table (view x)) → Exits a b t1 t2 (rows.where_next (view a)) → Stands b CASEN
-at_target {b = b} e1 e2 = subst (λ (p : ℕ). Stands b p) (ap return_of e1.shows) e2.stands
+pub at_target : {x a b : MachineState} {t t1 t2 : ℕ} → Exits x a t t1 (pieces.ask_table (view x)) → Exits a b t1 t2 (rows.where_next (view a)) → IsAt b CASEN
+at_target {b = b} e1 e2 = subst (λ (p : ℕ). IsAt b p) (ap return_of e1.shows) e2.is_at
 
-pub at_end : {b c d : MachineState} {t2 t3 t4 : ℕ} → Exits b c t2 t3 (pieces.find_branch (view b)) → Exits c d t3 t4 (operands.seek (view c)) → Stands d CASET
-at_end {d = d} e3 e4 = subst (λ (p : ℕ). Stands d p) (ap return_of e3.shows) e4.stands
+pub at_end : {b c d : MachineState} {t2 t3 t4 : ℕ} → Exits b c t2 t3 (pieces.find_branch (view b)) → Exits c d t3 t4 (operands.seek (view c)) → IsAt d CASET
+at_end {d = d} e3 e4 = subst (λ (p : ℕ). IsAt d p) (ap return_of e3.shows) e4.is_at
 
 -- ---- the number
 
@@ -96,8 +96,8 @@ module _ (s : GplState) (place : Place) (source : Source) (v : View) (e : operat
       let c5 = comes_then 18 2 c4 e5 (from pieces.go_to_branch c4.holds ends) refl in
       comes_on 20 5 c5 (goes taken (next_of s) c5.holds.sees c5.holds.to) refl
 
-pub runs : {x a b c d f y : MachineState} {t t1 t2 t3 t4 t5 t6 : ℕ} → Stands x CASEV → Exits x a t t1 (pieces.ask_table (view x)) →
+pub runs : {x a b c d f y : MachineState} {t t1 t2 t3 t4 t5 t6 : ℕ} → IsAt x CASEV → Exits x a t t1 (pieces.ask_table (view x)) →
     Exits a b t1 t2 (rows.where_next (view a)) → Exits b c t2 t3 (pieces.find_branch (view b)) → Exits c d t3 t4 (operands.seek (view c)) →
     Exits d f t4 t5 (pieces.go_to_branch (view d)) → TakesBranch f y t5 t6 → RunsRow (One CASE) most_of_case_row x y t t6
-runs {x = x} stands e1 e2 e3 e4 e5 goes s place source e row is =
-    selects s place source (view x) e row (is_view x stands.machine) refl e1 e2 e3 e4 e5 goes
+runs {x = x} is_at e1 e2 e3 e4 e5 goes s place source e row is =
+    selects s place source (view x) e row (is_view x is_at.machine) refl e1 e2 e3 e4 e5 goes

@@ -1,7 +1,7 @@
 -- CASE is a row, and the only one of this family.
 use Rattle.std.proofs.Common.{◌≡◌, ◌∙◌, ap, Option, refl, Some, subst, sym, true}
 use Rattle.sim_rows.proofs.Common.{AtDispatch, B, CASE, EXIT, GoOp, GplOperation, is_row, Jump, MachineState, One, OneName, operation_entry, operation_in_view}
-use Rattle.sim_rows.proofs.Common.{Plain, PlainOp, Stands, view}
+use Rattle.sim_rows.proofs.Common.{Plain, PlainOp, IsAt, view}
 use Rattle.sim_flow.specs.Family.{is_case, is_flow}
 
 pub rows : (o : Option GplOperation) → is_case o ≡ true → is_row o ≡ true
@@ -30,8 +30,8 @@ module _ {x : MachineState} (at : AtDispatch is_flow x) where
   here : {o : Option GplOperation} → operation_in_view (view x) ≡ o → is_flow o ≡ true
   here is = subst (λ (p : Option GplOperation). is_flow p ≡ true) is at.family
 
-  pub stands_at : {o : Option GplOperation} → operation_in_view (view x) ≡ o → Stands x (operation_entry o)
-  stands_at is = subst (λ (p : Option GplOperation). Stands x (operation_entry p)) is at.stands
+  pub is_at_address : {o : Option GplOperation} → operation_in_view (view x) ≡ o → IsAt x (operation_entry o)
+  is_at_address is = subst (λ (p : Option GplOperation). IsAt x (operation_entry p)) is at.is_at
 
   pub is_exit : {op : PlainOp} → operation_in_view (view x) ≡ Some (Plain op) → operation_in_view (view x) ≡ Some (Plain EXIT)
   is_exit {op = op} is = is ∙ ap (λ (p : PlainOp). Some (Plain p)) (exit_alone op (here is))
@@ -41,7 +41,7 @@ module _ {x : MachineState} (at : AtDispatch is_flow x) where
 
   pub case_here : {op : OneName} → operation_in_view (view x) ≡ Some (One op) → AtDispatch is_case x
   case_here {op = op} is = record {
-    stands = at.stands;
+    is_at = at.is_at;
     dispatched = at.dispatched;
     family = subst (λ (p : Option GplOperation). is_case p ≡ true) (sym is) (of_one op (here is));
   }

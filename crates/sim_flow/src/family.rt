@@ -2,7 +2,7 @@
 
 ghost use Rattle.std.specs.Prelude.{◌≡◌, Some};
 ghost use Rattle.sim_rows.specs.Prelude.{AtDispatch, B, Branch, CASE, Dispatched, Jump, One};
-ghost use Rattle.sim_rows.specs.Prelude.{from_dispatch, operation_in_view, RunsRow, Stands, state_at_dispatch};
+ghost use Rattle.sim_rows.specs.Prelude.{from_dispatch, operation_in_view, RunsRow, IsAt, state_at_dispatch};
 ghost use Rattle.sim_rows.specs.Prelude.{Stepped, Turned, view};
 ghost use Rattle.sim_flow.specs.Family.{is_case, is_flow};
 ghost use Rattle.sim_rows.specs.native_interp.declared.addresses.TheConstants as address;
@@ -22,7 +22,7 @@ use std::sync::ledger::Ledger;
 
 /// Runs B from its dispatch to the end of the step.
 fn run_jump<L: Ledger>(machine: &mut Machine, steps: &mut Steps<L>)
-    requires stands { Stands machine.old address.GOB }
+    requires is_at { IsAt machine.old address.GOB }
     requires dispatched { let v = view machine.old in Dispatched (state_at_dispatch v) v }
     requires is { operation_in_view (view machine.old) ≡ Some (Jump B) }
     ensures { let s = state_at_dispatch (view machine.old) in
@@ -34,7 +34,7 @@ fn run_jump<L: Ledger>(machine: &mut Machine, steps: &mut Steps<L>)
 
 /// Runs BR and BS from their dispatch to the end of the step.
 fn run_branch<L: Ledger>(machine: &mut Machine, steps: &mut Steps<L>, _on: bool)
-    requires stands { Stands machine.old address.BRANCH }
+    requires is_at { IsAt machine.old address.BRANCH }
     requires dispatched { let v = view machine.old in Dispatched (state_at_dispatch v) v }
     requires is { operation_in_view (view machine.old) ≡ Some (Branch _on) }
     ensures { let s = state_at_dispatch (view machine.old) in
@@ -51,7 +51,7 @@ fn run_branch<L: Ledger>(machine: &mut Machine, steps: &mut Steps<L>, _on: bool)
 
 /// Runs CASE from its row to the end of the step.
 fn run_case<L: Ledger>(machine: &mut Machine, steps: &mut Steps<L>)
-    requires { Stands machine.old address.CASEV }
+    requires { IsAt machine.old address.CASEV }
     ensures { RunsRow (One CASE) most_of_case_row machine.old machine.new steps.old steps.new }
 {
     ask_table(machine, steps);

@@ -4,7 +4,7 @@ use Rattle.sim_rows.proofs.Common.{Byte, Changes, comes, comes_on, Exits, Goes, 
 use Rattle.sim_rows.proofs.Common.{GromState}
 use Rattle.sim_rows.proofs.Common.{GSTEP, is_view, MachineState, ones_cleared, SeesFinished, set_is, ShowsChanges}
 use Rattle.sim_rows.proofs.Common.{ShowsState}
-use Rattle.sim_rows.proofs.Common.{Stands, unchanged, View, view, with_condition, with_grom_address, with_pc}
+use Rattle.sim_rows.proofs.Common.{IsAt, unchanged, View, view, with_condition, with_grom_address, with_pc}
 use Rattle.sim_rows.proofs.sim_view.Routines.{Ends, first}
 use Rattle.sim_rows.proofs.Routines.{row_ends}
 use Rattle.sim_rows.specs.Routines.{end_row}
@@ -19,8 +19,8 @@ set_from g image next word at e to fits =
 
 -- ---- GOTO
 
-pub goes : {x y : MachineState} {t u : ℕ} → Stands x GOTO → Exits x y t u (pieces.go_to (view x)) → GoesOn x y t u
-goes {x = x} stands e s next h to =
+pub goes : {x y : MachineState} {t u : ℕ} → IsAt x GOTO → Exits x y t u (pieces.go_to (view x)) → GoesOn x y t u
+goes {x = x} is_at e s next h to =
     let v : View = view x in
     comes e (record {
       within = omega arith;
@@ -30,7 +30,7 @@ goes {x = x} stands e s next h to =
         vdp = h.vdp;
         registers = h.registers;
         held = h.held;
-        grom = set_from v.grom s.image next v.r.r6 s.pc h.grom to ((is_view x stands.machine).r 6);
+        grom = set_from v.grom s.image next v.r.r6 s.pc h.grom to ((is_view x is_at.machine).r 6);
       };
     })
 

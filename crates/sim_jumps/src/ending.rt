@@ -1,6 +1,6 @@
 //! Jumps, from where their address is known to the end of the step.
 
-ghost use Rattle.sim_rows.specs.Prelude.{Exits, PortsAreIdle, Stands, view};
+ghost use Rattle.sim_rows.specs.Prelude.{Exits, PortsAreIdle, IsAt, view};
 ghost use Rattle.sim_jumps.specs.Jumps.{GoesOn, ResumesRow, TakesBranch};
 ghost use Rattle.sim_rows.specs.native_interp.declared.addresses.TheConstants as address;
 ghost use Rattle.sim_jumps.specs.Routines as routine;
@@ -12,7 +12,7 @@ use std::sync::ledger::Ledger;
 
 /// Ends a step that goes on at the address in register 6.
 pub fn jump<L: Ledger>(machine: &mut Machine, steps: &mut Steps<L>)
-    requires { Stands machine.old address.GOTO }
+    requires { IsAt machine.old address.GOTO }
     ensures { GoesOn machine.old machine.new steps.old steps.new }
 {
     go_to(machine, steps);
@@ -20,7 +20,7 @@ pub fn jump<L: Ledger>(machine: &mut Machine, steps: &mut Steps<L>)
 
 /// Clears the condition, and ends a step that goes on at the address in register 6.
 pub fn take_jump<L: Ledger>(machine: &mut Machine, steps: &mut Steps<L>)
-    requires { Stands machine.old address.TAKE }
+    requires { IsAt machine.old address.TAKE }
     ensures { TakesBranch machine.old machine.new steps.old steps.new }
 {
     take_branch(machine, steps);
@@ -29,7 +29,7 @@ pub fn take_jump<L: Ledger>(machine: &mut Machine, steps: &mut Steps<L>)
 
 /// RESUME, whole: GROM goes on at the address in register 14, and the row ends.
 pub fn resume_row_routine<L: Ledger>(machine: &mut Machine, steps: &mut Steps<L>)
-    requires { Stands machine.old address.RESUME }
+    requires { IsAt machine.old address.RESUME }
     ensures { Exits machine.old machine.new steps.old steps.new (routine.resume_row (view machine.old)) }
 {
     resume(machine, steps);
@@ -39,7 +39,7 @@ pub fn resume_row_routine<L: Ledger>(machine: &mut Machine, steps: &mut Steps<L>
 /// Ends a row whose results are stored, and which goes on at the address in register 14: the character goes to the
 /// screen if a byte was stored at its cell.
 pub fn resume_row<L: Ledger>(machine: &mut Machine, steps: &mut Steps<L>)
-    requires stands { Stands machine.old address.RESUME }
+    requires is_at { IsAt machine.old address.RESUME }
     requires idle { PortsAreIdle machine.old.cpu.memory }
     ensures { ResumesRow machine.old machine.new steps.old steps.new }
 {

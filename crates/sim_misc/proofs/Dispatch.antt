@@ -3,7 +3,7 @@ use Rattle.std.proofs.Common.{ℕ, ◌<◌, ◌∙◌, ◌≡◌, ap, arith, Opt
 use Rattle.sim_rows.specs.Prelude.{AtEntry, HasStarted}
 use Rattle.sim_rows.proofs.Common.{AtDispatch, Byte, EX, GplOperation, GplState, is_row, IsVisible, LoadsFrom, LoadsFromSource, MachineState}
 use Rattle.sim_rows.proofs.Common.{most_of_exchange_row, operation_entry, operation_in_view, Place, row_width, RunsRow, size_of, space_small}
-use Rattle.sim_rows.proofs.Common.{from_dispatch, Stands, state_at_dispatch, Stepped, Turned, Two, TwoName, view, visible_of, Width, Word}
+use Rattle.sim_rows.proofs.Common.{from_dispatch, IsAt, state_at_dispatch, Stepped, Turned, Two, TwoName, view, visible_of, Width, Word}
 use Rattle.sim_rows.proofs.WholeRows.{source_visible}
 use Rattle.sim_misc.specs.Family.{is_exchange, is_misc}
 use Rattle.sim_misc.proofs.Exchanges.{source_place}
@@ -23,15 +23,15 @@ of_two _ e = absurd (cc)
 
 pub exchange_here : {x : MachineState} → AtDispatch is_misc x → {op : TwoName} → operation_in_view (view x) ≡ Some (Two op) → AtDispatch is_exchange x
 exchange_here {x = x} at {op = op} is = record {
-  stands = at.stands;
+  is_at = at.is_at;
   dispatched = at.dispatched;
   family = subst (λ (p : Option GplOperation). is_exchange p ≡ true) (sym is) (of_two op (subst (λ (p : Option GplOperation). is_misc p ≡ true) is at.family));
 }
 
 -- at the entry of an operation that is known
-pub entered : (x : MachineState) (o : Option GplOperation) → operation_in_view (view x) ≡ o → Stands x (operation_entry (operation_in_view (view x))) →
-    Stands x (operation_entry o)
-entered x o is stands = subst (λ (o : Option GplOperation). Stands x (operation_entry o)) is stands
+pub entered : (x : MachineState) (o : Option GplOperation) → operation_in_view (view x) ≡ o → IsAt x (operation_entry (operation_in_view (view x))) →
+    IsAt x (operation_entry o)
+entered x o is is_at = subst (λ (o : Option GplOperation). IsAt x (operation_entry o)) is is_at
 
 some_bytes : (w : Width) → 0 < size_of w
 some_bytes Byte = omega arith

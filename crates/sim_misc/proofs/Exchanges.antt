@@ -7,7 +7,7 @@ use Rattle.sim_rows.proofs.Common.{comes_on, comes_then, destination_bytes, EX, 
 use Rattle.sim_rows.proofs.Common.{idle_again, in_register, is_immediate, is_view, IsMachine, IsVisible, LoadsFrom, LoadsFromSource, MachineState}
 use Rattle.sim_rows.proofs.Common.{most_of_store, of_register, operand_at, operands_of, operation_at, operation_in, Place, place_of, PortsAreIdle}
 use Rattle.sim_rows.proofs.Common.{reads_destination, Reason, return_of, row_changed, row_result, row_width, second_by, SeesFinished, SeesResult, size_of}
-use Rattle.sim_rows.proofs.Common.{Source, source_at, source_of, Stands, STO, STORE, store_then, stored_idle, StoresResult, StoresValue, Storing, Two}
+use Rattle.sim_rows.proofs.Common.{Source, source_at, source_of, IsAt, STO, STORE, store_then, stored_idle, StoresResult, StoresValue, Storing, Two}
 use Rattle.sim_rows.proofs.Common.{two_above, unchanged, value_at, View, view, Width, width_again, width_in, with_value, Word, word_of}
 use Rattle.sim_misc.specs.Pieces as pieces
 
@@ -18,8 +18,8 @@ is_exchange (Some (Two EX)) = true
 is_exchange _ = false
 
 -- EX has no code byte of an immediate source.
-abbrev stands_in_memory : ℕ → Bool
-stands_in_memory code = if is_exchange (operation_at code) then not (code / 2 % 2 == 1) else true
+abbrev in_memory : ℕ → Bool
+in_memory code = if is_exchange (operation_at code) then not (code / 2 % 2 == 1) else true
 
 if_true : (b c : Bool) → b ≡ true → (if b then c else true) ≡ true → c ≡ true
 if_true true c e f = f
@@ -32,7 +32,7 @@ not_true false e = refl
 no_immediate : (s : GplState) → code_byte s < 256 → operation_in s ≡ Some (Two EX) → is_immediate s ≡ false
 no_immediate s h e =
     not_true (is_immediate s) (if_true (is_exchange (operation_at (code_byte s))) (not (is_immediate s)) (ap is_exchange e)
-    (agree_below_at stands_in_memory (λ _. true) 256 (code_byte s) refl h))
+    (agree_below_at in_memory (λ _. true) 256 (code_byte s) refl h))
 
 source_in : Source → Result Source Reason → Source
 source_in other (Ok source) = source
@@ -83,9 +83,9 @@ module _ {x y : MachineState} {t u : ℕ} (e1 : Exits x y t u (pieces.keep_desti
   pub near : (view x).r.r8 < 2 → (view y).r.r8 < 2
   near h = let e = ap (λ (a : View). a.r.r8) e1.shows in omega arith
 
-pub stands_stored : (x y z : MachineState) (t u v : ℕ) → Exits x y t u (pieces.keep_destination (view x)) → (view x).r.r8 < 2 →
-    ((view y).r.r8 < 2 → StoresValue y z u v) → Stands z EXB
-stands_stored x y z t u v e1 space stored = subst (λ (n : ℕ). Stands z n) (ap return_of e1.shows) (stored (near e1 space)).stands
+pub at_stored : (x y z : MachineState) (t u v : ℕ) → Exits x y t u (pieces.keep_destination (view x)) → (view x).r.r8 < 2 →
+    ((view y).r.r8 < 2 → StoresValue y z u v) → IsAt z EXB
+at_stored x y z t u v e1 space stored = subst (λ (n : ℕ). IsAt z n) (ap return_of e1.shows) (stored (near e1 space)).is_at
 
 module _ {x y z p : MachineState} {t u v w : ℕ} (e1 : Exits x y t u (pieces.keep_destination (view x))) (space : (view x).r.r8 < 2) (may : (view y).r.r8 < 2 →
     StoresValue y z u v) (e2 : Exits z p v w (pieces.turn_to_source (view z))) where

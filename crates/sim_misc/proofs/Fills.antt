@@ -4,7 +4,7 @@ use Rattle.std.proofs.Common.{replicate, slice_index, slice_set, Some, subst, su
 use Rattle.std.proofs.lemmas.Bool.{eqb-false, eqb-true, ne_eqb}
 use Rattle.sim_rows.proofs.Common.{ALL, after_code, bound, bound_made, ReachesWithin, comes, comes_as, comes_then, difference_of, Dispatched, Exits, FILL, finished}
 use Rattle.sim_rows.proofs.Common.{GOALL, Goes, GplState, grom_at, GromState, GSTEP, high, high-join, is_turn_end, is_view, MachineState, matches, most_to_dispatch}
-use Rattle.sim_rows.proofs.Common.{from_dispatch, next_in_grom, operation_in, past, pick, reaches, ShowsState, Stands, step_byte, Stepped, Turned, turned_by, with_video_address}
+use Rattle.sim_rows.proofs.Common.{from_dispatch, next_in_grom, operation_in, past, pick, reaches, ShowsState, IsAt, step_byte, Stepped, Turned, turned_by, with_video_address}
 use Rattle.sim_rows.proofs.Common.{unchanged, vdp_data_written, VdpState, View, view, with_immediate, Word}
 use Rattle.sim_rows.specs.gpl_defs.declared.instruction.GplOperation.TheVariants.{Byte}
 use Rattle.sim_misc.specs.Pieces as pieces
@@ -116,17 +116,17 @@ Filling s made x z t u = ReachesWithin (6 + 4 * made) x z t u (place made) (Fill
 pub none_yet : {s : GplState} {x z : MachineState} {t u : ℕ} → Dispatched s (view x) → Exits x z t u (pieces.begin_fill (view x)) → Filling s 0 x z t u
 none_yet {s = s} {x = x} d begun = comes begun (begin_goes s (view x) d)
 
-pub stands_at : {s : GplState} (made : ℕ) {x z : MachineState} {t u : ℕ} → Filling s made x z t u → made < 768 → Stands z FILL
-stands_at made {z = z} h some = subst (λ (p : ℕ). Stands z p) (more_left made (λ all. omega arith)) h.stands
+pub is_at_address : {s : GplState} (made : ℕ) {x z : MachineState} {t u : ℕ} → Filling s made x z t u → made < 768 → IsAt z FILL
+is_at_address made {z = z} h some = subst (λ (p : ℕ). IsAt z p) (more_left made (λ all. omega arith)) h.is_at
 
-size_of_video : (s : GplState) (x : MachineState) → Stands x GOALL → Dispatched s (view x) → length s.vdp ≡ 16384
-size_of_video s x stands d = sym (ap length d.sees.vdp) ∙ (is_view x stands.machine).vdp.memory.size
+size_of_video : (s : GplState) (x : MachineState) → IsAt x GOALL → Dispatched s (view x) → length s.vdp ≡ 16384
+size_of_video s x is_at d = sym (ap length d.sees.vdp) ∙ (is_view x is_at.machine).vdp.memory.size
 
-pub one_byte : {s : GplState} (made : ℕ) {x z w : MachineState} {t u v : ℕ} → Stands x GOALL → Dispatched s (view x) → Filling s made x z t u → made < 768 →
+pub one_byte : {s : GplState} (made : ℕ) {x z w : MachineState} {t u v : ℕ} → IsAt x GOALL → Dispatched s (view x) → Filling s made x z t u → made < 768 →
     Exits z w u v (pieces.fill_byte (view z)) → Filling s (made + 1) x w t v
-one_byte {s = s} made {x = x} {z = z} {w = w} {t = t} {v = v} stands d h some stored =
+one_byte {s = s} made {x = x} {z = z} {w = w} {t = t} {v = v} is_at d h some stored =
     let n : suc made ≡ made + 1 = omega arith in
-    let c = comes_then (6 + 4 * made) 4 h stored (fill_goes s made (view z) h.holds some (size_of_video s x stands d))
+    let c = comes_then (6 + 4 * made) 4 h stored (fill_goes s made (view z) h.holds some (size_of_video s x is_at d))
     (ap is_turn_end (more_left made (λ all. omega arith))) in
     subst (λ (made : ℕ). Filling s made x w t v) n (comes_as (6 + 4 * suc made) (Filled s (suc made)) c (omega arith) (λ w f. f))
 
@@ -144,13 +144,13 @@ all_seen s made w all h = record {
   grom = h.grom;
 }
 
-pub fills : {s : GplState} {x z : MachineState} {t u : ℕ} → Stands x GOALL → Dispatched s (view x) → operation_in s ≡ Some (Byte ALL) →
+pub fills : {s : GplState} {x z : MachineState} {t u : ℕ} → IsAt x GOALL → Dispatched s (view x) → operation_in s ≡ Some (Byte ALL) →
     (made : ℕ) → made ≡ 768 → Filling s made x z t u → Turned s x z (from_dispatch t u) Stepped
-fills {s = s} {x = x} {z = z} {t = t} {u = u} stands d is made all h =
-    let there : Stands z GSTEP = subst (λ (p : ℕ). Stands z p) (ap place all) h.stands in
+fills {s = s} {x = x} {z = z} {t = t} {u = u} is_at d is made all h =
+    let there : IsAt z GSTEP = subst (λ (p : ℕ). IsAt z p) (ap place all) h.is_at in
     let c = h in
     let seen = all_seen s made (view z) all c.holds in
     let step_is = step_byte s ALL is in
     let b = bound_made s (next s) (Some (Byte ALL)) is step_is in
     turned_by x z t u most_to_dispatch Stepped s (Ok (next s)) step_is
-    (refl, reaches most_to_dispatch (bound s) h (ap is_turn_end stands.pc) (ap is_turn_end (ap place all)) (omega arith), matches (next s) z there seen)
+    (refl, reaches most_to_dispatch (bound s) h (ap is_turn_end is_at.pc) (ap is_turn_end (ap place all)) (omega arith), matches (next s) z there seen)

@@ -1,7 +1,7 @@
 //! RAND, from its dispatch to the end of the step.
 
 ghost use Rattle.std.specs.Prelude.{◌≡◌, Some};
-ghost use Rattle.sim_rows.specs.Prelude.{Dispatched, operation_entry, operation_in_view, RAND, Stands};
+ghost use Rattle.sim_rows.specs.Prelude.{Dispatched, operation_entry, operation_in_view, RAND, IsAt};
 ghost use Rattle.sim_rows.specs.Prelude.{from_dispatch, state_at_dispatch, Turned, view};
 ghost use Rattle.sim_rows.specs.gpl_defs.declared.instruction.GplOperation.TheVariants.{Byte};
 
@@ -12,7 +12,7 @@ use std::sync::ledger::Ledger;
 
 /// Runs RAND from its dispatch to the end of the step: the next seed is made, and a number of it.
 pub(crate) fn run_random<L: Ledger>(machine: &mut Machine, steps: &mut Steps<L>) -> Turn
-    requires stands { Stands machine.old (operation_entry (operation_in_view (view machine.old))) }
+    requires is_at { IsAt machine.old (operation_entry (operation_in_view (view machine.old))) }
     requires dispatched { let v = view machine.old in Dispatched (state_at_dispatch v) v }
     requires random { operation_in_view (view machine.old) ≡ Some (Byte RAND) }
     ensures { let s = state_at_dispatch (view machine.old) in

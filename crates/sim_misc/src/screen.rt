@@ -1,7 +1,7 @@
 //! ALL, from its dispatch to the end of the step.
 
 ghost use Rattle.std.specs.Prelude.{◌≡◌, Some};
-ghost use Rattle.sim_rows.specs.Prelude.{ALL, Dispatched, operation_entry, operation_in_view, Stands};
+ghost use Rattle.sim_rows.specs.Prelude.{ALL, Dispatched, operation_entry, operation_in_view, IsAt};
 ghost use Rattle.sim_rows.specs.Prelude.{from_dispatch, state_at_dispatch, Turned, view};
 ghost use Rattle.sim_rows.specs.gpl_defs.declared.instruction.GplOperation.TheVariants.{Byte};
 
@@ -15,7 +15,7 @@ const SCREEN: u16 = 768;
 
 /// Runs ALL from its dispatch to the end of the step: the byte fills the screen.
 pub(crate) fn run_fill<L: Ledger>(machine: &mut Machine, steps: &mut Steps<L>) -> Turn
-    requires stands { Stands machine.old (operation_entry (operation_in_view (view machine.old))) }
+    requires is_at { IsAt machine.old (operation_entry (operation_in_view (view machine.old))) }
     requires dispatched { let v = view machine.old in Dispatched (state_at_dispatch v) v }
     requires fill { operation_in_view (view machine.old) ≡ Some (Byte ALL) }
     ensures { let s = state_at_dispatch (view machine.old) in

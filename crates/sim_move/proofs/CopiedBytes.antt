@@ -7,7 +7,7 @@ use Rattle.sim_rows.proofs.Common.{byte_from, byte_in, Changes, ReachesWithin, c
 use Rattle.sim_rows.proofs.Common.{GromState, idle_grom, ports_are_idle, idle_video, is_view, IsFetched, LoadsFrom, MachineState, most_of_byte}
 use Rattle.sim_rows.proofs.Common.{next_from, next_in_grom, next_to, pick, Place, place_in, place_is, previous-next, Space}
 use Rattle.sim_rows.proofs.Common.{space_small, state_of, sum_of, To, ToMemory, ToRegisters, Vdp, View, view, with_byte_to, Word}
-use Rattle.sim_move.specs.Copying.{Copying, InGrom, StandsFrom, StandsTo}
+use Rattle.sim_move.specs.Copying.{Copying, InGrom, HoldsSource, HoldsTarget}
 use Rattle.sim_move.proofs.Routines.{idle_after, Counted, grom_after, source_in, target_in}
 use Rattle.sim_move.proofs.Places.{copying_by_routines}
 use Rattle.sim_move.specs.Bytes.{AllCopied, AtByte, AtCopy, AtEnd, ByRoutines, charged, Copied, CopiesAt, CopiesByte, CopyingAt, CopyingByRoutines, FromPlace}
@@ -39,11 +39,11 @@ far_source c v address f =
     let above : 2 ≤ v.r.r5 = omega arith in
     rw (le-ltb v.r.r5 2 above, f.grom) (ap FromGrom (previous-next address))
 
-pub source_is : (c : Changes) (from : From) (v : View) → StandsFrom c from v → source_in v ≡ from
+pub source_is : (c : Changes) (from : From) (v : View) → HoldsSource c from v → source_in v ≡ from
 source_is c (FromMemory place) v f = near_source v place f.loads_from
 source_is c (FromGrom address) v f = far_source c v address f
 
-pub target_is : (to : To) (v : View) → StandsTo to v → target_in v ≡ to
+pub target_is : (to : To) (v : View) → HoldsTarget to v → target_in v ≡ to
 target_is (ToMemory place) v f =
     let small : v.r.r8 < 2 = space_small place.space v.r.r8 f.space in
     rw (lt-ltb v.r.r8 2 small, f.space, f.address) (ap ToMemory (place_is place))
@@ -59,7 +59,7 @@ in_space : (space : Space) (address : ℕ) (s o : GplState) → s.cells ≡ o.ce
 in_space Cpu address s o a d = ap (λ (l : List ℕ). slice_index l address) a
 in_space Vdp address s o a d = ap (λ (l : List ℕ). slice_index l (address % 16384)) d
 
-grom_image : (c : Changes) (from : From) (v : View) → StandsFrom c from v → v.grom.image ≡ c.state.image
+grom_image : (c : Changes) (from : From) (v : View) → HoldsSource c from v → v.grom.image ≡ c.state.image
 grom_image c (FromMemory place) v f = ap (λ (g : GromState). g.image) f.grom
 grom_image c (FromGrom address) v f = ap (λ (g : GromState). g.image) f.grom
 
@@ -69,8 +69,8 @@ byte_is (FromGrom address) s o a d i = ap (λ (l : List ℕ). slice_index l addr
 
 -- ---- where the copy stands then
 
-next_source : (c after : Changes) (from : From) (v w : View) → StandsFrom c from v → after.state.image ≡ c.state.image → after.state.pc ≡ c.state.pc →
-    w.r.r2 ≡ sum_of Word v.r.r2 1 → w.r.r5 ≡ v.r.r5 → w.r.r14 ≡ v.r.r14 → w.grom ≡ grom_after from v.grom → StandsFrom after (next_from from) w
+next_source : (c after : Changes) (from : From) (v w : View) → HoldsSource c from v → after.state.image ≡ c.state.image → after.state.pc ≡ c.state.pc →
+    w.r.r2 ≡ sum_of Word v.r.r2 1 → w.r.r5 ≡ v.r.r5 → w.r.r14 ≡ v.r.r14 → w.grom ≡ grom_after from v.grom → HoldsSource after (next_from from) w
 next_source c after (FromMemory place) v w f i p r2 r5 r14 g = record {
   loads_from = record { address = r2 ∙ ap (λ n. sum_of Word n 1) f.loads_from.address; space = r5 ∙ f.loads_from.space };
   grom = g ∙ f.grom ∙ ap (λ (l : List ℕ). grom_at l c.state.pc) (sym i) ∙ ap (λ n. grom_at after.state.image n) (sym p);
@@ -89,9 +89,9 @@ one_left n bytes e = omega arith
 
 -- none is left of a copy by the routines
 pub all_made : (c : Changes) (from : From) (to : To) (v : View) → Copying c from to 0 v → Copied c v
-all_made c from to v k = by from k.stands_from
+all_made c from to v k = by from k.holds_source
   where
-    by : (from : From) → StandsFrom c from v → Copied c v
+    by : (from : From) → HoldsSource c from v → Copied c v
     by (FromMemory place) f =
         FromPlace (space_small place.space v.r.r5 f.loads_from.space)
         (record { cells = k.cells; vdp = k.vdp; registers = k.registers; held = k.held; grom = f.grom; mark = k.mark })
@@ -110,7 +110,7 @@ module _ {x y : MachineState} {t u : ℕ} (h : AtCopy x) (here : x.cpu.pc ≡ CO
   w = view y
 
   left_is : w.r.r12 ≡ v.r.r12 - 1
-  left_is = ap (λ (u : View). u.r.r12) goes.holds.is ∙ one_less v.r.r12 some.some ((is_view x h.stands.machine).r 12)
+  left_is = ap (λ (u : View). u.r.r12) goes.holds.is ∙ one_less v.r.r12 some.some ((is_view x h.is_at.machine).r 12)
 
   bounded : (most before after : ℕ) → most < 65536 → before + v.r.r12 ≤ most → after ≡ sum_of Word before 1 → after + w.r.r12 ≤ most
   bounded most before after fits le is =
@@ -132,15 +132,15 @@ module _ {x y : MachineState} {t u : ℕ} (h : AtCopy x) (here : x.cpu.pc ≡ CO
   copied_one : (c : Changes) (from : From) (to : To) (bytes : ℕ) → Copying c from to (suc bytes) v →
       Copying (with_byte_to to (byte_from from c.state) c) (next_from from) (next_to to) bytes w
   copied_one c from (ToMemory place) bytes k =
-      let small : v.r.r8 < 2 = space_small place.space v.r.r8 k.stands_to.space in
+      let small : v.r.r8 < 2 = space_small place.space v.r.r8 k.holds_target.space in
       absurd (let above = some.beyond in omega arith)
   copied_one c from (ToRegisters number) bytes k =
       let byte : ℕ = byte_from from c.state in
-      let source = source_is c from v k.stands_from in
+      let source = source_is c from v k.holds_source in
       let read : byte_from (source_in v) (state_of v) ≡ byte =
       ap (λ (f : From). byte_from f (state_of v)) source
-      ∙ byte_is from (state_of v) c.state k.cells k.vdp (grom_image c from v k.stands_from) in
-      let is = k.stands_to.number_is in
+      ∙ byte_is from (state_of v) c.state k.cells k.vdp (grom_image c from v k.holds_source) in
+      let is = k.holds_target.number_is in
       let small : number < 8 = let le = some.registers in let s = some.some in omega arith in
       record {
         cells = ap (λ (u : View). u.cells) goes.holds.is ∙ k.cells;
@@ -152,13 +152,13 @@ module _ {x y : MachineState} {t u : ℕ} (h : AtCopy x) (here : x.cpu.pc ≡ CO
             ∙ ap (λ (l : List ℕ). slice_set l number byte) k.registers;
         held = ap (λ (u : View). u.vdp.held) goes.holds.is ∙ k.held;
         mark = ap (λ (u : View). u.r.r13) goes.holds.is ∙ k.mark;
-        stands_from = next_source c (with_byte_to (ToRegisters number) byte c) from v w k.stands_from refl refl
+        holds_source = next_source c (with_byte_to (ToRegisters number) byte c) from v w k.holds_source refl refl
             (ap (λ (u : View). u.r.r2) goes.holds.is) (ap (λ (u : View). u.r.r5) goes.holds.is)
             (ap (λ (u : View). u.r.r14) goes.holds.is)
             (ap (λ (u : View). u.grom) goes.holds.is ∙ ap (λ (f : From). grom_after f v.grom) source);
-        stands_to = record {
+        holds_target = record {
           number_is = ap (λ (u : View). u.r.r7) goes.holds.is ∙ ap (λ n. sum_of Word n 1) is ∙ next_number number small;
-          space = ap (λ (u : View). u.r.r8) goes.holds.is ∙ k.stands_to.space;
+          space = ap (λ (u : View). u.r.r8) goes.holds.is ∙ k.holds_target.space;
         };
         left = left_is ∙ one_left v.r.r12 bytes k.left;
       }
@@ -182,7 +182,7 @@ module _ {x y : MachineState} {t u : ℕ} (h : AtCopy x) (here : x.cpu.pc ≡ CO
   pub copies : CopiesByte x y t u
   copies = record {
     at = record {
-      stands = goes.stands;
+      is_at = goes.is_at;
       place = place;
       idle = ports_are_idle y.cpu.memory (ap (λ (u : View). u.vdp.held) goes.holds.is ∙ idle_video x.cpu.memory h.idle)
           (ap (λ (u : View). u.grom.half_written) goes.holds.is ∙ idle_after (source_in v) v.grom (idle_grom x.cpu.memory h.idle));

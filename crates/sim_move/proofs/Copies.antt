@@ -3,15 +3,15 @@ use Rattle.std.proofs.Common.{ℕ, ◌<◌, ◌∙◌, ◌≡◌, arith, Bool, E
 use Rattle.sim_rows.proofs.Common.{◌>>=◌, AtDispatch, code_byte, comes, Dispatched, Exits, FromGrom, Goes, GOMOVE, GplOperation, GplState}
 use Rattle.sim_rows.proofs.Common.{GromIndexedToMemory, GromToMemory, GromToRegisters, GSTOP, index_by, indexed, is_view, length_of, MachineState}
 use Rattle.sim_rows.proofs.Common.{MemoryToMemory, Move, MOVEB, MoveKind, MOVEL, MOVES, MOVEX, Moving, next_in_grom, operation_entry, operation_in, operation_in_view}
-use Rattle.sim_rows.proofs.Common.{Reason, ReachesWithin, Stands, state_at_dispatch, StoppedBy, To, ToMemory, ToRegisters, View, view, word_at}
+use Rattle.sim_rows.proofs.Common.{Reason, ReachesWithin, IsAt, state_at_dispatch, StoppedBy, To, ToMemory, ToRegisters, View, view, word_at}
 use Rattle.sim_rows.specs.sim_view.Prelude.{HoldsBytes}
 use Rattle.sim_rows.proofs.sim_operands.Ends.{EndsBy, not_at}
-use Rattle.sim_move.specs.Copying.{StandsTo}
+use Rattle.sim_move.specs.Copying.{HoldsTarget}
 use Rattle.sim_move.specs.Family.{is_move}
 use Rattle.sim_move.specs.Moves.{BeforeCopy, FindsCopy, found_in, length_read, source_read, target_read}
 use Rattle.sim_move.specs.Rows.{find_length, find_places, index_source, turn_to_source}
 use Rattle.sim_move.proofs.Codes.{from_grom, has_index, Encodes, encodes}
-use Rattle.sim_move.proofs.Arrivals.{Comes, comes_as_said, comes_stopped, comes_there, then_comes}
+use Rattle.sim_move.proofs.Arrivals.{Comes, comes_as_stated, comes_stopped, comes_there, then_comes}
 use Rattle.sim_jumps.proofs.NextAddress.{next_fits}
 use Rattle.sim_move.proofs.Found.{found_after_length, found_is, target_in, whole, with_from, with_source}
 use Rattle.sim_move.proofs.Lengths.{length_ends}
@@ -35,12 +35,12 @@ by_kind P m g GromIndexedToMemory = g GromIndexedToMemory refl
 by_kind P m g GromToRegisters = g GromToRegisters refl
 
 -- how a target stands in the registers
-stands_to : (to : To) (w : View) → w.r.r7 ≡ number_to to → w.r.r8 ≡ space_to to → StandsTo to w
-stands_to (ToMemory place) w a b = record { address = a; space = b }
-stands_to (ToRegisters number) w a b = record { number_is = a; space = b }
+holds_target : (to : To) (w : View) → w.r.r7 ≡ number_to to → w.r.r8 ≡ space_to to → HoldsTarget to w
+holds_target (ToMemory place) w a b = record { address = a; space = b }
+holds_target (ToRegisters number) w a b = record { number_is = a; space = b }
 
-pub stands_move : {x : MachineState} → AtDispatch is_move x → Stands x GOMOVE
-stands_move {x = x} at = subst (λ (p : ℕ). Stands x p) (entry_is (operation_in_view (view x)) at.family) at.stands
+pub at_move : {x : MachineState} → AtDispatch is_move x → IsAt x GOMOVE
+at_move {x = x} at = subst (λ (p : ℕ). IsAt x p) (entry_is (operation_in_view (view x)) at.family) at.is_at
 
 -- the state of the step
 abbrev pub state : MachineState → GplState
@@ -80,13 +80,13 @@ next_is s found _ g = refl
 
 -- ---- the four parts
 
-module _ {x a : MachineState} {t t1 : ℕ} (stands : Stands x GOMOVE) (dispatched : Dispatched (state x) (view x))
+module _ {x a : MachineState} {t t1 : ℕ} (is_at : IsAt x GOMOVE) (dispatched : Dispatched (state x) (view x))
     (one : Exits x a t t1 (find_length (view x))) where
   abbrev s : GplState
   s = state x
 
   bytes : HoldsBytes 65536 s.image
-  bytes = (is_view x stands.machine).grom.image
+  bytes = (is_view x is_at.machine).grom.image
 
   fits : code_byte s < 256
   fits = bytes.fits s.pc
@@ -96,8 +96,8 @@ module _ {x a : MachineState} {t t1 : ℕ} (stands : Stands x GOMOVE) (dispatche
       let v = view x in
       let By : View → Type 0 = λ w. (find_length w).left.r.r2 < 65536 →
       EndsBy (find_length w) 61 MOVEL (LengthFound s (length_read s).1) (StoppedBy s) (length_of s (length_read s).0) in
-      let r2 : (find_length v).left.r.r2 < 65536 = subst (λ (w : View). w.r.r2 < 65536) one.shows ((is_view a one.stands.machine).r 2) in
-      comes_as_said s (length_of s (length_read s).0) one (subst By (sym (dispatched_is s v dispatched)) (length_ends s v bytes) r2)
+      let r2 : (find_length v).left.r.r2 < 65536 = subst (λ (w : View). w.r.r2 < 65536) one.shows ((is_view a one.is_at.machine).r 2) in
+      comes_as_stated s (length_of s (length_read s).0) one (subst By (sym (dispatched_is s v dispatched)) (length_ends s v bytes) r2)
 
   abbrev Finds : MoveKind → MachineState → ℕ → Type 0
   Finds kind y u = operation_in s ≡ Some (Move kind) → Comes 160 s x y t u MOVEB (BeforeCopy kind s) (whole kind s)
@@ -123,7 +123,7 @@ module _ {x a : MachineState} {t t1 : ℕ} (stands : Stands x GOMOVE) (dispatche
         Comes 99 s a b t1 t2 MOVEB (BeforeCopy MemoryToMemory s) (found_after_length MemoryToMemory s count)
     memory count k h =
         let By : View → Type 0 = λ w. EndsBy (find_places w) 99 MOVEB (BeforeCopy MemoryToMemory s) (StoppedBy s) (found_after_length MemoryToMemory s count) in
-        comes_as_said s (found_after_length MemoryToMemory s count) two (subst By (sym h) (places_in_memory s count (view a) bytes k))
+        comes_as_stated s (found_after_length MemoryToMemory s count) two (subst By (sym h) (places_in_memory s count (view a) bytes k))
 
     in_memory : Finds MemoryToMemory b t2
     in_memory known = after_length MemoryToMemory b t2 (λ count. memory count (encodes (code_byte s) MemoryToMemory fits known))
@@ -134,7 +134,7 @@ module _ {x a : MachineState} {t t1 : ℕ} (stands : Stands x GOMOVE) (dispatche
     target kind count g known h =
         let By : View → Type 0 = λ w. EndsBy (find_places w) 50 MOVES (TargetFound s (target_read kind s).1) (StoppedBy s)
         (target_in s count (target_read kind s).0) in
-        comes_as_said s (target_in s count (target_read kind s).0) two
+        comes_as_stated s (target_in s count (target_read kind s).0) two
         (subst By (sym h) (places_to_grom s count (view a) bytes kind (encodes (code_byte s) kind fits known) g))
 
     pub no_target : (b.cpu.pc ≡ MOVES → ⊥) → FindsCopy s x b t t2
@@ -155,7 +155,7 @@ module _ {x a : MachineState} {t t1 : ℕ} (stands : Stands x GOMOVE) (dispatche
           EndsBy (index_source w) 32 MOVEX (SourceFound s index.1 found) (StoppedBy s) (indexed s index.0 (address s kind found).0)) in
           let bit = (encodes (code_byte s) kind fits known).index in
           let index = index_of s kind found (has_index kind) in
-          comes_as_said s (indexed s index.0 (address s kind found).0) three
+          comes_as_stated s (indexed s index.0 (address s kind found).0) three
           (subst (By (has_index kind)) (sym h) (subst (λ (i : Bool). By i (seen s (target_read kind s).1 (stood found (view b)))) bit
           (source_ends s (target_read kind s).1 found (view b) fits)))
 
@@ -180,8 +180,8 @@ module _ {x a : MachineState} {t t1 : ℕ} (stands : Stands x GOMOVE) (dispatche
           (λ e. let n = sym stop ∙ e in absurd (omega arith)) (source kind found known h))))
 
       module _ (on : c.cpu.pc ≡ GSTOP → ⊥) where
-        pub stands_turning : Stands c MOVEX
-        stands_turning = subst (λ (p : ℕ). Stands c p) (source_returns (view b) (not_at GSTOP three on)) three.stands
+        pub at_turn : IsAt c MOVEX
+        at_turn = subst (λ (p : ℕ). IsAt c p) (source_returns (view b) (not_at GSTOP three on)) three.is_at
 
         module _ {y : MachineState} {t4 : ℕ} (four : Exits c y t3 t4 (turn_to_source (view c))) where
           turn : (kind : MoveKind) (found : ℕ × To) (address : ℕ) → from_grom kind ≡ true →
@@ -191,7 +191,7 @@ module _ {x a : MachineState} {t t1 : ℕ} (stands : Stands x GOMOVE) (dispatche
           turn kind found address g h =
               let at = (index_of s kind found (has_index kind)).1 in
               let q = seen s at (stood found (record (view c) { r = record (view c).r { r2 = address } })) in
-              let i = is_view c three.stands.machine in
+              let i = is_view c three.is_at.machine in
               let near : address < 65536 = subst (λ (w : View). w.r.r2 < 65536) h (i.r 2) in
               let counter : next_in_grom at < 65536 = subst (λ (w : View). w.grom.counter < 65536) h i.grom.counter in
               let By : View → Type 0 = λ w. Goes (turn_to_source w) 17 MOVEB (λ w. w ≡ turned q s.image at) in
@@ -203,15 +203,15 @@ module _ {x a : MachineState} {t t1 : ℕ} (stands : Stands x GOMOVE) (dispatche
                   within = run.within;
                   counted = run.counted;
                   runs = run.runs;
-                  stands = run.stands;
+                  is_at = run.is_at;
                   holds = subst (BeforeCopy kind s (with_from found (FromGrom address))) (sym run.holds) (record {
                     cells = refl;
                     vdp = refl;
                     registers = refl;
                     held = refl;
                     mark = refl;
-                    stands_from = record { space = refl; grom = refl; back = sym (next_is s found kind g) };
-                    stands_to = stands_to found.1 (turned q s.image at) refl refl;
+                    holds_source = record { space = refl; grom = refl; back = sym (next_is s found kind g) };
+                    holds_target = holds_target found.1 (turned q s.image at) refl refl;
                     left = refl;
                   });
                 };
@@ -221,5 +221,5 @@ module _ {x a : MachineState} {t t1 : ℕ} (stands : Stands x GOMOVE) (dispatche
           from_source = finds_copy y t4 (by_kind (λ kind. Finds kind y t4) (not_memory y t4) (λ kind g known.
               from_target kind y t4 g known (λ found h.
               let index = index_of s kind found (has_index kind) in
-              then_comes (indexed s index.0 (address s kind found).0) (from_address s kind found) refl stands_turning.pc (source kind found known h)
+              then_comes (indexed s index.0 (address s kind found).0) (from_address s kind found) refl at_turn.pc (source kind found known h)
               (λ address. turn kind found address g))))

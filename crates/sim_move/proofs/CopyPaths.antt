@@ -8,8 +8,8 @@ use Rattle.sim_rows.proofs.Common.{high, join, low, vdp_data_written, VdpState, 
 use Rattle.sim_move.proofs.Places.{at_pc, each, few_charged, may_go, on_way, some_left}
 use Rattle.sim_move.specs.Bytes.{AllCopied, AtCopy, AtEnd, AtHead, Copied, CopiesAt, CopiesByte, CopyingAt, CopyingOnWay, from_on, FromPlace, GoesBack, MayGo}
 use Rattle.sim_move.specs.Bytes.{OnWay, OutOfGrom, Points, seen, seen_on, to_on}
-use Rattle.sim_move.specs.SimCopyPieces.{CellsToCells, CellsToVideo, copy_on, count_on, first_cell, GromToCells, GromToVideo}
-use Rattle.sim_move.specs.SimCopyPieces.{head_of, reading_word, VideoToCells, VideoToVideo, CopyPath, writing_word}
+use Rattle.sim_move.specs.CopyPieces.{CellsToCells, CellsToVideo, copy_on, count_on, first_cell, GromToCells, GromToVideo}
+use Rattle.sim_move.specs.CopyPieces.{head_of, reading_word, VideoToCells, VideoToVideo, CopyPath, writing_word}
 use Rattle.sim_rows.specs.native_interp.declared.addresses.TheConstants.{COPYE}
 use Rattle.sim_rows.proofs.StepStart.{one_at_most}
 use Rattle.sim_move.proofs.VideoPort.{reading_on, reads_at, writes_at, writing_on}
@@ -187,7 +187,7 @@ module _ {x : MachineState} (h : AtCopy x) (way : CopyPath) (here : x.cpu.pc ≡
   may = may_go h.place way here
 
   few : v.r.r12 < 65536
-  few = (is_view x h.stands.machine).r 12
+  few = (is_view x h.is_at.machine).r 12
 
   module _ {y : MachineState} {t u : ℕ} (e : Exits x y t u (copy_on way v)) where
     -- a byte from a source to a target that the way tells
@@ -204,7 +204,7 @@ module _ {x : MachineState} (h : AtCopy x) (way : CopyPath) (here : x.cpu.pc ≡
         let seen_after : view y ≡ seen_on way next after bytes mark (next_on way source) (plus target 1) =
         e.shows ∙ ap (λ (w : View). (copy_on way w).left) is
         ∙ moves_on way base c bytes mark source target fits (subst (λ (w : View). MayGo way w) is may) in
-        let pc : y.cpu.pc ≡ (if bytes == 0 then COPYE else head_of way) = e.stands.pc ∙ ap (λ n. if n == 0 then COPYE else head_of way) left in
+        let pc : y.cpu.pc ≡ (if bytes == 0 then COPYE else head_of way) = e.is_at.pc ∙ ap (λ n. if n == 0 then COPYE else head_of way) left in
         let to : Bool → ℕ = λ b. if b then COPYE else head_of way in
         pick (bytes == 0)
         (λ z. let none : bytes ≡ 0 = eqb-true bytes 0 z in
@@ -246,8 +246,8 @@ module _ {x : MachineState} (h : AtCopy x) (way : CopyPath) (here : x.cpu.pc ≡
     pub copies : CopiesByte x y t u
     copies = record {
       at = record {
-        stands = at_pc y (copy_on way v).to e.stands;
-        place = subst (λ (p : ℕ). CopiesAt p (view y)) (sym e.stands.pc)
+        is_at = at_pc y (copy_on way v).to e.is_at;
+        place = subst (λ (p : ℕ). CopiesAt p (view y)) (sym e.is_at.pc)
             (subst (λ (w : View). CopiesAt (copy_on way v).to w) (sym e.shows) (place_on way v may));
         idle = ports_are_idle y.cpu.memory (ap (λ (w : View). w.vdp.held) e.shows ∙ held_on way v (idle_video x.cpu.memory h.idle))
             (ap (λ (w : View). w.grom.half_written) e.shows ∙ idle_on way v (idle_grom x.cpu.memory h.idle));
@@ -256,7 +256,7 @@ module _ {x : MachineState} (h : AtCopy x) (way : CopyPath) (here : x.cpu.pc ≡
       most = 14;
       comes = comes e (record {
         within = let m = few_on way in let a = one_at_most (difference_of Word v.r.r12 1 == 0) in omega arith;
-        to_is = sym e.stands.pc;
+        to_is = sym e.is_at.pc;
         holds = tt;
       });
       within = let a = few_charged x.cpu.pc in omega arith;

@@ -6,7 +6,7 @@ use Rattle.std.proofs.Math.Nat.{pos_of_ne-zero}
 use Rattle.sim_rows.proofs.Common.{Changes, CHARACTER, copied, COPY, Cpu, difference_of, Exit, exit, From, FromGrom, FromMemory, grom_at, GromState}
 use Rattle.sim_rows.proofs.Common.{IsFetched, IsView, marked_by, next_at, next_in_vdp, no_other, pick, place_in}
 use Rattle.sim_rows.proofs.Common.{with_video_address, sum_of, To, ToMemory, ToRegisters, Vdp, VdpState, View, Word}
-use Rattle.sim_move.specs.Copying.{Copying, StandsFrom, StandsTo}
+use Rattle.sim_move.specs.Copying.{Copying, HoldsSource, HoldsTarget}
 use Rattle.sim_move.proofs.CopiedBytes.{all_made, source_is, target_is}
 use Rattle.sim_move.proofs.Marks.{cells_mark, video_mark}
 use Rattle.sim_move.proofs.Places.{each}
@@ -14,9 +14,9 @@ use Rattle.sim_move.proofs.VideoPort.{cut, reading_cut, reads_at, writes_at, wri
 use Rattle.sim_move.proofs.Routines.{source_in, target_in}
 use Rattle.sim_move.specs.Bytes.{AllCopied, AtByte, AtEnd, AtHead, charged, CopiesAt, CopyingAt, CopyingByRoutines, CopyingOnWay, from_on, GoesBack}
 use Rattle.sim_move.specs.Bytes.{in_memory, MayGo, Points, seen, seen_on, to_memory, to_on}
-use Rattle.sim_move.specs.SimCopyPieces.{both_set, by_routines, CellsToCells, CellsToVideo, first_cell, from_cells}
-use Rattle.sim_move.specs.SimCopyPieces.{GromToCells, GromToVideo, head_of, is_marked, pointed_at}
-use Rattle.sim_move.specs.SimCopyPieces.{set_source, start_copy, target_set, VideoToCells, VideoToVideo, CopyPath}
+use Rattle.sim_move.specs.CopyPieces.{both_set, by_routines, CellsToCells, CellsToVideo, first_cell, from_cells}
+use Rattle.sim_move.specs.CopyPieces.{GromToCells, GromToVideo, head_of, is_marked, pointed_at}
+use Rattle.sim_move.specs.CopyPieces.{set_source, start_copy, target_set, VideoToCells, VideoToVideo, CopyPath}
 use Rattle.sim_rows.specs.sim_operands.Pieces.{one_if}
 use Rattle.sim_rows.specs.native_interp.declared.addresses.TheConstants.{COPYCC, COPYCV, COPYE, COPYGC, COPYGV, COPYVC, COPYVV}
 use Rattle.sim_rows.proofs.StepStart.{one_at_most}
@@ -78,8 +78,8 @@ module _ (v : View) (i : IsView v) (held : v.vdp.held ≡ None) (fetched : IsFet
     grom = ap (λ (u : View). u.grom) same;
     left = ap (λ (u : View). u.r.r12) same;
     copying = λ c from to bytes k.
-        let f : from_on way source ≡ from = sym from_is ∙ source_is c from v k.stands_from in
-        let o : to_on way v.r.r7 ≡ to = sym to_is ∙ target_is to v k.stands_to in
+        let f : from_on way source ≡ from = sym from_is ∙ source_is c from v k.holds_source in
+        let o : to_on way v.r.r7 ≡ to = sym to_is ∙ target_is to v k.holds_target in
         let P : From → To → Type 0 = λ from to. Copying c from to bytes v → CopyingAt (head_of way) c from to bytes w in
         (subst (λ (from : From). P from to) f (subst (λ (to : To). P (from_on way source) to) o
         (λ k. let s = is c bytes k in
@@ -147,7 +147,7 @@ module _ (v : View) (i : IsView v) (held : v.vdp.held ≡ None) (fetched : IsFet
         (target_cells target)
         (λ c bytes k. (
           let z = e in omega arith,
-          is_seen w refl k c.state.pc k.stands_from.grom (marks c (in_memory Cpu v.r.r2) bytes k)
+          is_seen w refl k c.state.pc k.holds_source.grom (marks c (in_memory Cpu v.r.r2) bytes k)
               (pointer_is v.r.r2 (omega arith)) to_pointer_is refl refl,
         ))
 
@@ -162,7 +162,7 @@ module _ (v : View) (i : IsView v) (held : v.vdp.held ≡ None) (fetched : IsFet
         (target_cells target)
         (λ c bytes k. (
           let z = e in omega arith,
-          is_seen w same k c.state.pc k.stands_from.grom (marks c (in_memory Vdp v.r.r2) bytes k) refl to_pointer_is
+          is_seen w same k c.state.pc k.holds_source.grom (marks c (in_memory Vdp v.r.r2) bytes k) refl to_pointer_is
               (ap (λ (d : VdpState). d.address) set) (ap (λ (d : VdpState). d.fetched) set ∙ ap (λ (l : List ℕ). slice_index l at) k.vdp),
         ))
 
@@ -171,8 +171,8 @@ module _ (v : View) (i : IsView v) (held : v.vdp.held ≡ None) (fetched : IsFet
         let from : From = FromGrom (next_at v) in
         on_way GromToCells (13 + marking) (pointed_at v) (next_at v) (few 13 (omega arith)) to_pointer refl (source_grom l) (target_cells target)
         (λ c bytes k. (
-          (k.stands_from.space, k.stands_from.back),
-          is_seen (pointed_at v) refl k (next_at v) k.stands_from.grom (marks c from bytes k)
+          (k.holds_source.space, k.holds_source.back),
+          is_seen (pointed_at v) refl k (next_at v) k.holds_source.grom (marks c from bytes k)
               refl to_pointer_is refl refl,
         ))
 
@@ -190,7 +190,7 @@ module _ (v : View) (i : IsView v) (held : v.vdp.held ≡ None) (fetched : IsFet
         on_way CellsToVideo 15 w v.r.r2 (omega arith) (pointer v.r.r2 v.r.r12 some fits) same (source_cells e) (target_video target)
         (λ c bytes k. (
           let z = e in omega arith,
-          is_seen w same k c.state.pc k.stands_from.grom (k.mark ∙ video_mark bytes v.r.r7 (in_memory Cpu v.r.r2) c)
+          is_seen w same k c.state.pc k.holds_source.grom (k.mark ∙ video_mark bytes v.r.r7 (in_memory Cpu v.r.r2) c)
               (pointer_is v.r.r2 (omega arith)) refl address_set refl,
         ))
 
@@ -200,8 +200,8 @@ module _ (v : View) (i : IsView v) (held : v.vdp.held ≡ None) (fetched : IsFet
         let same = ap (λ (d : VdpState). record w { vdp = d }) (set ∙ ap kept (sym set)) in
         on_way GromToVideo 14 w (next_at v) (omega arith) some same (source_grom l) (target_video target)
         (λ c bytes k. (
-          (k.stands_from.space, k.stands_from.back),
-          is_seen w same k (next_at v) k.stands_from.grom
+          (k.holds_source.space, k.holds_source.back),
+          is_seen w same k (next_at v) k.holds_source.grom
               (k.mark ∙ video_mark bytes v.r.r7 (FromGrom (next_at v)) c) refl refl address_set refl,
         ))
 
@@ -211,16 +211,16 @@ module _ (v : View) (i : IsView v) (held : v.vdp.held ≡ None) (fetched : IsFet
         on_way VideoToVideo 9 w v.r.r2 (omega arith) some refl (source_video e) (target_video target)
         (λ c bytes k. (
           let z = e in omega arith,
-          is_seen w refl k c.state.pc k.stands_from.grom (k.mark ∙ video_mark bytes v.r.r7 (in_memory Vdp v.r.r2) c)
+          is_seen w refl k c.state.pc k.holds_source.grom (k.mark ∙ video_mark bytes v.r.r7 (in_memory Vdp v.r.r2) c)
               (reading_cut v.r.r2) (writing_cut v.r.r7) refl refl,
         ))
 
   -- LOAD and STORE copy
-  from_again : (c : Changes) (from : From) → StandsFrom c from v → StandsFrom c from (by_routines v)
+  from_again : (c : Changes) (from : From) → HoldsSource c from v → HoldsSource c from (by_routines v)
   from_again c (FromMemory place) f = record { loads_from = record { address = f.loads_from.address; space = f.loads_from.space }; grom = f.grom }
   from_again c (FromGrom address) f = record { space = f.space; grom = f.grom; back = f.back }
 
-  to_again : (to : To) → StandsTo to v → StandsTo to (by_routines v)
+  to_again : (to : To) → HoldsTarget to v → HoldsTarget to (by_routines v)
   to_again (ToMemory place) f = record { address = f.address; space = f.space }
   to_again (ToRegisters number) f = record { number_is = f.number_is; space = f.space }
 
@@ -238,8 +238,8 @@ module _ (v : View) (i : IsView v) (held : v.vdp.held ≡ None) (fetched : IsFet
       registers = k.registers;
       held = k.held;
       mark = k.mark;
-      stands_from = from_again c from k.stands_from;
-      stands_to = to_again to k.stands_to;
+      holds_source = from_again c from k.holds_source;
+      holds_target = to_again to k.holds_target;
       left = k.left;
     });
   }

@@ -2,8 +2,8 @@
 use Rattle.std.proofs.Common.{ℕ, ◌*◌, ◌+◌, ◌≡◌, ap, arith, Err, false, None, Ok, refl, Some, subst, sym, true}
 use Rattle.sim_rows.proofs.Common.{bound, bound_stop, Changes, comes_on, fetched_of, finished, From, FromGrom, FromMemory, GOMOVE, GplState, grom_at, GSTOP}
 use Rattle.sim_rows.proofs.Common.{idle_of, is_exit, is_turn_end, MachineState, matches, most_to_dispatch, Move, MOVEB, MoveKind, Moving, never_exits, number_of, operation_in, reaches, ReachesWithin, Reason, StoppedBy}
-use Rattle.sim_rows.proofs.Common.{from_dispatch, ShowsState, Stands, Stepped, Stopped, stops, Turned, turned_by, View, view, WORKSPACE}
-use Rattle.sim_move.specs.Copying.{CopiesBytes, MayCopy, StandsFrom}
+use Rattle.sim_rows.proofs.Common.{from_dispatch, ShowsState, IsAt, Stepped, Stopped, stops, Turned, turned_by, View, view, WORKSPACE}
+use Rattle.sim_move.specs.Copying.{CopiesBytes, MayCopy, HoldsSource}
 use Rattle.sim_move.specs.Family.{is_move}
 use Rattle.sim_move.specs.Moves.{BeforeCopy, begun, FindsCopy, found_in, source_read, target_read}
 use Rattle.sim_move.proofs.Arrivals.{came, Comes, stopped}
@@ -16,14 +16,14 @@ abbrev place_in_grom : Changes → From → ℕ
 place_in_grom c (FromMemory place) = c.state.pc
 place_in_grom c (FromGrom address) = address
 
-grom_of : (c : Changes) (from : From) (w : View) → StandsFrom c from w → w.grom ≡ grom_at c.state.image (place_in_grom c from)
+grom_of : (c : Changes) (from : From) (w : View) → HoldsSource c from w → w.grom ≡ grom_at c.state.image (place_in_grom c from)
 grom_of c (FromMemory place) w h = h.grom
 grom_of c (FromGrom address) w h = h.grom
 
 sees_of : (kind : MoveKind) (s : GplState) (f : Moving) (w : View) → BeforeCopy kind s f w → ShowsState s (place_in_grom (begun kind s) f.from) w
-sees_of kind s f w h = record { cells = h.cells; vdp = h.vdp; registers = h.registers; held = h.held; grom = grom_of (begun kind s) f.from w h.stands_from }
+sees_of kind s f w h = record { cells = h.cells; vdp = h.vdp; registers = h.registers; held = h.held; grom = grom_of (begun kind s) f.from w h.holds_source }
 
-module _ (s : GplState) {x a : MachineState} {t t1 : ℕ} (stands : Stands x GOMOVE) (family : is_move (operation_in s) ≡ true) (finds : FindsCopy s x a t t1)
+module _ (s : GplState) {x a : MachineState} {t t1 : ℕ} (is_at : IsAt x GOMOVE) (family : is_move (operation_in s) ≡ true) (finds : FindsCopy s x a t t1)
   where
     kind : MoveKind
     kind = (kind_of (operation_in s) family).0
@@ -33,7 +33,7 @@ module _ (s : GplState) {x a : MachineState} {t t1 : ℕ} (stands : Stands x GOM
     known = (kind_of (operation_in s) family).1
 
     start : is_turn_end x.cpu.pc ≡ false
-    start = ap is_turn_end stands.pc
+    start = ap is_turn_end is_at.pc
 
     arrives : Comes 160 s x a t t1 MOVEB (BeforeCopy kind s) (found_in kind s)
     arrives = record { by = finds.by kind known }
@@ -44,7 +44,7 @@ module _ (s : GplState) {x a : MachineState} {t t1 : ℕ} (stands : Stands x GOM
       m = stopped (found_in kind s) arrives refl here
 
       pub workspace : a.cpu.wp ≡ WORKSPACE
-      workspace = m.2.stands.wp
+      workspace = m.2.is_at.wp
 
       -- some reason has the number in register 0
       pub has_reason : ((reason : Reason) → number_of reason ≡ (view a).r.r0 → None ≡ Some reason) → ⊥
@@ -60,7 +60,7 @@ module _ (s : GplState) {x a : MachineState} {t t1 : ℕ} (stands : Stands x GOM
           let P : Reason → Type 0 = λ r. Turned s x a (from_dispatch t t1) (Stopped r) in
           subst P (sym same)
           (turned_by x a t t1 most_to_dispatch (Stopped m.0) s (Err m.0) e
-          (refl, reaches most_to_dispatch (bound s) m.2 start refl (omega arith), stops s m.0 a (never_exits s m.0 (ap is_exit known) e) m.2.stands m.2.holds))
+          (refl, reaches most_to_dispatch (bound s) m.2 start refl (omega arith), stops s m.0 a (never_exits s m.0 (ap is_exit known) e) m.2.is_at m.2.holds))
 
     -- all is found
     module _ (away : a.cpu.pc ≡ GSTOP → ⊥) where
@@ -79,12 +79,12 @@ module _ (s : GplState) {x a : MachineState} {t t1 : ℕ} (stands : Stands x GOM
           let at = place_in_grom (begun kind s) g.0.from in
           let sees = sees_of kind s g.0 (view a) h in
           record {
-            stands = g.2.stands;
+            is_at = g.2.is_at;
             idle = idle_of a.cpu.memory s at sees;
             fetched = fetched_of a.cpu.memory s at sees;
-            source = source_visible g.0.bytes (begun kind s) g.0.from (view a) h.stands_from h.left source_range;
-            target = target_visible g.0.bytes g.0.to (view a) h.stands_to h.left target_range;
-            registers = registers_there g.0.bytes g.0.to (view a) h.stands_to h.left target_range;
+            source = source_visible g.0.bytes (begun kind s) g.0.from (view a) h.holds_source h.left source_range;
+            target = target_visible g.0.bytes g.0.to (view a) h.holds_target h.left target_range;
+            registers = registers_there g.0.bytes g.0.to (view a) h.holds_target h.left target_range;
           }
 
       pub turned : {y : MachineState} {t2 : ℕ} → CopiesBytes a y t1 t2 → Turned s x y (from_dispatch t t2) Stepped
@@ -94,4 +94,4 @@ module _ (s : GplState) {x a : MachineState} {t t1 : ℕ} (stands : Stands x GOM
           let c = comes_on 160 (31 * bytes + 41) g.2 (copies (begun kind s) g.0.from g.0.to bytes g.2.holds) refl in
           let e = step_copies s kind known g.0 g.1 in
           let b = bound_is s kind known g.0 g.1 in
-          turned_by x y t t2 most_to_dispatch Stepped s (Ok next) e (refl, reaches most_to_dispatch (bound s) c start refl (omega arith), matches next y c.stands c.holds)
+          turned_by x y t t2 most_to_dispatch Stepped s (Ok next) e (refl, reaches most_to_dispatch (bound s) c start refl (omega arith), matches next y c.is_at c.holds)

@@ -12,7 +12,7 @@ pub mod Copies
 pub mod Ranges
 pub mod MoveSteps
 pub mod Dispatch
-pub mod SimCopyPaths
+pub mod CopiedPaths
 pub mod Places
 pub mod VideoPort
 pub mod CopyPaths

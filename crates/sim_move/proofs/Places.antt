@@ -1,11 +1,11 @@
 -- Where a byte is copied.
 use Rattle.std.proofs.Common.{ℕ, ◌<◌, ◌==◌, ◌∙◌, ◌≡◌, ◌≤◌, ap, arith, Bool, false, if◌then◌else◌, None, Option, refl, Some, subst, sym, true}
-use Rattle.sim_rows.proofs.Common.{Changes, COPY, From, is_turn_end, MachineState, Stands, To, View}
+use Rattle.sim_rows.proofs.Common.{Changes, COPY, From, is_turn_end, MachineState, IsAt, To, View}
 use Rattle.sim_move.specs.Copying.{Copying}
 use Rattle.sim_move.specs.Bytes.{AllCopied, AtByte, AtEnd, AtHead, charged, Copied, CopiesAt, CopyingAt, CopyingByRoutines, CopyingOnWay, MayGo}
 use Rattle.sim_move.specs.Bytes.{OnWay, Points}
-use Rattle.sim_move.specs.SimCopyPieces.{CellsToCells, CellsToVideo, GromToCells, GromToVideo, head_of, VideoToCells}
-use Rattle.sim_move.specs.SimCopyPieces.{VideoToVideo, CopyPath}
+use Rattle.sim_move.specs.CopyPieces.{CellsToCells, CellsToVideo, GromToCells, GromToVideo, head_of, VideoToCells}
+use Rattle.sim_move.specs.CopyPieces.{VideoToVideo, CopyPath}
 use Rattle.sim_rows.specs.native_interp.declared.addresses.TheConstants.{COPYCC, COPYCV, COPYE, COPYGC, COPYGV, COPYVC, COPYVV}
 
 -- ---- the way of a place
@@ -88,7 +88,7 @@ runs_on p v (AtHead way e k) = ap is_turn_end e ∙ head_runs way
 runs_on p v (AtEnd e z) = ap is_turn_end e
 
 -- a machine where it is
-pub at_pc : (x : MachineState) (p : ℕ) → Stands x p → Stands x x.cpu.pc
+pub at_pc : (x : MachineState) (p : ℕ) → IsAt x p → IsAt x x.cpu.pc
 at_pc x p h = record { pc = refl; wp = h.wp; words = h.words; machine = h.machine }
 
 -- ---- how many instructions

@@ -4,7 +4,7 @@ use Rattle.std.proofs.lemmas.Bool.{leb-true}
 use Rattle.sim_rows.proofs.Common.{◌>>=◌, Changes, From, FromGrom, FromMemory, GplState, indexed, visible_when_found, MoveSource, MoveTarget, number_of_space, origin_of}
 use Rattle.sim_rows.proofs.Common.{place_found_visible, place_of, Reason, space_small, target_of, To, ToMemory, ToRegisters, View}
 use Rattle.sim_rows.proofs.Common.{pick}
-use Rattle.sim_move.specs.Copying.{StandsFrom, StandsTo}
+use Rattle.sim_move.specs.Copying.{HoldsSource, HoldsTarget}
 use Rattle.sim_rows.specs.gpl_defs.declared.instruction.MoveTarget.TheVariants as target
 use Rattle.sim_rows.specs.gpl_defs.declared.instruction.MoveSource.TheVariants as source
 
@@ -51,16 +51,16 @@ source_in_range s bytes t from e = gives_at (SourceInRange bytes) (origin_of s b
 
 -- ---- what the copy asks of the registers
 
-pub source_visible : (bytes : ℕ) (c : Changes) (from : From) (w : View) → StandsFrom c from w → w.r.r12 ≡ bytes → SourceInRange bytes from → w.r.r5 ≡ 0 →
+pub source_visible : (bytes : ℕ) (c : Changes) (from : From) (w : View) → HoldsSource c from w → w.r.r12 ≡ bytes → SourceInRange bytes from → w.r.r5 ≡ 0 →
     w.r.r2 + w.r.r12 ≤ 0xC2
 source_visible bytes c (FromMemory place) w h n range z =
     let le = range (sym h.loads_from.space ∙ z) in let a = h.loads_from.address in omega arith
 source_visible bytes c (FromGrom address) w h n range z = let two = h.space in absurd (omega arith)
 
-pub target_visible : (bytes : ℕ) (to : To) (w : View) → StandsTo to w → w.r.r12 ≡ bytes → TargetInRange bytes to → w.r.r8 ≡ 0 → w.r.r7 + w.r.r12 ≤ 0xC2
+pub target_visible : (bytes : ℕ) (to : To) (w : View) → HoldsTarget to w → w.r.r12 ≡ bytes → TargetInRange bytes to → w.r.r8 ≡ 0 → w.r.r7 + w.r.r12 ≤ 0xC2
 target_visible bytes (ToMemory place) w h n range z = let le = range (sym h.space ∙ z) in let a = h.address in omega arith
 target_visible bytes (ToRegisters number) w h n range z = let two = h.space in absurd (omega arith)
 
-pub registers_there : (bytes : ℕ) (to : To) (w : View) → StandsTo to w → w.r.r12 ≡ bytes → TargetInRange bytes to → 1 < w.r.r8 → w.r.r7 + w.r.r12 ≤ 8
+pub registers_there : (bytes : ℕ) (to : To) (w : View) → HoldsTarget to w → w.r.r12 ≡ bytes → TargetInRange bytes to → 1 < w.r.r8 → w.r.r7 + w.r.r12 ≤ 8
 registers_there bytes (ToMemory place) w h n range more = let small = space_small place.space w.r.r8 h.space in absurd (omega arith)
 registers_there bytes (ToRegisters number) w h n range more = let a = h.number_is in let le : number + bytes ≤ 8 = range in omega arith

@@ -6,12 +6,12 @@ use Rattle.sim_rows.proofs.Common.{byte_from, Changes, ReachesWithin, comes, com
 use Rattle.sim_rows.proofs.Common.{FromGrom, FromMemory, grom_at, GromState, high, idle_again, idle_grom, ports_are_idle, idle_video, in_register}
 use Rattle.sim_rows.proofs.Common.{IsFetched, IsVisible, join, LOAD, Loaded, LoadsStream, LoadsValue, MachineState, Memory, most_of_byte}
 use Rattle.sim_rows.proofs.Common.{most_of_load, next_at, next_in_grom, pick, Place, place_in, PortsAreIdle, return_of}
-use Rattle.sim_rows.proofs.Common.{Stands, state_of, STORE, Stored, StoresRegister, streamed, sum_of, To, ToMemory, ToRegisters, unchanged}
+use Rattle.sim_rows.proofs.Common.{IsAt, state_of, STORE, Stored, StoresRegister, streamed, sum_of, To, ToMemory, ToRegisters, unchanged}
 use Rattle.sim_rows.proofs.Common.{value_at, View, view, view_of, width_in, with_register, Word}
 use Rattle.sim_rows.specs.gpl_defs.Reading.{value_at as value_in}
 use Rattle.sim_move.specs.Bytes.{AtCopy, ByRoutines}
 use Rattle.sim_rows.specs.sim_view.Bounds.{most_of_register_store}
-use Rattle.sim_move.specs.SimCopyPieces as pieces
+use Rattle.sim_move.specs.CopyPieces as pieces
 use Rattle.sim_rows.specs.native_interp.declared.addresses.TheConstants.{COPYE}
 
 -- ---- what a byte changes
@@ -150,8 +150,8 @@ module _ {x a : MachineState} {t t1 : ℕ} (h : AtCopy x) (left : ByRoutines (vi
     loaded = subst (λ (p : ℕ). ReachesWithin most_of_load a b t1 t2 p (ReadFrom (view a) (source_in (view a)))) (ap return_of e.shows)
         (loads a b t1 t2 one_asked fetched_asked near far)
 
-    pub stands_read : Stands b COPYS
-    stands_read = loaded.stands
+    pub at_read : IsAt b COPYS
+    at_read = loaded.is_at
 
     abbrev number : ℕ
     number = byte_from (source_in v) (state_of v)
@@ -201,8 +201,8 @@ module _ {x a : MachineState} {t t1 : ℕ} (h : AtCopy x) (left : ByRoutines (vi
             subst (λ (p : ℕ). ReachesWithin most_of_register_store d k t3 t4 p after) (ap return_of seen_d)
             (register beyond there)
 
-        pub stands_stored : Stands k COPYN
-        stands_stored = stored.stands
+        pub at_stored : IsAt k COPYN
+        at_stored = stored.is_at
 
         -- the view after COPYN, where a byte was stored
         abbrev counted_with : View → ℕ → View
@@ -244,7 +244,7 @@ module _ {x a : MachineState} {t t1 : ℕ} (h : AtCopy x) (left : ByRoutines (vi
               comes_then 16 2 c2 e3 (record { within = omega arith; to_is = refl; holds = refl }) refl in
               let c4 = comes_on 18 9 c3 stored refl in
               let holds = subst (Counted v) e5.shows counted in
-              comes_then 27 4 c4 e5 (record { within = omega arith; to_is = sym e5.stands.pc; holds = holds }) refl
+              comes_then 27 4 c4 e5 (record { within = omega arith; to_is = sym e5.is_at.pc; holds = holds }) refl
 
           pub place_is : y.cpu.pc ≡ (if (view y).r.r12 == 0 then COPYE else COPY)
-          place_is = e5.stands.pc ∙ ap (λ (n : ℕ). if n == 0 then COPYE else COPY) (sym (ap (λ (u : View). u.r.r12) e5.shows))
+          place_is = e5.is_at.pc ∙ ap (λ (n : ℕ). if n == 0 then COPYE else COPY) (sym (ap (λ (u : View). u.r.r12) e5.shows))

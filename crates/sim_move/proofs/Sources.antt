@@ -11,7 +11,7 @@ use Rattle.sim_rows.specs.sim_view.Routines.{◌>>◌}
 use Rattle.sim_rows.specs.sim_operands.Routines.{check_index}
 use Rattle.sim_rows.proofs.sim_operands.Ends.{after, answered, ends_as, EndsBy, then_ends}
 use Rattle.sim_move.specs.Rows.{index_source, turn_to_source}
-use Rattle.sim_jumps.proofs.NextAddress.{sought}
+use Rattle.sim_jumps.proofs.NextAddress.{seeks}
 use Rattle.sim_move.proofs.Numbers.{form_by, form_fits, form_index, form_is, form_odd, form_space}
 use Rattle.sim_move.proofs.Seen.{halted, seen, SourceFound, stood}
 use Rattle.sim_rows.specs.sim_operands.Pieces as operands
@@ -108,5 +108,5 @@ turns v image at fits near =
     let one = one_at_most (at_first (next_in_grom at)) in
     let by : ℕ → GromState → Exit = λ n g. exit (1 + (7 + one_if (at_first (next_in_grom at))) + 3 + 3 + 2) MOVEB
     (record (turned v image at) { r = record (turned v image at).r { r14 = n }; grom = g }) in
-    subst (λ (e : Exit). Goes e 17 MOVEB (λ w. w ≡ turned v image at)) (sym (sought image at (λ n. v.r.r2) by fits near))
+    subst (λ (e : Exit). Goes e 17 MOVEB (λ w. w ≡ turned v image at)) (sym (seeks image at (λ n. v.r.r2) by fits near))
     (record { within = omega arith; to_is = refl; holds = refl })

@@ -108,8 +108,8 @@ module _ (s : GplState) (count next : ℕ) (u : View) where
           registers = refl;
           held = refl;
           mark = refl;
-          stands_from = record { loads_from = record { address = refl; space = refl }; grom = ap (grom_at s.image) (sym next_is) };
-          stands_to = record { address = refl; space = refl };
+          holds_source = record { loads_from = record { address = refl; space = refl }; grom = ap (grom_at s.image) (sym next_is) };
+          holds_target = record { address = refl; space = refl };
           left = refl;
         })))
         (λ from w found. found)))

@@ -29,7 +29,7 @@ none_yet x t h = record {
   at = h;
   left = omega arith;
   most = 0;
-  comes = begins x t x.cpu.pc (λ v. Unit {0}) h.stands tt;
+  comes = begins x t x.cpu.pc (λ v. Unit {0}) h.is_at tt;
   within = omega arith;
   rest = λ c from to bytes k left. record { changes = c; from = from; to = to; bytes = bytes; left = left; copying = k; same = refl };
 }

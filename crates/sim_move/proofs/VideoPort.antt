@@ -4,7 +4,7 @@ use Rattle.std.proofs.lemmas.Nat.{and_mask}
 use Rattle.sim_rows.proofs.Common.{high, join, low, next_in_vdp, pair_kind, plus, sum_of, VdpState, with_video_address}
 use Rattle.sim_rows.proofs.Common.{Word, WriteSetup}
 use Rattle.sim_rows.specs.Prelude.{NoOperation, PairKind, ReadSetup, RegisterWrite}
-use Rattle.sim_move.specs.SimCopyPieces.{reading_word, video_at, writing_word}
+use Rattle.sim_move.specs.CopyPieces.{reading_word, video_at, writing_word}
 
 abbrev kind_by : ℕ → PairKind
 kind_by bits =

@@ -3,11 +3,11 @@ use Rattle.std.specs.Prelude.{ℕ, ◌%◌, ◌*◌, ◌+◌, ◌-◌, ◌<◌, 
 use Rattle.sim_rows.specs.Prelude.{byte_from, ShowsChanges, Changes, ReachesWithin, copied, COPY, Cpu, From, FromGrom}
 use Rattle.sim_rows.specs.Prelude.{FromMemory}
 use Rattle.sim_rows.specs.Prelude.{grom_at, GSTEP, IsFetched, MachineState, marked_by, next_from, next_in_vdp, next_to}
-use Rattle.sim_rows.specs.Prelude.{PortsAreIdle, SeesFinished, Space, Stands, To, ToMemory, Vdp, View, view}
+use Rattle.sim_rows.specs.Prelude.{PortsAreIdle, SeesFinished, Space, IsAt, To, ToMemory, Vdp, View, view}
 use Rattle.sim_rows.specs.Prelude.{sum_of, VISIBLE_CELLS, with_byte_to, with_pc, Word}
 use Rattle.sim_move.specs.Copying.{Copying}
-use Rattle.sim_move.specs.SimCopyPieces.{CellsToCells, CellsToVideo, first_cell, GromToCells, GromToVideo, head_of}
-use Rattle.sim_move.specs.SimCopyPieces.{VideoToCells, VideoToVideo, CopyPath}
+use Rattle.sim_move.specs.CopyPieces.{CellsToCells, CellsToVideo, first_cell, GromToCells, GromToVideo, head_of}
+use Rattle.sim_move.specs.CopyPieces.{VideoToCells, VideoToVideo, CopyPath}
 use Rattle.sim_rows.specs.sim_view.Bounds.{most_of_byte, most_to_end_copy}
 use Rattle.sim_rows.specs.native_interp.declared.addresses.TheConstants.{COPYE}
 
@@ -43,7 +43,7 @@ pub data CopiesAt (place : ℕ) (v : View) : Type 0 where
 
 -- Where a byte is copied, or the copy ends.
 pub record AtCopy (x : MachineState) : Type 0 where
-  pub stands : Stands x x.cpu.pc
+  pub is_at : IsAt x x.cpu.pc
   pub place : CopiesAt x.cpu.pc (view x)
   pub idle : PortsAreIdle x.cpu.memory
 

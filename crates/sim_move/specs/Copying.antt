@@ -2,7 +2,7 @@
 use Rattle.std.specs.Prelude.{ℕ, ◌*◌, ◌+◌, ◌<◌, ◌≡◌, ◌≤◌, None}
 use Rattle.sim_rows.specs.Prelude.{Changes, ReachesWithin, copied, From, FromGrom, FromMemory, grom_at, GSTEP}
 use Rattle.sim_rows.specs.Prelude.{IsFetched, LoadsFrom, MachineState, marked_by, MOVEB, Place, PortsAreIdle}
-use Rattle.sim_rows.specs.Prelude.{SeesFinished, Stands, StoresTo, To, ToMemory, ToRegisters, View, view, VISIBLE_CELLS}
+use Rattle.sim_rows.specs.Prelude.{SeesFinished, IsAt, StoresTo, To, ToMemory, ToRegisters, View, view, VISIBLE_CELLS}
 use Rattle.sim_rows.specs.sim_view.Bounds.{most_beside_bytes, most_of_byte}
 
 -- A source in memory: its place is in registers 2 and 5, and GROM gives the byte of the next instruction.
@@ -17,9 +17,9 @@ pub record InGrom (c : Changes) (address : ℕ) (w : View) : Type 0 where
   pub grom : w.grom ≡ grom_at c.state.image address
   pub back : w.r.r14 ≡ c.state.pc
 
-abbrev pub StandsFrom : Changes → From → View → Type 0
-StandsFrom c (FromMemory place) w = InMemory c place w
-StandsFrom c (FromGrom address) w = InGrom c address w
+abbrev pub HoldsSource : Changes → From → View → Type 0
+HoldsSource c (FromMemory place) w = InMemory c place w
+HoldsSource c (FromGrom address) w = InGrom c address w
 
 -- A target among the registers of the video processor: its number is in register 7, and register 8 says so.
 pub record StoresToRegister (number : ℕ) (w : View) : Type 0 where
@@ -27,9 +27,9 @@ pub record StoresToRegister (number : ℕ) (w : View) : Type 0 where
   pub space : w.r.r8 ≡ 2
 
 -- A target in memory: its place is in registers 7 and 8.
-abbrev pub StandsTo : To → View → Type 0
-StandsTo (ToMemory place) w = StoresTo place w
-StandsTo (ToRegisters number) w = StoresToRegister number w
+abbrev pub HoldsTarget : To → View → Type 0
+HoldsTarget (ToMemory place) w = StoresTo place w
+HoldsTarget (ToRegisters number) w = StoresToRegister number w
 
 -- Where a copy stands: the changes so far are seen, both ports are idle, register 13 is a mark where a byte was stored
 -- at the character's cell, and register 12 has the number of bytes that are left.
@@ -39,13 +39,13 @@ pub record Copying (c : Changes) (from : From) (to : To) (bytes : ℕ) (w : View
   pub registers : w.vdp.registers ≡ c.state.registers
   pub held : w.vdp.held ≡ None
   pub mark : w.r.r13 ≡ marked_by c.shows 0
-  pub stands_from : StandsFrom c from w
-  pub stands_to : StandsTo to w
+  pub holds_source : HoldsSource c from w
+  pub holds_target : HoldsTarget to w
   pub left : w.r.r12 ≡ bytes
 
 -- At MOVEB the copy may begin: no register names what is not there.
 pub record MayCopy (x : MachineState) : Type 0 where
-  pub stands : Stands x MOVEB
+  pub is_at : IsAt x MOVEB
   pub idle : PortsAreIdle x.cpu.memory
   pub fetched : IsFetched x.cpu.memory.grom
   pub source : let r = (view x).r in r.r5 ≡ 0 → r.r2 + r.r12 ≤ VISIBLE_CELLS

@@ -2,6 +2,6 @@ pub mod Pieces
 pub mod Rows
 pub mod Family
 pub mod Moves
-pub mod SimCopyPieces
+pub mod CopyPieces
 pub mod Copying
 pub mod Bytes

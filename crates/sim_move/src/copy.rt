@@ -1,13 +1,13 @@
 //! The copy, from its beginning to the end of the step.
 
 ghost use Rattle.std.specs.Prelude.{◌<◌, ◌≡◌};
-ghost use Rattle.sim_rows.specs.Prelude.{Exits, Stands, view};
+ghost use Rattle.sim_rows.specs.Prelude.{Exits, IsAt, view};
 ghost use Rattle.sim_move.specs.Bytes.{AtCopy, ByRoutines, CopiesByte, CopiesRest, EndsCopy};
 ghost use Rattle.sim_move.specs.Copying.{CopiesBytes, MayCopy};
-ghost use Rattle.sim_move.specs.SimCopyPieces as piece;
+ghost use Rattle.sim_move.specs.CopyPieces as piece;
 ghost use Rattle.sim_rows.specs.native_interp.declared.addresses.TheConstants as address;
 
-use crate::sim_copy_pieces::{
+use crate::copy_pieces::{
     begin_copy, copy_cell, copy_cell_to_video, copy_grom, copy_grom_to_video, copy_in_video,
     copy_video, count_byte, leave_copy, next_byte, set_source, set_target, store_byte,
 };
@@ -20,7 +20,7 @@ use std::sync::ledger::Ledger;
 
 /// Begins the copy: where video memory is read or written, its port is set or made ready.
 fn start_copy<L: Ledger>(machine: &mut Machine, steps: &mut Steps<L>)
-    requires { Stands machine.old address.MOVEB }
+    requires { IsAt machine.old address.MOVEB }
     ensures { Exits machine.old machine.new steps.old steps.new (piece.start_copy (view machine.old)) }
 {
     begin_copy(machine, steps);
@@ -58,7 +58,7 @@ fn copy_byte<L: Ledger>(machine: &mut Machine, steps: &mut Steps<L>)
 
 /// Copies a byte of those that are left to a register of the video processor, by LOAD and STORE.
 fn copy_by_routines<L: Ledger>(machine: &mut Machine, steps: &mut Steps<L>)
-    requires stands { Stands machine.old address.COPY }
+    requires is_at { IsAt machine.old address.COPY }
     requires at { AtCopy machine.old }
     requires left { ByRoutines (view machine.old) }
     ensures { CopiesByte machine.old machine.new steps.old steps.new }

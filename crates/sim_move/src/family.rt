@@ -1,7 +1,7 @@
 //! MOVE from its dispatch to the end of the step.
 
 ghost use Rattle.std.specs.Prelude.{◌≡◌, true};
-ghost use Rattle.sim_rows.specs.Prelude.{AtDispatch, Dispatched, from_dispatch, operation_in_view, Stands};
+ghost use Rattle.sim_rows.specs.Prelude.{AtDispatch, Dispatched, from_dispatch, operation_in_view, IsAt};
 ghost use Rattle.sim_rows.specs.Prelude.{state_at_dispatch, Turned, view};
 ghost use Rattle.sim_move.specs.Family.{is_move};
 ghost use Rattle.sim_move.specs.Moves.{FindsCopy};
@@ -19,7 +19,7 @@ use std::sync::ledger::Ledger;
 
 /// Finds the length, the target and the source of MOVE, or stops by the reason of the first that is not there.
 fn decode_move<L: Ledger>(machine: &mut Machine, steps: &mut Steps<L>)
-    requires stands { Stands machine.old address.GOMOVE }
+    requires is_at { IsAt machine.old address.GOMOVE }
     requires dispatched { let v = view machine.old in Dispatched (state_at_dispatch v) v }
     requires family { is_move (operation_in_view (view machine.old)) ≡ true }
     ensures { let s = state_at_dispatch (view machine.old) in FindsCopy s machine.old machine.new steps.old steps.new }

@@ -1,7 +1,7 @@
 //! The length of MOVE.
 
 ghost use Rattle.std.specs.Prelude.{◌≡◌};
-ghost use Rattle.sim_rows.specs.Prelude.{Dispatched, Exits, Stands, state_at_dispatch, view};
+ghost use Rattle.sim_rows.specs.Prelude.{Dispatched, Exits, IsAt, state_at_dispatch, view};
 ghost use Rattle.sim_rows.specs.sim_operands.Routines.{CanLoad};
 ghost use Rattle.sim_rows.specs.native_interp.declared.addresses.TheConstants as address;
 ghost use Rattle.sim_move.specs.Rows.{IsReady};
@@ -15,7 +15,7 @@ use std::sync::ledger::Ledger;
 
 /// Loads the length of MOVE, which follows in GROM or is at a place that was found.
 fn load_count<L: Ledger>(machine: &mut Machine, steps: &mut Steps<L>)
-    requires stands { Stands machine.old address.MOVEN }
+    requires is_at { IsAt machine.old address.MOVEN }
     requires visible { CanLoad (view machine.old) }
     ensures { Exits machine.old machine.new steps.old steps.new (row.load_count (view machine.old)) }
 {
@@ -25,7 +25,7 @@ fn load_count<L: Ledger>(machine: &mut Machine, steps: &mut Steps<L>)
 
 /// Finds the place of the length and loads it, or stops by reason 2.
 fn load_placed<L: Ledger>(machine: &mut Machine, steps: &mut Steps<L>)
-    requires stands { Stands machine.old address.ADDR }
+    requires is_at { IsAt machine.old address.ADDR }
     requires ready { IsReady (view machine.old) }
     requires word { (view machine.old).r.r3 ≡ 2 }
     ensures { Exits machine.old machine.new steps.old steps.new (row.load_placed (view machine.old)) }
@@ -38,7 +38,7 @@ fn load_placed<L: Ledger>(machine: &mut Machine, steps: &mut Steps<L>)
 
 /// Finds the length of MOVE, at an operand or in the bytes that follow, or stops by reason 2.
 pub(crate) fn find_length<L: Ledger>(machine: &mut Machine, steps: &mut Steps<L>)
-    requires stands { Stands machine.old address.GOMOVE }
+    requires is_at { IsAt machine.old address.GOMOVE }
     requires dispatched { let v = view machine.old in Dispatched (state_at_dispatch v) v }
     ensures { Exits machine.old machine.new steps.old steps.new (row.find_length (view machine.old)) }
 {

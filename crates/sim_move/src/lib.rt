@@ -6,7 +6,7 @@ mod family;
 mod length;
 mod pieces;
 mod reason;
-mod sim_copy_pieces;
+mod copy_pieces;
 mod source;
 mod target;
 
@@ -16,7 +16,7 @@ pub use pieces::{
     load_length, seek_source, turn_to_grom,
 };
 pub use copy::copy_bytes;
-pub use sim_copy_pieces::{
+pub use copy_pieces::{
     begin_copy, copy_cell, copy_cell_to_video, copy_grom, copy_grom_to_video, copy_in_video,
     copy_video, count_byte, leave_copy, next_byte, set_source, set_target, store_byte,
 };

@@ -1,6 +1,6 @@
 //! The pieces of MOVE, up to its copy.
 
-ghost use Rattle.sim_rows.specs.Prelude.{Exits, Stands, view};
+ghost use Rattle.sim_rows.specs.Prelude.{Exits, IsAt, view};
 ghost use Rattle.sim_rows.specs.native_interp.declared.addresses.TheConstants as address;
 ghost use Rattle.sim_move.specs.Pieces as piece;
 
@@ -11,7 +11,7 @@ use std::sync::ledger::Ledger;
 
 /// The piece of MOVE that asks ADDR for the operand that holds the length, where the code byte is even.
 pub fn ask_length<L: Ledger>(machine: &mut Machine, steps: &mut Steps<L>)
-    requires { Stands machine.old address.GOMOVE }
+    requires { IsAt machine.old address.GOMOVE }
     ensures { Exits machine.old machine.new steps.old steps.new (piece.ask_length (view machine.old)) }
 {
     run_piece(machine, steps, &[ADDR, MOVEN]);
@@ -19,7 +19,7 @@ pub fn ask_length<L: Ledger>(machine: &mut Machine, steps: &mut Steps<L>)
 
 /// The piece of MOVE that asks LOAD for the length.
 pub fn load_length<L: Ledger>(machine: &mut Machine, steps: &mut Steps<L>)
-    requires { Stands machine.old address.MOVEN }
+    requires { IsAt machine.old address.MOVEN }
     ensures { Exits machine.old machine.new steps.old steps.new (piece.load_length (view machine.old)) }
 {
     run_piece(machine, steps, &[LOAD]);
@@ -28,7 +28,7 @@ pub fn load_length<L: Ledger>(machine: &mut Machine, steps: &mut Steps<L>)
 /// The piece of MOVE that keeps the length and asks ADDR for the target, unless that is registers, or stops by reason
 /// 4.
 pub fn keep_length<L: Ledger>(machine: &mut Machine, steps: &mut Steps<L>)
-    requires { Stands machine.old address.MOVEL }
+    requires { IsAt machine.old address.MOVEL }
     ensures { Exits machine.old machine.new steps.old steps.new (piece.keep_length (view machine.old)) }
 {
     run_piece(machine, steps, &[ADDR, MOVER]);
@@ -36,7 +36,7 @@ pub fn keep_length<L: Ledger>(machine: &mut Machine, steps: &mut Steps<L>)
 
 /// The piece of MOVE that keeps the target and asks ADDR for the source, unless that is in GROM.
 pub fn keep_target<L: Ledger>(machine: &mut Machine, steps: &mut Steps<L>)
-    requires { Stands machine.old address.MOVED }
+    requires { IsAt machine.old address.MOVED }
     ensures { Exits machine.old machine.new steps.old steps.new (piece.keep_target (view machine.old)) }
 {
     run_piece(machine, steps, &[ADDR, MOVES]);
@@ -44,7 +44,7 @@ pub fn keep_target<L: Ledger>(machine: &mut Machine, steps: &mut Steps<L>)
 
 /// The piece of MOVE that takes registers as the target, or stops by reason 5.
 pub fn check_registers<L: Ledger>(machine: &mut Machine, steps: &mut Steps<L>)
-    requires { Stands machine.old address.MOVER }
+    requires { IsAt machine.old address.MOVER }
     ensures { Exits machine.old machine.new steps.old steps.new (piece.check_registers (view machine.old)) }
 {
     run_piece(machine, steps, &[MOVES]);
@@ -52,7 +52,7 @@ pub fn check_registers<L: Ledger>(machine: &mut Machine, steps: &mut Steps<L>)
 
 /// The piece of MOVE that asks STREAM for the address of a source in GROM.
 pub fn ask_source<L: Ledger>(machine: &mut Machine, steps: &mut Steps<L>)
-    requires { Stands machine.old address.MOVES }
+    requires { IsAt machine.old address.MOVES }
     ensures { Exits machine.old machine.new steps.old steps.new (piece.ask_source (view machine.old)) }
 {
     run_piece(machine, steps, &[STREAM]);
@@ -60,7 +60,7 @@ pub fn ask_source<L: Ledger>(machine: &mut Machine, steps: &mut Steps<L>)
 
 /// The piece of MOVE that asks INDEX for that address with its index.
 pub fn ask_index<L: Ledger>(machine: &mut Machine, steps: &mut Steps<L>)
-    requires { Stands machine.old address.MOVEA }
+    requires { IsAt machine.old address.MOVEA }
     ensures { Exits machine.old machine.new steps.old steps.new (piece.ask_index (view machine.old)) }
 {
     run_piece(machine, steps, &[INDEX]);
@@ -68,7 +68,7 @@ pub fn ask_index<L: Ledger>(machine: &mut Machine, steps: &mut Steps<L>)
 
 /// The piece of MOVE that asks WHERE for the next address.
 pub fn ask_next<L: Ledger>(machine: &mut Machine, steps: &mut Steps<L>)
-    requires { Stands machine.old address.MOVEX }
+    requires { IsAt machine.old address.MOVEX }
     ensures { Exits machine.old machine.new steps.old steps.new (piece.ask_next (view machine.old)) }
 {
     run_piece(machine, steps, &[WHERE]);
@@ -76,7 +76,7 @@ pub fn ask_next<L: Ledger>(machine: &mut Machine, steps: &mut Steps<L>)
 
 /// The piece of MOVE that keeps the next address and asks SEEK for the address of the source.
 pub fn seek_source<L: Ledger>(machine: &mut Machine, steps: &mut Steps<L>)
-    requires { Stands machine.old address.MOVEW }
+    requires { IsAt machine.old address.MOVEW }
     ensures { Exits machine.old machine.new steps.old steps.new (piece.seek_source (view machine.old)) }
 {
     run_piece(machine, steps, &[SEEK]);
@@ -84,7 +84,7 @@ pub fn seek_source<L: Ledger>(machine: &mut Machine, steps: &mut Steps<L>)
 
 /// The piece of MOVE that turns to the bytes there.
 pub fn turn_to_grom<L: Ledger>(machine: &mut Machine, steps: &mut Steps<L>)
-    requires { Stands machine.old address.MOVEK }
+    requires { IsAt machine.old address.MOVEK }
     ensures { Exits machine.old machine.new steps.old steps.new (piece.turn_to_grom (view machine.old)) }
 {
     run_piece(machine, steps, &[MOVEB]);

@@ -1,6 +1,6 @@
 //! A source in GROM.
 
-ghost use Rattle.sim_rows.specs.Prelude.{Exits, Stands, view};
+ghost use Rattle.sim_rows.specs.Prelude.{Exits, IsAt, view};
 ghost use Rattle.sim_rows.specs.native_interp.declared.addresses.TheConstants as address;
 ghost use Rattle.sim_move.specs.Rows as row;
 
@@ -12,7 +12,7 @@ use std::sync::ledger::Ledger;
 
 /// Reads the address of a source in GROM and adds its index, or stops by reason 2.
 pub(crate) fn index_source<L: Ledger>(machine: &mut Machine, steps: &mut Steps<L>)
-    requires { Stands machine.old address.MOVES }
+    requires { IsAt machine.old address.MOVES }
     ensures { Exits machine.old machine.new steps.old steps.new (row.index_source (view machine.old)) }
 {
     ask_source(machine, steps);
@@ -23,7 +23,7 @@ pub(crate) fn index_source<L: Ledger>(machine: &mut Machine, steps: &mut Steps<L
 
 /// Keeps the next address and sets GROM to the address of the source.
 pub(crate) fn turn_to_source<L: Ledger>(machine: &mut Machine, steps: &mut Steps<L>)
-    requires { Stands machine.old address.MOVEX }
+    requires { IsAt machine.old address.MOVEX }
     ensures { Exits machine.old machine.new steps.old steps.new (row.turn_to_source (view machine.old)) }
 {
     ask_next(machine, steps);

@@ -1,6 +1,6 @@
 //! The target of MOVE, and the source where it is in memory.
 
-ghost use Rattle.sim_rows.specs.Prelude.{Exits, Stands, view};
+ghost use Rattle.sim_rows.specs.Prelude.{Exits, IsAt, view};
 ghost use Rattle.sim_rows.specs.native_interp.declared.addresses.TheConstants as address;
 ghost use Rattle.sim_move.specs.Rows as row;
 
@@ -12,7 +12,7 @@ use std::sync::ledger::Ledger;
 
 /// Keeps the target, and finds the source where that is in memory too, or stops by reason 2.
 fn find_source<L: Ledger>(machine: &mut Machine, steps: &mut Steps<L>)
-    requires { Stands machine.old address.MOVED }
+    requires { IsAt machine.old address.MOVED }
     ensures { Exits machine.old machine.new steps.old steps.new (row.find_source (view machine.old)) }
 {
     keep_target(machine, steps);
@@ -23,7 +23,7 @@ fn find_source<L: Ledger>(machine: &mut Machine, steps: &mut Steps<L>)
 
 /// Finds a target in memory and goes on to the source, or stops by reason 2.
 fn find_in_memory<L: Ledger>(machine: &mut Machine, steps: &mut Steps<L>)
-    requires { Stands machine.old address.ADDR }
+    requires { IsAt machine.old address.ADDR }
     ensures { Exits machine.old machine.new steps.old steps.new (row.find_in_memory (view machine.old)) }
 {
     address_routine(machine, steps);
@@ -36,7 +36,7 @@ fn find_in_memory<L: Ledger>(machine: &mut Machine, steps: &mut Steps<L>)
 /// source, unless that is in GROM. It stops by reason 4 where the length is above its limit, by reason 5 where a
 /// register is not there, and by reason 2 where a cell is not visible.
 pub(crate) fn find_places<L: Ledger>(machine: &mut Machine, steps: &mut Steps<L>)
-    requires { Stands machine.old address.MOVEL }
+    requires { IsAt machine.old address.MOVEL }
     ensures { Exits machine.old machine.new steps.old steps.new (row.find_places (view machine.old)) }
 {
     keep_length(machine, steps);

@@ -2,7 +2,7 @@
 pub use Rattle.std.proofs.Common.{ℕ, ◌<◌, ◌==◌, ◌≡◌, ◌≤◌, ap, arith, false, refl, subst, true}
 pub use Rattle.sim_rows.proofs.sim_view.Routines.{exit_then, exits_by, shown}
 pub use Rattle.sim_rows.specs.sim_operands.Routines.{CanLoad, CanStore, load, store}
-pub use Rattle.sim_rows.proofs.Common.{DIVBY, DIVQ, even, is_turn_end, off, on, OVER, Stands, state_at_dispatch, View, view}
+pub use Rattle.sim_rows.proofs.Common.{DIVBY, DIVQ, even, is_turn_end, off, on, OVER, IsAt, state_at_dispatch, View, view}
 pub use Rattle.sim_muldiv.proofs.Ways.{multiplied_bytes, multiplied_words}
 pub use Rattle.sim_muldiv.proofs.RowFacts.{first_visible, ready, second_visible, some_divisor, word_visible}
 pub use Rattle.sim_muldiv.specs.Pieces.{clear_overflow, divide_words, low_product, set_overflow, take_remainder}

@@ -19,18 +19,18 @@ module _ {x a : MachineState} {t u : ℕ} where
 
   pub over : (v : View) (fits one : Bool) → a.cpu.pc ≡ OVER → Went x a t u v fits one →
       (fits ≡ false) × Exits x a t u (exit 2 OVER v)
-  over v true true at e = let o = sym at ∙ e.stands.pc in absurd (omega arith)
-  over v true false at e = let o = sym at ∙ e.stands.pc in absurd (omega arith)
+  over v true true at e = let o = sym at ∙ e.is_at.pc in absurd (omega arith)
+  over v true false at e = let o = sym at ∙ e.is_at.pc in absurd (omega arith)
   over v false one at e = (refl, e)
 
   pub bytes : (v : View) (fits one : Bool) → a.cpu.pc ≡ DIVBY → Went x a t u v fits one →
       (fits ≡ true) × (one ≡ true) × Exits x a t u (exit 4 DIVBY v)
   bytes v true true at e = (refl, refl, e)
-  bytes v true false at e = let o = sym at ∙ e.stands.pc in absurd (omega arith)
-  bytes v false one at e = let o = sym at ∙ e.stands.pc in absurd (omega arith)
+  bytes v true false at e = let o = sym at ∙ e.is_at.pc in absurd (omega arith)
+  bytes v false one at e = let o = sym at ∙ e.is_at.pc in absurd (omega arith)
 
   pub words : (v : View) (fits one : Bool) → (a.cpu.pc ≡ OVER → ⊥) → (a.cpu.pc ≡ DIVBY → ⊥) → Went x a t u v fits one →
       (fits ≡ true) × (one ≡ false) × Exits x a t u (exit 4 DIVW v)
-  words v true true not_over not_bytes e = absurd (not_bytes e.stands.pc)
+  words v true true not_over not_bytes e = absurd (not_bytes e.is_at.pc)
   words v true false not_over not_bytes e = (refl, refl, e)
-  words v false one not_over not_bytes e = absurd (not_over e.stands.pc)
+  words v false one not_over not_bytes e = absurd (not_over e.is_at.pc)

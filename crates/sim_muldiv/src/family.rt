@@ -1,7 +1,7 @@
 //! MUL and DIV, from their dispatch to the end of the step.
 
 ghost use Rattle.std.specs.Prelude.{◌≡◌, Some, true};
-ghost use Rattle.sim_rows.specs.Prelude.{AtDispatch, Exits, row_entry, Stands};
+ghost use Rattle.sim_rows.specs.Prelude.{AtDispatch, Exits, row_entry, IsAt};
 ghost use Rattle.sim_rows.specs.Prelude.{from_dispatch, state_at_dispatch, Turned, Two, view};
 ghost use Rattle.sim_muldiv.specs.Family.{is_muldiv};
 ghost use Rattle.sim_muldiv.specs.Rows as row;
@@ -15,7 +15,7 @@ use std::sync::ledger::Ledger;
 
 /// Runs the row of MUL or DIV to the end of the step.
 fn run_row_of_two<L: Ledger>(machine: &mut Machine, steps: &mut Steps<L>, name: TwoName)
-    requires stands { Stands machine.old (row_entry (Some (Two name))) }
+    requires is_at { IsAt machine.old (row_entry (Some (Two name))) }
     requires family { is_muldiv (Some (Two name)) ≡ true }
     requires ready { row.IsReady (view machine.old) }
     ensures { Exits machine.old machine.new steps.old steps.new (row.row (Two name) (view machine.old)) }
@@ -29,7 +29,7 @@ fn run_row_of_two<L: Ledger>(machine: &mut Machine, steps: &mut Steps<L>, name: 
 
 /// The same, by the operation that was found.
 fn run_row<L: Ledger>(machine: &mut Machine, steps: &mut Steps<L>, operation: GplOperation)
-    requires stands { Stands machine.old (row_entry (Some operation)) }
+    requires is_at { IsAt machine.old (row_entry (Some operation)) }
     requires family { is_muldiv (Some operation) ≡ true }
     requires ready { row.IsReady (view machine.old) }
     ensures { Exits machine.old machine.new steps.old steps.new (row.row operation (view machine.old)) }

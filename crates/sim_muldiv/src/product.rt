@@ -1,7 +1,7 @@
 //! MUL: the product of numbers without sign.
 
 ghost use Rattle.std.specs.Prelude.{◌==◌, IsFalse, IsTrue};
-ghost use Rattle.sim_rows.specs.Prelude.{Exits, Stands, view};
+ghost use Rattle.sim_rows.specs.Prelude.{Exits, IsAt, view};
 ghost use Rattle.sim_rows.specs.native_interp.declared.addresses.TheConstants as address;
 ghost use Rattle.sim_muldiv.specs.Rows as row;
 
@@ -13,7 +13,7 @@ use std::sync::ledger::Ledger;
 
 /// Runs MUL of bytes from its row to the end of the step.
 fn run_byte_product<L: Ledger>(machine: &mut Machine, steps: &mut Steps<L>)
-    requires stands { Stands machine.old address.MULV }
+    requires is_at { IsAt machine.old address.MULV }
     requires visible { row.AreVisible (view machine.old) }
     requires byte { IsTrue ((view machine.old).r.r3 == 1) }
     ensures { Exits machine.old machine.new steps.old steps.new (row.byte_product (view machine.old)) }
@@ -24,7 +24,7 @@ fn run_byte_product<L: Ledger>(machine: &mut Machine, steps: &mut Steps<L>)
 
 /// Runs MUL of words from its row to the end of the step.
 fn run_word_product<L: Ledger>(machine: &mut Machine, steps: &mut Steps<L>)
-    requires stands { Stands machine.old address.MULV }
+    requires is_at { IsAt machine.old address.MULV }
     requires visible { row.AreVisible (view machine.old) }
     requires word { IsFalse ((view machine.old).r.r3 == 1) }
     ensures { Exits machine.old machine.new steps.old steps.new (row.word_product (view machine.old)) }
@@ -37,7 +37,7 @@ fn run_word_product<L: Ledger>(machine: &mut Machine, steps: &mut Steps<L>)
 
 /// Runs MUL from its row to the end of the step.
 pub fn run_product<L: Ledger>(machine: &mut Machine, steps: &mut Steps<L>)
-    requires stands { Stands machine.old address.MULV }
+    requires is_at { IsAt machine.old address.MULV }
     requires visible { row.AreVisible (view machine.old) }
     ensures { Exits machine.old machine.new steps.old steps.new (row.product (view machine.old)) }
 {

@@ -1,7 +1,7 @@
 //! DIV: the quotient and the remainder of numbers without sign.
 
 ghost use Rattle.std.specs.Prelude.{◌<◌, ◌==◌, ◌≡◌, ◌≤◌, IsFalse, IsTrue};
-ghost use Rattle.sim_rows.specs.Prelude.{Exits, Stands, view};
+ghost use Rattle.sim_rows.specs.Prelude.{Exits, IsAt, view};
 ghost use Rattle.sim_rows.specs.native_interp.declared.addresses.TheConstants as address;
 ghost use Rattle.sim_rows.specs.sim_operands.Routines.{CanStore};
 ghost use Rattle.sim_muldiv.specs.Rows as row;
@@ -18,7 +18,7 @@ use std::sync::ledger::Ledger;
 
 /// Stores the last word of a division and ends its row.
 fn end_division<L: Ledger>(machine: &mut Machine, steps: &mut Steps<L>)
-    requires stands { Stands machine.old address.DIVS }
+    requires is_at { IsAt machine.old address.DIVS }
     requires visible { CanStore (view machine.old) }
     ensures { Exits machine.old machine.new steps.old steps.new (row.end_division (view machine.old)) }
 {
@@ -30,7 +30,7 @@ fn end_division<L: Ledger>(machine: &mut Machine, steps: &mut Steps<L>)
 
 /// Runs DIV of bytes, whose quotient fits, to the end of the step.
 fn run_byte_quotient<L: Ledger>(machine: &mut Machine, steps: &mut Steps<L>)
-    requires stands { Stands machine.old address.DIVBY }
+    requires is_at { IsAt machine.old address.DIVBY }
     requires visible { row.AreVisible (view machine.old) }
     requires byte { IsTrue ((view machine.old).r.r3 == 1) }
     requires fits { 256 ≤ (view machine.old).r.r6 }
@@ -42,7 +42,7 @@ fn run_byte_quotient<L: Ledger>(machine: &mut Machine, steps: &mut Steps<L>)
 
 /// Loads the second word of the dividend and divides.
 fn load_and_divide<L: Ledger>(machine: &mut Machine, steps: &mut Steps<L>)
-    requires stands { Stands machine.old address.DIVW }
+    requires is_at { IsAt machine.old address.DIVW }
     requires visible { row.AreVisible (view machine.old) }
     requires word { IsFalse ((view machine.old).r.r3 == 1) }
     requires fits { let r = (view machine.old).r in r.r9 < r.r6 }
@@ -55,7 +55,7 @@ fn load_and_divide<L: Ledger>(machine: &mut Machine, steps: &mut Steps<L>)
 
 /// Stores a quotient, and the remainder after it, and ends the row.
 fn store_quotient<L: Ledger>(machine: &mut Machine, steps: &mut Steps<L>)
-    requires stands { Stands machine.old address.STORE }
+    requires is_at { IsAt machine.old address.STORE }
     requires link { (view machine.old).r.r11 ≡ address.DIVQ }
     requires visible { row.AreVisible (view machine.old) }
     requires word { IsFalse ((view machine.old).r.r3 == 1) }
@@ -68,7 +68,7 @@ fn store_quotient<L: Ledger>(machine: &mut Machine, steps: &mut Steps<L>)
 
 /// Runs DIV of words, whose quotient fits, to the end of the step.
 fn run_word_quotient<L: Ledger>(machine: &mut Machine, steps: &mut Steps<L>)
-    requires stands { Stands machine.old address.DIVW }
+    requires is_at { IsAt machine.old address.DIVW }
     requires visible { row.AreVisible (view machine.old) }
     requires word { IsFalse ((view machine.old).r.r3 == 1) }
     requires fits { let r = (view machine.old).r in r.r9 < r.r6 }
@@ -80,7 +80,7 @@ fn run_word_quotient<L: Ledger>(machine: &mut Machine, steps: &mut Steps<L>)
 
 /// Runs DIV from its row to the end of the step.
 pub fn run_quotient<L: Ledger>(machine: &mut Machine, steps: &mut Steps<L>)
-    requires stands { Stands machine.old address.DIVV }
+    requires is_at { IsAt machine.old address.DIVV }
     requires ready { row.IsReady (view machine.old) }
     ensures { Exits machine.old machine.new steps.old steps.new (row.quotient (view machine.old)) }
 {

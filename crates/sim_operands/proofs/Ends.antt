@@ -95,7 +95,7 @@ ends_into (Err reason) g ends f = record { by = ends.by }
 
 module _ {x y : MachineState} {before middle : ℕ} where
   pub not_at : (at : ℕ) {e : Exit} → Exits x y before middle e → (y.cpu.pc ≡ at → ⊥) → (e.to == at) ≡ false
-  not_at at {e = e} run away = ne_eqb e.to at (λ q. away (run.stands.pc ∙ q))
+  not_at at {e = e} run away = ne_eqb e.to at (λ q. away (run.is_at.pc ∙ q))
 
   pub goes_on : (at : ℕ) (f : View → Exit) (d : Exit) {e : Exit} {z : MachineState} {last : ℕ} →
       Exits x y before middle e → (e.to == at) ≡ true → is_turn_end at ≡ false → Exits y z middle last (f (view y)) →
@@ -112,7 +112,7 @@ module _ {x y : MachineState} {before middle : ℕ} where
     pub goes_at : (at : ℕ) (f : View → Exit) (d : Exit) {e : Exit} {z : MachineState} {last : ℕ} →
         Exits x y before middle e → found ≡ at → is_turn_end at ≡ false → Exits y z middle last (f (view y)) →
         Exits x z before last (on_at at e f d)
-    goes_at at f d {e = e} run here = goes_on at f d run (eq-eqb e.to at (sym run.stands.pc ∙ sym is ∙ here))
+    goes_at at f d {e = e} run here = goes_on at f d run (eq-eqb e.to at (sym run.is_at.pc ∙ sym is ∙ here))
 
     pub stays : (at : ℕ) (f : View → Exit) {d e : Exit} {z : MachineState} {last : ℕ} → Exits x y before middle e →
         (found ≡ at → ⊥) → Exits x z before last d → Exits x z before last (on_at at e f d)

@@ -3,7 +3,7 @@ use Rattle.std.proofs.Common.{ℕ, ◌%◌, ◌/◌, ◌==◌, ◌≡◌, ◌≤
 use Rattle.sim_view.specs.Prelude.{is_set, space_of}
 use Rattle.sim_view.proofs.Common.{◌>>=◌, ADDR, ASPACE, comes, Exit, Exits, GplOperand, HoldsBytes, INDEX, index_at, indexed}
 use Rattle.sim_view.proofs.Common.{is_view, IsFetched, MachineState, operand_at, pick, Place, place_of, pointed, PortsAreIdle, ranged}
-use Rattle.sim_view.proofs.Common.{Reason, shifted, SLA, SRL, Stands, View, view}
+use Rattle.sim_view.proofs.Common.{Reason, shifted, SLA, SRL, IsAt, View, view}
 use Rattle.sim_view.specs.native_interp.declared.addresses.TheConstants.{ASHORT}
 use Rattle.sim_view.specs.Prelude.{is_turn_end}
 use Rattle.sim_view.specs.Routines.{◌>>◌}
@@ -78,11 +78,11 @@ module _ {x y : MachineState} {s t : ℕ} where
   found next (Ok place) run g = comes run g.by
   found next (Err reason) run g = comes run g.by
 
-  pub finds_operand : Stands x ADDR → PortsAreIdle x.cpu.memory → IsFetched x.cpu.memory.grom → (view x).r.r3 ≤ 16384 →
+  pub finds_operand : IsAt x ADDR → PortsAreIdle x.cpu.memory → IsFetched x.cpu.memory.grom → (view x).r.r3 ≤ 16384 →
       Exits x y s t (find_operand (view x)) → FindsOperand x y s t
-  finds_operand stands idle fetched few run =
+  finds_operand is_at idle fetched few run =
       let v = view x in
       let read = operand_at v.grom.image (next_at v) in
-      let all = (is_view x stands.machine).grom.image in
+      let all = (is_view x is_at.machine).grom.image in
       found read.1 (place_of (state_of v) v.r.r3 read.0) run
       (operand_goes v (next_at v) (ready x.cpu.memory idle fetched) all few)

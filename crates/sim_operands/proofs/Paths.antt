@@ -134,10 +134,10 @@ index_some v c = record { by = λ f. rw c refl }
 index_near : (v : View) → IsView v → nat_lt 0xC0 v.grom.fetched ≡ false → Part (ASPACE ∷ []) 4 (with_form v) INDEXR (with_offset v) INDEXW
 index_near v i d = record { by = λ f. rw (down v.grom.fetched (low (shifted SRL v.r.r5 2)) i.grom.fetched (omega arith), d) refl }
 
-abbrev index_barred : View → Exit
-index_barred v = pieces.operand_stop 8 (with_offset v)
+abbrev index_rejected : View → Exit
+index_rejected v = pieces.operand_stop 8 (with_offset v)
 
-index_far : (v : View) → IsView v → nat_lt 0xC0 v.grom.fetched ≡ true → Rest (ASPACE ∷ []) 3 13 (with_form v) INDEXR (index_barred v)
+index_far : (v : View) → IsView v → nat_lt 0xC0 v.grom.fetched ≡ true → Rest (ASPACE ∷ []) 3 13 (with_form v) INDEXR (index_rejected v)
 index_far v i d =
     record { by = λ f. rw (down v.grom.fetched (low (shifted SRL v.r.r5 2)) i.grom.fetched (omega arith), d, not_limit 0xC0 v.grom.fetched d) refl }
 

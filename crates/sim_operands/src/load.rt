@@ -1,7 +1,7 @@
 //! LOAD: a value.
 
 ghost use Rattle.std.specs.Prelude.{◌<◌, ◌≡◌};
-ghost use Rattle.sim_view.specs.Prelude.{Exits, IsFetched, PortsAreIdle, Stands, view};
+ghost use Rattle.sim_view.specs.Prelude.{Exits, IsFetched, PortsAreIdle, IsAt, view};
 ghost use Rattle.sim_view.specs.native_interp.declared.addresses.TheConstants as address;
 ghost use Rattle.sim_operands.specs.Values.{IsVisible};
 ghost use Rattle.sim_operands.specs.Routines.{CanLoad};
@@ -16,7 +16,7 @@ use std::sync::ledger::Ledger;
 
 /// The piece of LOAD that reads cells, or sets the video processor to the address, or goes on at STREAM.
 pub fn load_value<L: Ledger>(machine: &mut Machine, steps: &mut Steps<L>)
-    requires stands { Stands machine.old address.LOAD }
+    requires is_at { IsAt machine.old address.LOAD }
     requires visible { let r = (view machine.old).r in IsVisible r.r5 r.r2 r.r3 }
     ensures { Exits machine.old machine.new steps.old steps.new (piece.load (view machine.old)) }
 {
@@ -25,7 +25,7 @@ pub fn load_value<L: Ledger>(machine: &mut Machine, steps: &mut Steps<L>)
 
 /// The piece of LOAD that reads video memory.
 pub fn load_video<L: Ledger>(machine: &mut Machine, steps: &mut Steps<L>)
-    requires { Stands machine.old address.LDATA }
+    requires { IsAt machine.old address.LDATA }
     ensures { Exits machine.old machine.new steps.old steps.new (piece.load_video (view machine.old)) }
 {
     run_piece(machine, steps, &[]);
@@ -33,7 +33,7 @@ pub fn load_video<L: Ledger>(machine: &mut Machine, steps: &mut Steps<L>)
 
 /// The piece of LOAD that reads the bytes that follow in GROM.
 pub fn stream_value<L: Ledger>(machine: &mut Machine, steps: &mut Steps<L>)
-    requires { Stands machine.old address.STREAM }
+    requires { IsAt machine.old address.STREAM }
     ensures { Exits machine.old machine.new steps.old steps.new (piece.stream (view machine.old)) }
 {
     run_piece(machine, steps, &[]);
@@ -42,7 +42,7 @@ pub fn stream_value<L: Ledger>(machine: &mut Machine, steps: &mut Steps<L>)
 /// LOAD, whole. It does what its pieces do, and keeps all but registers 4 and 6, the video processor and the GROMs; it
 /// comes to the address in register 11.
 pub fn load_routine<L: Ledger>(machine: &mut Machine, steps: &mut Steps<L>)
-    requires stands { Stands machine.old address.LOAD }
+    requires is_at { IsAt machine.old address.LOAD }
     requires visible { CanLoad (view machine.old) }
     ensures { Exits machine.old machine.new steps.old steps.new (routine.load (view machine.old)) }
 {
@@ -60,7 +60,7 @@ pub fn load_routine<L: Ledger>(machine: &mut Machine, steps: &mut Steps<L>)
 /// It takes at most 15 instructions, changes register 4 and the address of the video processor too, and
 /// comes to the address in register 11.
 pub fn run_load<L: Ledger>(machine: &mut Machine, steps: &mut Steps<L>)
-    requires stands { Stands machine.old address.LOAD }
+    requires is_at { IsAt machine.old address.LOAD }
     requires idle { PortsAreIdle machine.old.cpu.memory }
     requires visible { let r = (view machine.old).r in IsVisible r.r5 r.r2 r.r3 }
     ensures value { (view machine.old).r.r5 < 2 → LoadsValue machine.old machine.new steps.old steps.new }

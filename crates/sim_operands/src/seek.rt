@@ -1,6 +1,6 @@
 //! SEEK: the address of GROM.
 
-ghost use Rattle.sim_view.specs.Prelude.{Exits, PortsAreIdle, SEEK, Stands, view};
+ghost use Rattle.sim_view.specs.Prelude.{Exits, PortsAreIdle, SEEK, IsAt, view};
 ghost use Rattle.sim_operands.specs.Subroutines.{after_seek};
 ghost use Rattle.sim_operands.specs.Pieces as piece;
 
@@ -10,7 +10,7 @@ use std::sync::ledger::Ledger;
 
 /// The piece of SEEK.
 pub fn seek_address<L: Ledger>(machine: &mut Machine, steps: &mut Steps<L>)
-    requires { Stands machine.old SEEK }
+    requires { IsAt machine.old SEEK }
     ensures { Exits machine.old machine.new steps.old steps.new (piece.seek (view machine.old)) }
 {
     run_piece(machine, steps, &[]);
@@ -19,7 +19,7 @@ pub fn seek_address<L: Ledger>(machine: &mut Machine, steps: &mut Steps<L>)
 /// Runs SEEK: GROM is set to the address in register 6, and so gives the byte there next. It takes 3 instructions,
 /// changes nothing else, and comes to the address in register 11.
 pub fn run_seek<L: Ledger>(machine: &mut Machine, steps: &mut Steps<L>)
-    requires stands { Stands machine.old SEEK }
+    requires is_at { IsAt machine.old SEEK }
     requires idle { PortsAreIdle machine.old.cpu.memory }
     ensures { Exits machine.old machine.new steps.old steps.new (after_seek (view machine.old)) }
 {

@@ -1,7 +1,7 @@
 //! STORE: a value.
 
 ghost use Rattle.std.specs.Prelude.{◌<◌, ◌≡◌};
-ghost use Rattle.sim_view.specs.Prelude.{Exits, PortsAreIdle, Stands, view};
+ghost use Rattle.sim_view.specs.Prelude.{Exits, PortsAreIdle, IsAt, view};
 ghost use Rattle.sim_view.specs.native_interp.declared.addresses.TheConstants as address;
 ghost use Rattle.sim_operands.specs.Values.{IsVisible};
 ghost use Rattle.sim_operands.specs.Routines.{CanStore};
@@ -16,7 +16,7 @@ use std::sync::ledger::Ledger;
 
 /// The piece of STORE that stores in cells, or sets the video processor to the address, or goes on at SREG.
 pub fn store_value<L: Ledger>(machine: &mut Machine, steps: &mut Steps<L>)
-    requires stands { Stands machine.old address.STORE }
+    requires is_at { IsAt machine.old address.STORE }
     requires visible { let r = (view machine.old).r in IsVisible r.r8 r.r7 r.r3 }
     ensures { Exits machine.old machine.new steps.old steps.new (piece.store (view machine.old)) }
 {
@@ -25,7 +25,7 @@ pub fn store_value<L: Ledger>(machine: &mut Machine, steps: &mut Steps<L>)
 
 /// The piece of STORE that stores in video memory.
 pub fn store_video<L: Ledger>(machine: &mut Machine, steps: &mut Steps<L>)
-    requires { Stands machine.old address.SDATA }
+    requires { IsAt machine.old address.SDATA }
     ensures { Exits machine.old machine.new steps.old steps.new (piece.store_video (view machine.old)) }
 {
     run_piece(machine, steps, &[]);
@@ -33,7 +33,7 @@ pub fn store_video<L: Ledger>(machine: &mut Machine, steps: &mut Steps<L>)
 
 /// The piece of STORE that sets a register of the video processor.
 pub fn store_register<L: Ledger>(machine: &mut Machine, steps: &mut Steps<L>)
-    requires { Stands machine.old address.SREG }
+    requires { IsAt machine.old address.SREG }
     ensures { Exits machine.old machine.new steps.old steps.new (piece.store_register (view machine.old)) }
 {
     run_piece(machine, steps, &[]);
@@ -42,7 +42,7 @@ pub fn store_register<L: Ledger>(machine: &mut Machine, steps: &mut Steps<L>)
 /// STORE, whole. It does what its pieces do, and keeps all but register 4, the mark in register 13, the cells and the
 /// video processor; it comes to the address in register 11.
 pub fn store_routine<L: Ledger>(machine: &mut Machine, steps: &mut Steps<L>)
-    requires stands { Stands machine.old address.STORE }
+    requires is_at { IsAt machine.old address.STORE }
     requires visible { CanStore (view machine.old) }
     ensures { Exits machine.old machine.new steps.old steps.new (routine.store (view machine.old)) }
 {
@@ -60,7 +60,7 @@ pub fn store_routine<L: Ledger>(machine: &mut Machine, steps: &mut Steps<L>)
 /// is in register 7. It takes at most 15 instructions, marks a store at the character's cell in register 13, may change
 /// register 4 and the address of the video processor too, and comes to the address in register 11.
 pub fn run_store<L: Ledger>(machine: &mut Machine, steps: &mut Steps<L>)
-    requires stands { Stands machine.old address.STORE }
+    requires is_at { IsAt machine.old address.STORE }
     requires idle { PortsAreIdle machine.old.cpu.memory }
     requires visible { let r = (view machine.old).r in IsVisible r.r8 r.r7 r.r3 }
     ensures value { (view machine.old).r.r8 < 2 → StoresValue machine.old machine.new steps.old steps.new }

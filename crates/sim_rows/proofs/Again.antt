@@ -1,6 +1,6 @@
 -- What a machine keeps whose view has the same ports, and where a run begins.
 use Rattle.std.proofs.Common.{ℕ, ◌<◌, ◌∙◌, ◌≡◌, ap, arith, Bool, false, if◌then◌else◌, is_none, None, not, refl, subst, sym, true}
-use Rattle.sim_rows.specs.Prelude.{ReachesWithin, Exit, Exits, GromState, IsFetched, MachineState, Memory, PortsAreIdle, Runs, Stands, VdpState, View, view, view_of}
+use Rattle.sim_rows.specs.Prelude.{ReachesWithin, Exit, Exits, GromState, IsFetched, MachineState, Memory, PortsAreIdle, Runs, IsAt, VdpState, View, view, view_of}
 
 pub idle_again : (m n : Memory) → (view_of n).vdp ≡ (view_of m).vdp → (view_of n).grom ≡ (view_of m).grom → PortsAreIdle m → PortsAreIdle n
 unfolding view_of
@@ -19,11 +19,11 @@ ports_are_idle m h g = record { vdp = ap is_none h; grom = ap not g }
 pub first_way : (p : ℕ) (x a : MachineState) (t u : ℕ) (b : Bool) (first second : Exit) → Exits x a t u (if b then first else second) →
     (second.to ≡ p → ⊥) → a.cpu.pc ≡ p → (b ≡ true) × Exits x a t u first
 first_way p x a t u true first second e other here = (refl, e)
-first_way p x a t u false first second e other here = absurd (other (sym e.stands.pc ∙ here))
+first_way p x a t u false first second e other here = absurd (other (sym e.is_at.pc ∙ here))
 
 pub second_way : (p : ℕ) (x a : MachineState) (t u : ℕ) (b : Bool) (first second : Exit) → Exits x a t u (if b then first else second) →
     first.to ≡ p → (a.cpu.pc ≡ p → ⊥) → (b ≡ false) × Exits x a t u second
-second_way p x a t u true first second e is elsewhere = absurd (elsewhere (e.stands.pc ∙ is))
+second_way p x a t u true first second e is elsewhere = absurd (elsewhere (e.is_at.pc ∙ is))
 second_way p x a t u false first second e is elsewhere = (refl, e)
 
 nothing_before : (before : ℕ) → 0 < before → before < 0 → ⊥
@@ -33,5 +33,5 @@ nothing_before before a b = omega arith
 pub no_run : (x : MachineState) → Runs 0 x x
 no_run x = record { leads = refl; clear = λ before some less z e. absurd (nothing_before before some less) }
 
-pub begins : (x : MachineState) (t p : ℕ) (Q : View → Type 0) → Stands x p → Q (view x) → ReachesWithin 0 x x t t p Q
-begins x t p Q stands holds = record { count = 0; within = omega arith; counted = omega arith; runs = no_run x; holds = holds; stands = stands }
+pub begins : (x : MachineState) (t p : ℕ) (Q : View → Type 0) → IsAt x p → Q (view x) → ReachesWithin 0 x x t t p Q
+begins x t p Q is_at holds = record { count = 0; within = omega arith; counted = omega arith; runs = no_run x; holds = holds; is_at = is_at }

@@ -13,7 +13,7 @@ pub use Rattle.sim_rows.proofs.StepStart.{back_is, from, known, located_at, lost
 pub use Rattle.sim_rows.proofs.Codes.{if_true, one_below, two_above}
 pub use Rattle.sim_rows.proofs.Ends.{fetched_of, idle_of, leaves, matches, reaches, same_state, state_at, stops, turned_by, turned_from}
 pub use Rattle.sim_rows.proofs.Facts.{not_above}
-pub use Rattle.sim_rows.proofs.FirstOperand.{operand_stop, barred_stops, finds_of, from_placed, holds_addressed, holds_again, holds_loaded, located, place_is, sees_again}
+pub use Rattle.sim_rows.proofs.FirstOperand.{operand_stop, rejected_stops, finds_of, from_placed, holds_addressed, holds_again, holds_loaded, located, place_is, sees_again}
 pub use Rattle.sim_rows.proofs.FirstOperand.{space_small}
 pub use Rattle.sim_rows.proofs.Operands.{value_same, visible_of}
 pub use Rattle.sim_rows.proofs.Places.{FoundVisible, visible_when_found, place_found_visible}
@@ -22,7 +22,7 @@ pub use Rattle.sim_rows.proofs.WholeRows.{both, destination_visible, row_changed
 pub use Rattle.sim_rows.proofs.Sources.{code_fits}
 pub use Rattle.sim_rows.proofs.Steps.{bound_made, bound_stop, place_same, step_branch, step_byte, step_jump, step_move, step_none, step_plain}
 pub use Rattle.sim_rows.proofs.StoredResults.{changed_again, ChangedFrom, store_then, stored_idle, storing_again, value_keeps, width_again}
-pub use Rattle.sim_rows.proofs.RowStart.{stands_at}
+pub use Rattle.sim_rows.proofs.RowStart.{is_at_address}
 pub use Rattle.sim_rows.specs.Prelude.{◌>>=◌, absolute_flags, absolute_of, ABSV, ADDR, Addressed, ADDV, ALL, ANDV, Answer, Asking, ASPACE, AtDispatch}
 pub use Rattle.sim_rows.specs.Prelude.{AtRow, B, BACK, OperandStop, further, after_code, after_first, bit_of, bound, bound_at, bound_by, BRANCH, Branch, branched}
 pub use Rattle.sim_rows.specs.Prelude.{BTARG, Byte, byte_at, byte_from, byte_in, bytes_by, bytes_or_none, CALL, CALLN, CALLS, CARRY, CASE, CASEN, CASET, CASEV}
@@ -48,7 +48,7 @@ pub use Rattle.sim_rows.specs.Prelude.{RAND, RANDL, RANDOM, ranged, read_by, rea
 pub use Rattle.sim_rows.specs.Prelude.{repeated_sign, RESUME, return_of, row_entry, row_result, row_width, RTN, RTNC, run, Runs, RunsRow, second_by, SEED, SEEK}
 pub use Rattle.sim_rows.specs.Prelude.{ShowsState, SeesFinished, SeesResult, with_grom_address, with_video_address, shifted, shifted_left, shifted_right, ShiftOp, SHOW, shown_by}
 pub use Rattle.sim_rows.specs.Prelude.{signed, size_of, SLA, SLLB, SLLV, Source, source_at, source_of, Space, space_of, SRA, SRAB, SRAV, SRC, SRCB, SRCV, SRL}
-pub use Rattle.sim_rows.specs.Prelude.{SRLB, SRLV, ST, Stack, Stands, STATB, state_at_dispatch, state_of, STATUS, Status, status_byte, status_of, status_word}
+pub use Rattle.sim_rows.specs.Prelude.{SRLB, SRLV, ST, Stack, IsAt, STATB, state_at_dispatch, state_of, STATUS, Status, status_byte, status_of, status_word}
 pub use Rattle.sim_rows.specs.Prelude.{step, Stepped, steps, STO, Stopped, StoppedBy, STORE, Stored, StoresRegister, StoresResult, StoresTo, StoresValue}
 pub use Rattle.sim_rows.specs.Prelude.{Storing, STREAM, streamed, STV, SUBV, sum_flags, sum_of, swapped, TAKE, target_of, To, ToMemory, ToRegisters, Turn}
 pub use Rattle.sim_rows.specs.Prelude.{from_dispatch, Turned, TurnedBy, Two, two, TwoName, unchanged, unit, UNKN, value_at, Vdp, vdp_address_written}

@@ -4,7 +4,7 @@ use Rattle.std.proofs.lemmas.Bool.{not-true}
 use Rattle.sim_rows.specs.Prelude.{ADDR, Asking, AtDispatch, after_code, return_of_destination, after_first, bytes_by, code_byte, ReachesWithin, destination_bytes}
 use Rattle.sim_rows.specs.Prelude.{destination_size, DIV, even, Exits, Finds, FindsOperand, first_of, gone_on, GplOperation, GplState, GSTOP, is_turn_end, is_row}
 use Rattle.sim_rows.specs.Prelude.{IsVisible, KeepsDestination, LOAD, LoadsDestination, LoadsValue, MachineState, MUL, next_at, number_of_space, operand_at}
-use Rattle.sim_rows.specs.Prelude.{operation_in, Place, place_of, PortsAreIdle, reads_destination, Reason, return_of, ROW, row_width, size_of, Stands}
+use Rattle.sim_rows.specs.Prelude.{operation_in, Place, place_of, PortsAreIdle, reads_destination, Reason, return_of, ROW, row_width, size_of, IsAt}
 use Rattle.sim_rows.specs.Prelude.{state_at_dispatch, state_of, TwoName, View, view, WIDE, word_or_byte}
 use Rattle.sim_view.specs.gpl_defs.declared.instruction.GplOperation.TheVariants as operation
 use Rattle.sim_operands.proofs.Ready.{idle_video}
@@ -50,7 +50,7 @@ first_visible s place e =
 
 -- what ADDR found is visible, and the ports stay idle
 pub record FoundThere (x y : MachineState) : Type 0 where
-  pub stands : Stands y (return_of (view x))
+  pub is_at : IsAt y (return_of (view x))
   pub visible : 0 < (view x).r.r3 → IsVisible (view y).r.r5 (view y).r.r2 (view y).r.r3
   pub idle : PortsAreIdle x.cpu.memory → PortsAreIdle y.cpu.memory
 
@@ -64,12 +64,12 @@ found_there x y t u elsewhere f =
     by next (Ok place) lies c =
         let is = c.holds.is in
         record {
-          stands = c.stands;
+          is_at = c.is_at;
           visible = λ some. visible_of place (view x).r.r3 (view y).r.r5 (view y).r.r2 (view y).r.r3 (ap (λ (u : View). u.r.r5) is)
               (ap (λ (u : View). u.r.r2) is) (ap (λ (u : View). u.r.r3) is) some lies;
           idle = λ i. ports_are_idle y.cpu.memory (ap (λ (u : View). u.vdp.held) is ∙ idle_video x.cpu.memory i) (ap (λ (u : View). u.grom.half_written) is);
         }
-    by next (Err reason) lies c = absurd (elsewhere c.stands.pc)
+    by next (Err reason) lies c = absurd (elsewhere c.is_at.pc)
 
 pub visible_again : (v w : View) → w ≡ v → IsVisible v.r.r5 v.r.r2 v.r.r3 → IsVisible w.r.r5 w.r.r2 w.r.r3
 visible_again v w e h = subst (λ (u : View). IsVisible u.r.r5 u.r.r2 u.r.r3) (sym e) h
@@ -98,7 +98,7 @@ module _ {x : MachineState} (at : AtDispatch is_row x) where
     stops here = by (first_of s) finds
       where
         by : (r : Result Place Reason) → Finds b y t2 u (after_first s) r → LoadsDestination s x y t u false r
-        by (Ok place) g = absurd ((returns_there (operation_in s) at.family).1 (sym (locates place g).stands.pc ∙ here))
+        by (Ok place) g = absurd ((returns_there (operation_in s) at.family).1 (sym (locates place g).is_at.pc ∙ here))
         by (Err reason) g = (refl, operand_stop s bytes (after_code s) label 6 reason x b y t t2 u c g)
 
     -- it was found
@@ -112,7 +112,7 @@ module _ {x : MachineState} (at : AtDispatch is_row x) where
       where
         by : (r : Result Place Reason) → first_of s ≡ r → Finds b y t2 u (after_first s) r → Destination
         by (Ok place) e g = record { place = place; is_place = e; comes = locates place g }
-        by (Err reason) e g = absurd (elsewhere g.stands.pc)
+        by (Err reason) e g = absurd (elsewhere g.is_at.pc)
 
     module _ (elsewhere : y.cpu.pc ≡ GSTOP → ⊥) where
       abbrev place : Place
@@ -132,10 +132,10 @@ module _ {x : MachineState} (at : AtDispatch is_row x) where
 
       module _ (here : x.cpu.pc ≡ STROW) where
         k : Storer (operation_in s)
-        k = storer (operation_in s) at.family (sym at.stands.pc ∙ here)
+        k = storer (operation_in s) at.family (sym at.is_at.pc ∙ here)
 
-        pub stands_stored : Stands y STDST
-        stands_stored = (there STDST k.kind.label_is).stands
+        pub at_stored : IsAt y STDST
+        at_stored = (there STDST k.kind.label_is).is_at
 
         pub stored : {z : MachineState} {w : ℕ} → Exits y z u w (pieces.keep_stored (view y)) → LoadsDestination s x z t w true (first_of s)
         stored {z = z} {w = w} e =
@@ -162,10 +162,10 @@ module _ {x : MachineState} (at : AtDispatch is_row x) where
 
       module _ (here : x.cpu.pc ≡ WIDE) where
         pub wide_here : Wide (operation_in s)
-        wide_here = wide (operation_in s) at.family (sym at.stands.pc ∙ here)
+        wide_here = wide (operation_in s) at.family (sym at.is_at.pc ∙ here)
 
-        pub stands_wide : Stands y WIDDST
-        stands_wide = (there WIDDST wide_here.kind.label_is).stands
+        pub at_wide : IsAt y WIDDST
+        at_wide = (there WIDDST wide_here.kind.label_is).is_at
 
         pub kept_wide : {z q p : MachineState} {w k n : ℕ} → ((view z).r.r5 < 2 → LoadsValue z q w k) → Exits y z u w (pieces.load_wide (view y)) →
             Exits q p k n (pieces.keep_wide (view q)) → LoadsDestination s x p t n true (first_of s)
@@ -175,8 +175,8 @@ module _ {x : MachineState} (at : AtDispatch is_row x) where
             (operands.wide s place (value WIDVAL WIDDST o.kind.label_is refl e refl l) refl (o.kind.bytes (row_width s)) f)
 
       module _ (o : Kind (operation_in s) ROW OPSDST 1) where
-        pub stands_first : Stands y OPSDST
-        stands_first = (there OPSDST o.label_is).stands
+        pub at_first : IsAt y OPSDST
+        at_first = (there OPSDST o.label_is).is_at
 
         pub kept_first : {z q p : MachineState} {w k n : ℕ} → ((view z).r.r5 < 2 → LoadsValue z q w k) → Exits y z u w (pieces.load_first (view y)) →
             Exits q p k n (pieces.keep_first (view q)) → LoadsDestination s x p t n true (first_of s)

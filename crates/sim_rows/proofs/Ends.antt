@@ -5,7 +5,7 @@ use Rattle.sim_view.proofs.Common.{given, holds_register, previous-next, runs_th
 use Rattle.sim_operands.proofs.Facts.{not_both}
 use Rattle.sim_rows.specs.Prelude.{bound, ReachesWithin, Dispatched, ShowsEnd, GEXIT, Gives, GplState, GromState, GSTEP, GSTOP, HoldsRegister, is_turn_end}
 use Rattle.sim_rows.specs.Prelude.{IsFetched, IsHalted, MachineState, Matches, Memory, next_in_grom, number_of, PortsAreIdle}
-use Rattle.sim_rows.specs.Prelude.{from_dispatch, previous_in_grom, Reaches, Reason, Runs, shown_by, ShowsState, Stands, StandsBy, state_at_dispatch, state_of, whole_turn}
+use Rattle.sim_rows.specs.Prelude.{from_dispatch, previous_in_grom, Reaches, Reason, Runs, shown_by, ShowsState, IsAt, IsStoppedBy, state_at_dispatch, state_of, whole_turn}
 use Rattle.sim_rows.specs.Prelude.{step, StoppedBy, Turn, Turned, TurnedBy, VdpState, View, view, view_of}
 use Rattle.sim_view.specs.gpl_step_defs.declared.reason.Reason.TheVariants.{Exit}
 use Rattle.sim_view.specs.interp_defs.Interpreter.{most_to_dispatch}
@@ -44,12 +44,12 @@ state_at w s d =
     same_state w.cells s.cells w.vdp.memory s.vdp w.vdp.registers s.registers (previous_in_grom (previous_in_grom w.grom.counter)) s.pc w.grom.image s.image
     h.cells h.vdp h.registers (counter ∙ ap previous_in_grom (previous-next (next_in_grom s.pc)) ∙ previous-next s.pc) (ap (λ (g : GromState). g.image) h.grom)
 
-pub matches : (s : GplState) (y : MachineState) → Stands y GSTEP → ShowsState s s.pc (view y) → Matches s y
-matches s y stands h = record {
+pub matches : (s : GplState) (y : MachineState) → IsAt y GSTEP → ShowsState s s.pc (view y) → Matches s y
+matches s y is_at h = record {
   matching = record {
-    pc = stands.pc;
-    wp = stands.wp;
-    words = stands.words;
+    pc = is_at.pc;
+    wp = is_at.wp;
+    words = is_at.words;
     idle = idle_of y.cpu.memory s s.pc h;
     fetched = fetched_of y.cpu.memory s s.pc h;
   };
@@ -68,32 +68,32 @@ grom_of : (m : Memory) → m.grom ≡ (view_of m).grom
 unfolding view_of
 grom_of m = refl
 
-pub leaves : (s : GplState) (y : MachineState) → Stands y GEXIT → ShowsEnd s (view y) → IsHalted s Exit y
-leaves s y stands h = record {
+pub leaves : (s : GplState) (y : MachineState) → IsAt y GEXIT → ShowsEnd s (view y) → IsHalted s Exit y
+leaves s y is_at h = record {
   cells = cells_of y.cpu.memory ∙ h.cells;
   vdp = ap (λ (d : VdpState). d.memory) (vdp_of y.cpu.memory) ∙ h.vdp;
   registers = ap (λ (d : VdpState). d.registers) (vdp_of y.cpu.memory) ∙ h.registers;
   image = ap (λ (g : GromState). g.image) (grom_of y.cpu.memory) ∙ h.image;
-  wp = stands.wp;
-  address = holds_register y.cpu.memory 1 stands.machine.memory (lit< tt) ∙ ap Gives h.address;
-  stands = stands.pc;
+  wp = is_at.wp;
+  address = holds_register y.cpu.memory 1 is_at.machine.memory (lit< tt) ∙ ap Gives h.address;
+  is_at = is_at.pc;
 }
 
 -- where a program stops by another reason than EXIT
-stands_by : (reason : Reason) (y : MachineState) → (reason ≡ Exit → ⊥) → (y.cpu.pc ≡ GSTOP) × HoldsRegister y.cpu.memory 0 (number_of reason) →
-    StandsBy reason y
-stands_by Exit y other h = absurd (other refl)
-stands_by _ y other h = h
+stopped_with : (reason : Reason) (y : MachineState) → (reason ≡ Exit → ⊥) → (y.cpu.pc ≡ GSTOP) × HoldsRegister y.cpu.memory 0 (number_of reason) →
+    IsStoppedBy reason y
+stopped_with Exit y other h = absurd (other refl)
+stopped_with _ y other h = h
 
-pub stops : (s : GplState) (reason : Reason) (y : MachineState) → (reason ≡ Exit → ⊥) → Stands y GSTOP → StoppedBy s reason (view y) → IsHalted s reason y
-stops s reason y other stands h = record {
+pub stops : (s : GplState) (reason : Reason) (y : MachineState) → (reason ≡ Exit → ⊥) → IsAt y GSTOP → StoppedBy s reason (view y) → IsHalted s reason y
+stops s reason y other is_at h = record {
   cells = cells_of y.cpu.memory ∙ h.ended.cells;
   vdp = ap (λ (d : VdpState). d.memory) (vdp_of y.cpu.memory) ∙ h.ended.vdp;
   registers = ap (λ (d : VdpState). d.registers) (vdp_of y.cpu.memory) ∙ h.ended.registers;
   image = ap (λ (g : GromState). g.image) (grom_of y.cpu.memory) ∙ h.ended.image;
-  wp = stands.wp;
-  address = holds_register y.cpu.memory 1 stands.machine.memory (lit< tt) ∙ ap Gives h.ended.address;
-  stands = stands_by reason y other (stands.pc, holds_register y.cpu.memory 0 stands.machine.memory (lit< tt) ∙ ap Gives h.reason_is);
+  wp = is_at.wp;
+  address = holds_register y.cpu.memory 1 is_at.machine.memory (lit< tt) ∙ ap Gives h.ended.address;
+  is_at = stopped_with reason y other (is_at.pc, holds_register y.cpu.memory 0 is_at.machine.memory (lit< tt) ∙ ap Gives h.reason_is);
 }
 
 -- ---- turns
@@ -108,7 +108,7 @@ pub reaches : {x y : MachineState} {before after most to : ℕ} {Q : View → Ty
     is_turn_end x.cpu.pc ≡ false → is_turn_end to ≡ true → led + most ≤ bound → Reaches bound x y (record { led_at_most = led; before = before; after = after })
 reaches {x = x} {y = y} led bound c start end fits =
     let w = c.within in
-    let there = ap is_turn_end c.stands.pc ∙ end in
+    let there = ap is_turn_end c.is_at.pc ∙ end in
     record {
       count = c.count;
       within = omega arith;
@@ -129,7 +129,7 @@ reaches_from {x = x} {y = y} {z = z} c r start =
       count = c.count + r.count;
       within = omega arith;
       counted = omega arith;
-      turn = record { some = omega arith; runs = runs_then c.count r.count x y z c.runs r.turn.runs (ap is_turn_end c.stands.pc ∙ start); there = r.turn.there };
+      turn = record { some = omega arith; runs = runs_then c.count r.count x y z c.runs r.turn.runs (ap is_turn_end c.is_at.pc ∙ start); there = r.turn.there };
     }
 
 from_by : {x y : MachineState} {before middle to : ℕ} {Q : View → Type 0} (z : MachineState) (after : ℕ) (s : GplState) (r : Result GplState Reason)

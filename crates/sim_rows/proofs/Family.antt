@@ -39,16 +39,16 @@ module _ {belongs : Option GplOperation → Bool} (rows : (o : Option GplOperati
   s = state_at_dispatch (view x)
 
   pub fits : code_byte s < 256
-  fits = (is_view x at.stands.machine).grom.image.fits s.pc
+  fits = (is_view x at.is_at.machine).grom.image.fits s.pc
 
   pub row : is_row (operation_in s) ≡ true
   row = rows (operation_in s) at.family
 
   pub start : is_turn_end x.cpu.pc ≡ false
-  start = ap is_turn_end at.stands.pc ∙ starts_row (operation_in s) row
+  start = ap is_turn_end at.is_at.pc ∙ starts_row (operation_in s) row
 
   pub at_row : AtDispatch is_row x
-  at_row = record { stands = at.stands; dispatched = at.dispatched; family = row }
+  at_row = record { is_at = at.is_at; dispatched = at.dispatched; family = row }
 
   -- an operand is not visible
   pub stopped : {y : MachineState} {t u : ℕ} {returned : Option GplOperation} → returned ≡ None →
@@ -80,7 +80,7 @@ module _ {belongs : Option GplOperation → Bool} (rows : (o : Option GplOperati
 
     pub entry : AtEntry belongs op y
     entry = record {
-      stands = begun.comes.stands;
+      is_at = begun.comes.is_at;
       family = family;
       idle = idle_of y.cpu.memory s (next_of s) begun.comes.holds.holds.sees;
       fetched = fetched_of y.cpu.memory s (next_of s) begun.comes.holds.holds.sees;

@@ -96,8 +96,8 @@ holds_loaded s bytes at number v w h a = subst (Holds s bytes at) (sym a.is) (re
 })
 
 -- A stop by the cells keeps the state.
-pub barred_stops : (s : GplState) (bytes at : ℕ) (reason : Reason) (v w : View) → Holds s bytes at v → OperandStop v reason w → StoppedBy s reason w
-barred_stops s bytes at reason v w h a = subst (StoppedBy s reason) (sym a.is) (record {
+pub rejected_stops : (s : GplState) (bytes at : ℕ) (reason : Reason) (v w : View) → Holds s bytes at v → OperandStop v reason w → StoppedBy s reason w
+rejected_stops s bytes at reason v w h a = subst (StoppedBy s reason) (sym a.is) (record {
   ended = record {
     cells = h.sees.cells;
     vdp = h.sees.vdp;
@@ -154,7 +154,7 @@ module _ {x : MachineState} (at : AtDispatch is_row x) where
   s = state_at_dispatch (view x)
 
   pub fits : code_byte s < 256
-  fits = (is_view x at.stands.machine).grom.image.fits s.pc
+  fits = (is_view x at.is_at.machine).grom.image.fits s.pc
 
   abbrev Asks : MachineState → ℕ → ℕ → Type 0
   Asks y t u = ReachesWithin 6 x y t u ADDR (Asking s (destination_bytes s) (after_code s) (return_of_destination (operation_in s)))
@@ -168,21 +168,21 @@ module _ {x : MachineState} (at : AtDispatch is_row x) where
   module _ {y : MachineState} {t u : ℕ} where
     pub asks_stored : x.cpu.pc ≡ STROW → Exits x y t u (pieces.ask_stored (view x)) → Asks y t u
     asks_stored here e =
-        let k = (storer (operation_in s) at.family (sym at.stands.pc ∙ here)).kind in
+        let k = (storer (operation_in s) at.family (sym at.is_at.pc ∙ here)).kind in
         let n = narrow_is s (view x) at.dispatched.code in
         let b = k.bytes (row_width s) in
         asks_at 5 (pieces.width_of_code (view x).r.r0) STDST (omega arith) (omega arith) k.label_is e
 
     pub asks_wide : x.cpu.pc ≡ WIDE → Exits x y t u (pieces.ask_wide (view x)) → Asks y t u
     asks_wide here e =
-        let k = (wide (operation_in s) at.family (sym at.stands.pc ∙ here)).kind in
+        let k = (wide (operation_in s) at.family (sym at.is_at.pc ∙ here)).kind in
         let n = wide_is s (view x) at.dispatched.code fits in
         let b = k.bytes (row_width s) in
         asks_at 6 (pieces.twice_of_code (view x).r.r0) WIDDST (omega arith) (omega arith) k.label_is e
 
   module _ (not_wide : x.cpu.pc ≡ WIDE → ⊥) (not_stored : x.cpu.pc ≡ STROW → ⊥) where
     pub narrow_here : Kind (operation_in s) ROW OPSDST 1
-    narrow_here = narrow (operation_in s) at.family (λ e. not_wide (at.stands.pc ∙ e)) (λ e. not_stored (at.stands.pc ∙ e))
+    narrow_here = narrow (operation_in s) at.family (λ e. not_wide (at.is_at.pc ∙ e)) (λ e. not_stored (at.is_at.pc ∙ e))
 
     pub asks_first : {y : MachineState} {t u : ℕ} → Exits x y t u (pieces.ask_first (view x)) → Asks y t u
     asks_first e =
@@ -211,4 +211,4 @@ pub operand_stop : (s : GplState) (bytes at to most : ℕ) (reason : Reason) (x 
     ReachesWithin (most + most_of_address) x z t w GSTOP (StoppedBy s reason)
 operand_stop s bytes at to most reason x y z t u w c d =
     comes_as (most + most_of_address) (StoppedBy s reason)
-    (comes_on most 38 c d refl) (omega arith) (λ v a. barred_stops s bytes at reason (view y) v c.holds.holds a)
+    (comes_on most 38 c d refl) (omega arith) (λ v a. rejected_stops s bytes at reason (view y) v c.holds.holds a)

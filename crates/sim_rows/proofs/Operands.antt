@@ -10,7 +10,7 @@ use Rattle.sim_rows.specs.Prelude.{reads_destination, return_of, row_entry, row_
 use Rattle.sim_rows.specs.Prelude.{StoresTo, unit, value_at, Vdp, View, view, Width, width_in, Word, word_of, word_or_byte}
 use Rattle.sim_operands.proofs.Facts.{not_both}
 use Rattle.sim_rows.proofs.Codes.{row_is}
-use Rattle.sim_rows.proofs.FirstOperand.{barred_stops, from_placed, holds_addressed, holds_again, holds_loaded, Located, place_is}
+use Rattle.sim_rows.proofs.FirstOperand.{rejected_stops, from_placed, holds_addressed, holds_again, holds_loaded, Located, place_is}
 use Rattle.sim_rows.specs.Pieces as pieces
 use Rattle.sim_view.specs.native_interp.declared.addresses.TheConstants.{OPSTWO}
 use Rattle.sim_view.specs.Bounds.{most_of_address, most_of_load}
@@ -226,7 +226,7 @@ module _ (s : GplState) (kept : Place) (at : ℕ) {x y z : MachineState} {t u w 
 
   pub bars_second : (reason : Reason) → ReachesWithin most_of_address y z u w GSTOP (OperandStop (view y) reason) → ReachesWithin 42 x z t w GSTOP (StoppedBy s reason)
   bars_second reason d =
-      comes_as 42 (StoppedBy s reason) (comes_on 4 38 c d refl) (omega arith) (λ v a. barred_stops s (size_of (row_width s)) at reason
+      comes_as 42 (StoppedBy s reason) (comes_on 4 38 c d refl) (omega arith) (λ v a. rejected_stops s (size_of (row_width s)) at reason
       (view y) v c.holds.kept.holds a)
 
 -- ---- the second dispatch

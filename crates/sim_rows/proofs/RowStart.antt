@@ -3,14 +3,14 @@ use Rattle.std.proofs.Common.{ℕ, ◌<◌, ◌≡◌, ap, arith, Bool, Err, fal
 use Rattle.sim_view.proofs.Common.{comes_as, comes_on}
 use Rattle.sim_rows.specs.Prelude.{◌>>=◌, after_first, code_byte, ReachesWithin, Exits, first_of, GO, GplOperation, GplState, has_source, is_row, Kept}
 use Rattle.sim_rows.specs.Prelude.{KeepsDestination, AtRow, LoadsBy, LoadsDestination, LoadsOperands, MachineState, next_of, operands_of, operation_in, Place}
-use Rattle.sim_rows.specs.Prelude.{Reason, second_by, second_of, Source, source_read, Sourced, Stands, StartsRow, unit, view}
+use Rattle.sim_rows.specs.Prelude.{Reason, second_by, second_of, Source, source_read, Sourced, IsAt, StartsRow, unit, view}
 use Rattle.sim_operands.proofs.Facts.{not_both}
 use Rattle.sim_rows.proofs.Operands.{goes_to_row}
 use Rattle.sim_rows.specs.Pieces as pieces
 use Rattle.sim_view.specs.native_interp.declared.addresses.TheConstants.{OPSTWO}
 
-pub stands_at : {p : ℕ} (q : ℕ) (x : MachineState) → x.cpu.pc ≡ q → Stands x p → Stands x q
-stands_at q x e s = record { pc = e; wp = s.wp; words = s.words; machine = s.machine }
+pub is_at_address : {p : ℕ} (q : ℕ) (x : MachineState) → x.cpu.pc ≡ q → IsAt x p → IsAt x q
+is_at_address q x e s = record { pc = e; wp = s.wp; words = s.words; machine = s.machine }
 
 -- both operands by their parts
 abbrev Loads : GplState → MachineState → MachineState → ℕ → ℕ → Bool → Result Place Reason → Result Source Reason → Type 0
@@ -39,7 +39,7 @@ module _ (s : GplState) (x b : MachineState) (t u : ℕ) where
     one elsewhere = by (has_source s) refl k.keeps
       where
         by : (n : Bool) → has_source s ≡ n → KeepsDestination s k.place x b t u n → LoadsOperands s x b t u true (operands_of s)
-        by true has c = absurd (elsewhere c.stands.pc)
+        by true has c = absurd (elsewhere c.is_at.pc)
         by false has c =
             let next : next_of s ≡ after_first s = ap (λ (n : Bool). if n then (source_read s).1 else after_first s) has in
             loads b u true (subst (λ (r : Result Source Reason). Loads s x b t u true (Ok k.place) r) (sym (ap (λ (n : Bool). second_by n s) has))
@@ -55,7 +55,7 @@ module _ (s : GplState) (x b : MachineState) (t u : ℕ) where
       where
         by : (n : Bool) → has_source s ≡ n → KeepsDestination s k.place x b t u n → TwoOperands
         by true has c = record { has = has; comes = c }
-        by false has c = let there = c.stands.pc in absurd (omega arith)
+        by false has c = let there = c.is_at.pc in absurd (omega arith)
 
     pub loaded : (o : TwoOperands) (y : MachineState) (v : ℕ) (went : Bool) → LoadsBy s k.place b y u v went (second_of s) →
         LoadsOperands s x y t v went (operands_of s)

@@ -153,7 +153,7 @@ module _ {x a : MachineState} {t t1 : ℕ} (e : Exits x a t t1 (pieces.ask_secon
         bars here = by source_place refl finds
           where
             by : (r : Result Place Reason) → source_place ≡ r → Finds a b t1 t2 operand.1 r → LoadsBy s place x b t t2 false (second_of s)
-            by (Ok source) is g = let there = (finds_second s place next asked source operand.1 g).stands.pc in absurd (omega arith)
+            by (Ok source) is g = let there = (finds_second s place next asked source operand.1 g).is_at.pc in absurd (omega arith)
             by (Err reason) is g =
                 subst (λ (r : Result Source Reason). LoadsBy s place x b t t2 false r)
                 (sym (second_place ∙ ap (λ (r : Result Place Reason). r >>= λ p. Ok (made_at p)) is)) (refl, bars_second s place next asked reason g)
@@ -170,7 +170,7 @@ module _ {x a : MachineState} {t t1 : ℕ} (e : Exits x a t t1 (pieces.ask_secon
             where
               by : (r : Result Place Reason) → source_place ≡ r → Finds a b t1 t2 operand.1 r → SourceAt
               by (Ok source) is g = record { source = source; is_place = is; comes = finds_second s place next asked source operand.1 g }
-              by (Err reason) is g = absurd (elsewhere g.stands.pc)
+              by (Err reason) is g = absurd (elsewhere g.is_at.pc)
 
           module _ {c d : MachineState} {t3 t4 : ℕ} (e3 : Exits b c t2 t3 (pieces.load_second (view b))) (l : (view c).r.r5 < 2 → LoadsValue c d t3 t4) where
             loading : ReachesWithin 44 x c t t3 LOAD (Loading s (size_of (row_width s)) found.source place operand.1 GO)

@@ -179,7 +179,7 @@ module _ (s : GplState) (x : MachineState) (t : ℕ) (fits : code_byte s < 256) 
       ∙ ap (λ (r : Result (Place × Source) Reason). r >>= row_after s op.0) (e ∙ ap Err cell) in
       let b = bound_stop s Cell is in
       turned_by x y t u most_to_dispatch (Stopped Cell) s (Err Cell) is
-      (refl, reaches most_to_dispatch (bound s) run start refl (omega arith), stops s Cell y (λ e. cc) run.stands run.holds)
+      (refl, reaches most_to_dispatch (bound s) run start refl (omega arith), stops s Cell y (λ e. cc) run.is_at run.holds)
 
   pub stopped_row : (y : MachineState) (u : ℕ) (returned : Option GplOperation) → returned ≡ None → StartsRow s x y t u returned (operands_of s) →
       Turned s x y (from_dispatch t u) (Stopped Cell)
@@ -202,7 +202,7 @@ module _ (s : GplState) (x : MachineState) (t : ℕ) (fits : code_byte s < 256) 
       let step_is = step_of place source op e is (Ok c) f in
       let b = bound_row s (finished c) op e (subst (λ (o : Option GplOperation). is_row o ≡ true) e row) step_is in
       turned_by x y t u most_to_dispatch Stepped s (Ok (finished c)) step_is
-      (refl, reaches most_to_dispatch (bound s) run start refl (omega arith), matches (finished c) y run.stands run.holds)
+      (refl, reaches most_to_dispatch (bound s) run start refl (omega arith), matches (finished c) y run.is_at run.holds)
   made y u most place source op e is le (Err reason) f run = absurd (run.holds)
 
   -- a row that may stop, by what was made of the operands
@@ -216,7 +216,7 @@ module _ (s : GplState) (x : MachineState) (t : ℕ) (fits : code_byte s < 256) 
       let b = bound_stop s reason step_is in
       let other = never_exits s reason (row_stays (operation_in s) row) step_is in
       turned_by x y t u most_to_dispatch turn s (Err reason) step_is
-      (run.0, reaches most_to_dispatch (bound s) run.1 start refl (omega arith), stops s reason y other run.1.stands run.1.holds)
+      (run.0, reaches most_to_dispatch (bound s) run.1 start refl (omega arith), stops s reason y other run.1.is_at run.1.holds)
 
   ends_as : (op : GplOperation) (y z : MachineState) (u v most : ℕ) (place : Place) (source : Source) (turn : Turn) →
       ReachesWithin most_to_row x y t u (row_entry (Some op)) (AtRow s place source) →

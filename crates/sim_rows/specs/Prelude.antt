@@ -40,7 +40,7 @@ pub use Rattle.sim_view.specs.Prelude.{repeated_sign, RESUME, RETURN_STACK, ROW,
 pub use Rattle.sim_view.specs.Prelude.{Runs, RunsSteps, SDATA, SEED, SEEK, shifted, shifted_left, shifted_right}
 pub use Rattle.sim_view.specs.Prelude.{ShiftOp, SHOW, shown, shown_by, signed, size_of, SLA, SLL, SLLB, SLLV, Source}
 pub use Rattle.sim_view.specs.Prelude.{source_at, source_of, Space, space_of, SRA, SRAB, SRAV, SRC, SRCB}
-pub use Rattle.sim_view.specs.Prelude.{SRCV, SREG, SRL, SRLB, SRLV, ST, Stack, Stands, StandsBy, start, STATB, STATUS}
+pub use Rattle.sim_view.specs.Prelude.{SRCV, SREG, SRL, SRLB, SRLV, ST, Stack, IsAt, IsStoppedBy, start, STATB, STATUS}
 pub use Rattle.sim_view.specs.Prelude.{Status, status_byte, status_of, status_word, step, Stepped, steps, STO}
 pub use Rattle.sim_view.specs.Prelude.{Stopped, STORE, STREAM, STV, SUB, SUBV, sum_flags, sum_of, swapped, TABLE}
 pub use Rattle.sim_view.specs.Prelude.{TAKE, target_at, target_of, To, ToMemory, ToRegisters, Turn, Turned, TurnedBy}

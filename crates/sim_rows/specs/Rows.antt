@@ -3,7 +3,7 @@ use Rattle.std.specs.Prelude.{ℕ, ◌%◌, ◌/◌, ◌==◌, ◌≡◌, Bool, 
 use Rattle.std.specs.Prelude.{Option, Result, Some, true, IsFalse, IsTrue}
 use Rattle.sim_view.specs.Prelude.{◌>>=◌, ReachesWithin, destination_size, GO, GplOperation, GplSource, GplState, GSTOP}
 use Rattle.sim_view.specs.Prelude.{IsFetched, MachineState, One, operand_at, Place, place_of, PortsAreIdle}
-use Rattle.sim_view.specs.Prelude.{Reason, row_entry, size_of, Source, source_at, source_of, Stands, Two, value_at}
+use Rattle.sim_view.specs.Prelude.{Reason, row_entry, size_of, Source, source_at, source_of, IsAt, Two, value_at}
 use Rattle.sim_view.specs.Prelude.{View, view, Width, word_or_byte}
 use Rattle.sim_view.specs.gpl_defs.declared.instruction.TwoName.TheVariants.{DIV, MUL, ST}
 use Rattle.sim_operands.specs.Values.{in_register, IsVisible, number_of_space, width_in}
@@ -175,7 +175,7 @@ LoadsOperands s x y before after went (Err reason) =
 -- A machine at the entry of the row of an operation, which is one of a family: the operands are loaded, the ports are
 -- idle, and a value may be stored at the destination.
 pub record AtEntry (belongs : Option GplOperation → Bool) (operation : GplOperation) (x : MachineState) : Type 0 where
-  pub stands : Stands x (row_entry (Some operation))
+  pub is_at : IsAt x (row_entry (Some operation))
   pub family : IsTrue (belongs (Some operation))
   pub idle : PortsAreIdle x.cpu.memory
   pub fetched : IsFetched x.cpu.memory.grom

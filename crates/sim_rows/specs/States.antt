@@ -2,7 +2,7 @@
 use Rattle.std.specs.Prelude.{ℕ, ◌≡◌, Bool, None, Option, slice_index, IsTrue}
 use Rattle.sim_view.specs.Prelude.{address_register, code_register, GplOperation, GplState, listed, MachineState}
 use Rattle.sim_view.specs.Prelude.{next_in_grom, number_of, operation_at, operation_entry, previous_in_grom, Reason}
-use Rattle.sim_view.specs.Prelude.{Stands, View, view}
+use Rattle.sim_view.specs.Prelude.{IsAt, View, view}
 use Rattle.sim_operands.specs.Subroutines.{grom_at, state_of}
 
 -- A view shows a state; GROM gives the byte at an address next, and both ports are idle.
@@ -39,7 +39,7 @@ operation_in_view w = operation_in (state_at_dispatch w)
 
 -- A machine at the dispatch of a step, at the entry of its operation, which is one of a family.
 pub record AtDispatch (belongs : Option GplOperation → Bool) (x : MachineState) : Type 0 where
-  pub stands : Stands x (operation_entry (operation_in_view (view x)))
+  pub is_at : IsAt x (operation_entry (operation_in_view (view x)))
   pub dispatched : Dispatched (state_at_dispatch (view x)) (view x)
   pub family : IsTrue (belongs (operation_in_view (view x)))
 

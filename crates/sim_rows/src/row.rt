@@ -4,7 +4,7 @@ ghost use Rattle.std.specs.Prelude.{◌+◌, ◌<◌, ◌≡◌, ◌≤◌};
 ghost use Rattle.sim_rows.specs.Prelude.{after_code, return_of_destination, Asking, AtDispatch, destination_bytes, Exits};
 ghost use Rattle.sim_rows.specs.Prelude.{first_of, HasStarted, is_row, IsFetched, IsVisible, LoadsDestination};
 ghost use Rattle.sim_rows.specs.Prelude.{LoadsOperands, LoadsSource, operands_of, operation_in, PortsAreIdle};
-ghost use Rattle.sim_rows.specs.Prelude.{ReachesWithin, Stands, state_at_dispatch, view};
+ghost use Rattle.sim_rows.specs.Prelude.{ReachesWithin, IsAt, state_at_dispatch, view};
 ghost use Rattle.sim_view.specs.native_interp.declared.addresses.TheConstants as address;
 ghost use Rattle.sim_rows.specs.Pieces as piece;
 
@@ -17,7 +17,7 @@ use std::sync::ledger::Ledger;
 
 /// The piece of a row that asks ADDR for the place of the first operand.
 pub fn ask_first<L: Ledger>(machine: &mut Machine, steps: &mut Steps<L>)
-    requires { Stands machine.old address.ROW }
+    requires { IsAt machine.old address.ROW }
     ensures { Exits machine.old machine.new steps.old steps.new (piece.ask_first (view machine.old)) }
 {
     run_piece(machine, steps, &[ADDR]);
@@ -25,7 +25,7 @@ pub fn ask_first<L: Ledger>(machine: &mut Machine, steps: &mut Steps<L>)
 
 /// The same piece of ST.
 pub fn ask_stored<L: Ledger>(machine: &mut Machine, steps: &mut Steps<L>)
-    requires { Stands machine.old address.STROW }
+    requires { IsAt machine.old address.STROW }
     ensures { Exits machine.old machine.new steps.old steps.new (piece.ask_stored (view machine.old)) }
 {
     run_piece(machine, steps, &[ADDR]);
@@ -33,7 +33,7 @@ pub fn ask_stored<L: Ledger>(machine: &mut Machine, steps: &mut Steps<L>)
 
 /// The same piece of MUL and DIV, whose destination has twice the width.
 pub fn ask_wide<L: Ledger>(machine: &mut Machine, steps: &mut Steps<L>)
-    requires { Stands machine.old address.WIDE }
+    requires { IsAt machine.old address.WIDE }
     ensures { Exits machine.old machine.new steps.old steps.new (piece.ask_wide (view machine.old)) }
 {
     run_piece(machine, steps, &[ADDR]);
@@ -41,7 +41,7 @@ pub fn ask_wide<L: Ledger>(machine: &mut Machine, steps: &mut Steps<L>)
 
 /// The piece of a row that keeps the place as the destination and asks LOAD for its value.
 pub fn load_first<L: Ledger>(machine: &mut Machine, steps: &mut Steps<L>)
-    requires { Stands machine.old address.OPSDST }
+    requires { IsAt machine.old address.OPSDST }
     ensures { Exits machine.old machine.new steps.old steps.new (piece.load_first (view machine.old)) }
 {
     run_piece(machine, steps, &[LOAD]);
@@ -49,7 +49,7 @@ pub fn load_first<L: Ledger>(machine: &mut Machine, steps: &mut Steps<L>)
 
 /// The same piece of MUL and DIV.
 pub fn load_wide<L: Ledger>(machine: &mut Machine, steps: &mut Steps<L>)
-    requires { Stands machine.old address.WIDDST }
+    requires { IsAt machine.old address.WIDDST }
     ensures { Exits machine.old machine.new steps.old steps.new (piece.load_wide (view machine.old)) }
 {
     run_piece(machine, steps, &[LOAD]);
@@ -57,7 +57,7 @@ pub fn load_wide<L: Ledger>(machine: &mut Machine, steps: &mut Steps<L>)
 
 /// The piece of ST that keeps the place as the destination.
 pub fn keep_stored<L: Ledger>(machine: &mut Machine, steps: &mut Steps<L>)
-    requires { Stands machine.old address.STDST }
+    requires { IsAt machine.old address.STDST }
     ensures { Exits machine.old machine.new steps.old steps.new (piece.keep_stored (view machine.old)) }
 {
     run_piece(machine, steps, &[OPSTWO]);
@@ -65,7 +65,7 @@ pub fn keep_stored<L: Ledger>(machine: &mut Machine, steps: &mut Steps<L>)
 
 /// The piece of a row that keeps the value, and gives 1 as the source of a row of one operand.
 pub fn keep_first<L: Ledger>(machine: &mut Machine, steps: &mut Steps<L>)
-    requires { Stands machine.old address.OPSVAL }
+    requires { IsAt machine.old address.OPSVAL }
     ensures { Exits machine.old machine.new steps.old steps.new (piece.keep_first (view machine.old)) }
 {
     run_piece(machine, steps, &[GO, OPSTWO]);
@@ -73,7 +73,7 @@ pub fn keep_first<L: Ledger>(machine: &mut Machine, steps: &mut Steps<L>)
 
 /// The piece of MUL and DIV that keeps the value, and finds the width of the source.
 pub fn keep_wide<L: Ledger>(machine: &mut Machine, steps: &mut Steps<L>)
-    requires { Stands machine.old address.WIDVAL }
+    requires { IsAt machine.old address.WIDVAL }
     ensures { Exits machine.old machine.new steps.old steps.new (piece.keep_wide (view machine.old)) }
 {
     run_piece(machine, steps, &[OPSTWO]);
@@ -81,7 +81,7 @@ pub fn keep_wide<L: Ledger>(machine: &mut Machine, steps: &mut Steps<L>)
 
 /// The piece of a row that asks STREAM for an immediate source, or ADDR for the source's place.
 pub fn ask_second<L: Ledger>(machine: &mut Machine, steps: &mut Steps<L>)
-    requires { Stands machine.old address.OPSTWO }
+    requires { IsAt machine.old address.OPSTWO }
     ensures { Exits machine.old machine.new steps.old steps.new (piece.ask_second (view machine.old)) }
 {
     run_piece(machine, steps, &[STREAM, ADDR]);
@@ -89,7 +89,7 @@ pub fn ask_second<L: Ledger>(machine: &mut Machine, steps: &mut Steps<L>)
 
 /// The piece of a row that asks LOAD for the value of the second operand.
 pub fn load_second<L: Ledger>(machine: &mut Machine, steps: &mut Steps<L>)
-    requires { Stands machine.old address.OPVAL }
+    requires { IsAt machine.old address.OPVAL }
     ensures { Exits machine.old machine.new steps.old steps.new (piece.load_second (view machine.old)) }
 {
     run_piece(machine, steps, &[LOAD]);
@@ -97,7 +97,7 @@ pub fn load_second<L: Ledger>(machine: &mut Machine, steps: &mut Steps<L>)
 
 /// The piece of a row that goes where the second table leads.
 pub fn go_to_row<L: Ledger>(machine: &mut Machine, steps: &mut Steps<L>)
-    requires stands { Stands machine.old address.GO }
+    requires is_at { IsAt machine.old address.GO }
     requires low { 0x80 ≤ (view machine.old).r.r0 }
     requires high { (view machine.old).r.r0 < 0xEC }
     ensures { Exits machine.old machine.new steps.old steps.new (piece.go_to_row (view machine.old)) }
@@ -153,7 +153,7 @@ fn load_destination<L: Ledger>(machine: &mut Machine, steps: &mut Steps<L>) -> b
 /// Loads the source of a row of two operands, which is immediate or at a place. Is it visible? If not, the machine
 /// stops by reason 2.
 fn load_source<L: Ledger>(machine: &mut Machine, steps: &mut Steps<L>) -> bool
-    requires stands { Stands machine.old address.OPSTWO }
+    requires is_at { IsAt machine.old address.OPSTWO }
     requires idle { PortsAreIdle machine.old.cpu.memory }
     requires fetched { IsFetched machine.old.cpu.memory.grom }
     requires some { 0 < (view machine.old).r.r3 }

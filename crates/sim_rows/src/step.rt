@@ -2,7 +2,7 @@
 
 ghost use Rattle.std.specs.Prelude.{◌+◌, ◌≡◌, slice_index};
 ghost use Rattle.sim_rows.specs.Prelude.{ReachesWithin, Dispatched, Exits, IsMatching, most_to_dispatch, operation_at};
-ghost use Rattle.sim_rows.specs.Prelude.{operation_entry, operation_in_view, shown_by, Stands, state_at_dispatch, view};
+ghost use Rattle.sim_rows.specs.Prelude.{operation_entry, operation_in_view, shown_by, IsAt, state_at_dispatch, view};
 ghost use Rattle.sim_view.specs.native_interp.declared.addresses.TheConstants as address;
 ghost use Rattle.sim_rows.specs.Pieces as piece;
 
@@ -13,7 +13,7 @@ use std::sync::ledger::Ledger;
 
 /// The piece of WHERE: the address of the next GROM byte.
 pub fn where_next<L: Ledger>(machine: &mut Machine, steps: &mut Steps<L>)
-    requires { Stands machine.old address.WHERE }
+    requires { IsAt machine.old address.WHERE }
     ensures { Exits machine.old machine.new steps.old steps.new (piece.where_next (view machine.old)) }
 {
     run_piece(machine, steps, &[]);
@@ -21,7 +21,7 @@ pub fn where_next<L: Ledger>(machine: &mut Machine, steps: &mut Steps<L>)
 
 /// The piece of a step that finds its code byte and goes where the first table leads.
 pub fn dispatch<L: Ledger>(machine: &mut Machine, steps: &mut Steps<L>)
-    requires { Stands machine.old address.GSTEP }
+    requires { IsAt machine.old address.GSTEP }
     ensures { Exits machine.old machine.new steps.old steps.new (piece.dispatch (view machine.old)) }
 {
     run_piece(machine, steps, &[]);

@@ -1,7 +1,7 @@
 //! The end of a row.
 
 ghost use Rattle.std.specs.Prelude.{◌<◌};
-ghost use Rattle.sim_rows.specs.Prelude.{EndsRow, Exits, IsVisible, PortsAreIdle, Stands, StoresResult, view};
+ghost use Rattle.sim_rows.specs.Prelude.{EndsRow, Exits, IsVisible, PortsAreIdle, IsAt, StoresResult, view};
 ghost use Rattle.sim_view.specs.native_interp.declared.addresses.TheConstants as address;
 ghost use Rattle.sim_operands.specs.Routines.{CanStore};
 ghost use Rattle.sim_rows.specs.Pieces as piece;
@@ -15,7 +15,7 @@ use std::sync::ledger::Ledger;
 
 /// The piece that asks STORE for the result of a row.
 pub fn store_result<L: Ledger>(machine: &mut Machine, steps: &mut Steps<L>)
-    requires { Stands machine.old address.STO }
+    requires { IsAt machine.old address.STO }
     ensures { Exits machine.old machine.new steps.old steps.new (piece.store_result (view machine.old)) }
 {
     run_piece(machine, steps, &[STORE]);
@@ -23,7 +23,7 @@ pub fn store_result<L: Ledger>(machine: &mut Machine, steps: &mut Steps<L>)
 
 /// The piece of SHOW: the step ends, or STORE is asked for the character on the screen.
 pub fn show<L: Ledger>(machine: &mut Machine, steps: &mut Steps<L>)
-    requires { Stands machine.old address.SHOW }
+    requires { IsAt machine.old address.SHOW }
     ensures { Exits machine.old machine.new steps.old steps.new (piece.show (view machine.old)) }
 {
     run_piece(machine, steps, &[STORE]);
@@ -31,7 +31,7 @@ pub fn show<L: Ledger>(machine: &mut Machine, steps: &mut Steps<L>)
 
 /// SHOW, whole: the end of a row.
 pub fn end_row_routine<L: Ledger>(machine: &mut Machine, steps: &mut Steps<L>)
-    requires { Stands machine.old address.SHOW }
+    requires { IsAt machine.old address.SHOW }
     ensures { Exits machine.old machine.new steps.old steps.new (routine.end_row (view machine.old)) }
 {
     if register(machine, 13) == 0 {
@@ -44,7 +44,7 @@ pub fn end_row_routine<L: Ledger>(machine: &mut Machine, steps: &mut Steps<L>)
 
 /// STO, whole: a result is stored, and its row ends.
 pub fn finish_row_routine<L: Ledger>(machine: &mut Machine, steps: &mut Steps<L>)
-    requires stands { Stands machine.old address.STO }
+    requires is_at { IsAt machine.old address.STO }
     requires visible { CanStore (view machine.old) }
     ensures { Exits machine.old machine.new steps.old steps.new (routine.finish_row (view machine.old)) }
 {
@@ -55,7 +55,7 @@ pub fn finish_row_routine<L: Ledger>(machine: &mut Machine, steps: &mut Steps<L>
 
 /// Ends a row whose results are stored: the character goes to the screen if a byte was stored at its cell.
 pub fn end_row<L: Ledger>(machine: &mut Machine, steps: &mut Steps<L>)
-    requires stands { Stands machine.old address.SHOW }
+    requires is_at { IsAt machine.old address.SHOW }
     requires idle { PortsAreIdle machine.old.cpu.memory }
     ensures { EndsRow machine.old machine.new steps.old steps.new }
 {
@@ -64,7 +64,7 @@ pub fn end_row<L: Ledger>(machine: &mut Machine, steps: &mut Steps<L>)
 
 /// Stores the result of a row, which is in register 9, and ends the row.
 pub fn finish_row<L: Ledger>(machine: &mut Machine, steps: &mut Steps<L>)
-    requires stands { Stands machine.old address.STO }
+    requires is_at { IsAt machine.old address.STO }
     requires idle { PortsAreIdle machine.old.cpu.memory }
     requires space { (view machine.old).r.r8 < 2 }
     requires visible { let r = (view machine.old).r in IsVisible r.r8 r.r7 r.r3 }

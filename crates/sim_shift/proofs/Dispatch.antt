@@ -1,7 +1,7 @@
 -- The operations of this family are rows, each of one shift.
 use Rattle.std.proofs.Common.{ℕ, ◌∙◌, ◌≡◌, ap, Option, refl, Some, subst, true}
 use Rattle.sim_rows.specs.Prelude.{AtEntry}
-use Rattle.sim_rows.proofs.Common.{GplOperation, is_row, MachineState, One, row_entry, ShiftOp, Stands, Two}
+use Rattle.sim_rows.proofs.Common.{GplOperation, is_row, MachineState, One, row_entry, ShiftOp, IsAt, Two}
 use Rattle.sim_shift.specs.Family.{count_entry, is_shift, name_of, shift_of}
 use Rattle.sim_rows.specs.tms_defs.declared.instruction.ShiftOp.TheVariants as shift
 use Rattle.sim_rows.specs.gpl_defs.declared.instruction.TwoName.TheVariants as two
@@ -24,7 +24,7 @@ entry_is shift.SLA = refl
 entry_is shift.SRL = refl
 entry_is shift.SRC = refl
 
-pub counts : {operation : GplOperation} {x : MachineState} → AtEntry is_shift operation x → Stands x (count_entry (shift_of operation))
+pub counts : {operation : GplOperation} {x : MachineState} → AtEntry is_shift operation x → IsAt x (count_entry (shift_of operation))
 counts {operation = operation} {x = x} at =
-    subst (λ (n : ℕ). Stands x n)
-    (ap (λ (o : GplOperation). row_entry (Some o)) (named operation at.family) ∙ entry_is (shift_of operation)) at.stands
+    subst (λ (n : ℕ). IsAt x n)
+    (ap (λ (o : GplOperation). row_entry (Some o)) (named operation at.family) ∙ entry_is (shift_of operation)) at.is_at

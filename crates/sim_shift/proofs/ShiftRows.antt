@@ -3,7 +3,7 @@ use Rattle.std.proofs.Common.{ℕ, ◌<◌, ◌∙◌, ◌≡◌, ◌≤◌, ap,
 use Rattle.std.proofs.lemmas.Bool.{eqb-true}
 use Rattle.sim_rows.proofs.Common.{AtRow, Changes, ReachesWithin, comes, comes_as, comes_on, comes_then, COUNT, count_of, even, Exits, gone_on, GplState, GSTEP, is_turn_end}
 use Rattle.sim_rows.proofs.Common.{is_view, IsMachine, MachineState, operation_in, Place, return_of, row_result, row_width, SeesFinished, SeesResult, ShiftOp}
-use Rattle.sim_rows.proofs.Common.{SLA, Source, SRA, SRC, SRL, Stands, STO, StoresResult, Storing, Two, unchanged, value_at, View, view}
+use Rattle.sim_rows.proofs.Common.{SLA, Source, SRA, SRC, SRL, IsAt, STO, StoresResult, Storing, Two, unchanged, value_at, View, view}
 use Rattle.sim_shift.specs.Pieces.{low_four}
 use Rattle.sim_shift.specs.Family.{name_of, shift_entry}
 use Rattle.sim_shift.proofs.Shifts.{counted_word, counts_few, entry_even, Keeps, kept_of, none, number_by, shifts, some, stores_none, stores_some, HasCount}
@@ -49,8 +49,8 @@ module _ (op : ShiftOp) {x y z : MachineState} {t u w : ℕ} (e1 : Exits x y t u
   ends_at : not (eqb (pieces.take_count (view y)).to STO) ≡ false → (pieces.take_count (view y)).to ≡ STO
   ends_at e = eqb-true (pieces.take_count (view y)).to STO (not_false (eqb (pieces.take_count (view y)).to STO) e)
 
-  pub stands_none : not (eqb (pieces.take_count (view y)).to STO) ≡ false → Stands z STO
-  stands_none e = subst (λ (n : ℕ). Stands z n) (ends_at e) e2.stands
+  pub at_none : not (eqb (pieces.take_count (view y)).to STO) ≡ false → IsAt z STO
+  at_none e = subst (λ (n : ℕ). IsAt z n) (ends_at e) e2.is_at
 
   no_count : not (eqb (pieces.take_count (view y)).to STO) ≡ false → low_four (counted_word (view y)) ≡ 0
   no_count e = none (view y) (ends_at e) (ap (λ (n : ℕ). eqb n STO) returns_to ∙ (entry_even op).1)
@@ -59,8 +59,8 @@ module _ (op : ShiftOp) {x y z : MachineState} {t u w : ℕ} (e1 : Exits x y t u
   goes_to : not (eqb (pieces.take_count (view y)).to STO) ≡ true → (pieces.take_count (view y)).to ≡ shift_entry op
   goes_to e = (some (view y) (not_true (eqb (pieces.take_count (view y)).to STO) e)).0 ∙ returns_to ∙ (entry_even op).0
 
-  pub stands_some : not (eqb (pieces.take_count (view y)).to STO) ≡ true → Stands z (shift_entry op)
-  stands_some e = subst (λ (n : ℕ). Stands z n) (goes_to e) e2.stands
+  pub at_some : not (eqb (pieces.take_count (view y)).to STO) ≡ true → IsAt z (shift_entry op)
+  at_some e = subst (λ (n : ℕ). IsAt z n) (goes_to e) e2.is_at
 
   pub count_some : not (eqb (pieces.take_count (view y)).to STO) ≡ true → 0 < (view z).r.r0
   count_some e =

@@ -2,7 +2,7 @@
 
 ghost use Rattle.std.specs.Prelude.{◌<◌, ◌≡◌};
 ghost use Rattle.sim_rows.specs.Prelude.{AtDispatch, AtEntry, Exits, IsVisible, PortsAreIdle};
-ghost use Rattle.sim_rows.specs.Prelude.{from_dispatch, RunsRow, Stands, state_at_dispatch, Turned, Two, view};
+ghost use Rattle.sim_rows.specs.Prelude.{from_dispatch, RunsRow, IsAt, state_at_dispatch, Turned, Two, view};
 ghost use Rattle.sim_shift.specs.Pieces.{asking, shifts};
 ghost use Rattle.sim_shift.specs.Family as family;
 ghost use Rattle.sim_rows.specs.sim_view.Bounds.{most_of_shift_row};
@@ -31,7 +31,7 @@ fn shift_of(operation: GplOperation) -> ShiftOp
 
 /// The first piece of a shift, which asks for its count.
 fn ask_count<L: Ledger>(machine: &mut Machine, steps: &mut Steps<L>, op: ShiftOp)
-    requires { Stands machine.old (family.count_entry op) }
+    requires { IsAt machine.old (family.count_entry op) }
     ensures { Exits machine.old machine.new steps.old steps.new (asking (family.shift_entry op) (view machine.old)) }
 {
     match op {
@@ -44,7 +44,7 @@ fn ask_count<L: Ledger>(machine: &mut Machine, steps: &mut Steps<L>, op: ShiftOp
 
 /// The last piece of a shift, which shifts its value.
 fn shift_value<L: Ledger>(machine: &mut Machine, steps: &mut Steps<L>, op: ShiftOp)
-    requires stands { Stands machine.old (family.shift_entry op) }
+    requires is_at { IsAt machine.old (family.shift_entry op) }
     requires some { 0 < (view machine.old).r.r0 }
     requires few { (view machine.old).r.r0 < 16 }
     ensures { Exits machine.old machine.new steps.old steps.new (shifts op (view machine.old)) }
@@ -59,7 +59,7 @@ fn shift_value<L: Ledger>(machine: &mut Machine, steps: &mut Steps<L>, op: Shift
 
 /// Runs a shift by its name, from its row to the end of the step.
 fn run_named<L: Ledger>(machine: &mut Machine, steps: &mut Steps<L>, op: ShiftOp)
-    requires stands { Stands machine.old (family.count_entry op) }
+    requires is_at { IsAt machine.old (family.count_entry op) }
     requires idle { PortsAreIdle machine.old.cpu.memory }
     requires space { (view machine.old).r.r8 < 2 }
     requires visible { let r = (view machine.old).r in IsVisible r.r8 r.r7 r.r3 }

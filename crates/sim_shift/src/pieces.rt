@@ -1,7 +1,7 @@
 //! The pieces of the shifts.
 
 ghost use Rattle.std.specs.Prelude.{◌<◌, ◌≡◌, eqb, not};
-ghost use Rattle.sim_rows.specs.Prelude.{Exits, Stands, view};
+ghost use Rattle.sim_rows.specs.Prelude.{Exits, IsAt, view};
 ghost use Rattle.sim_rows.specs.native_interp.declared.addresses.TheConstants as address;
 ghost use Rattle.sim_shift.specs.Pieces as piece;
 
@@ -12,7 +12,7 @@ use std::sync::ledger::Ledger;
 
 /// The piece of SRA that asks for its count.
 pub fn ask_arithmetic_count<L: Ledger>(machine: &mut Machine, steps: &mut Steps<L>)
-    requires { Stands machine.old address.SRAV }
+    requires { IsAt machine.old address.SRAV }
     ensures { Exits machine.old machine.new steps.old steps.new (piece.ask_arithmetic_count (view machine.old)) }
 {
     run_piece(machine, steps, &[COUNT]);
@@ -20,7 +20,7 @@ pub fn ask_arithmetic_count<L: Ledger>(machine: &mut Machine, steps: &mut Steps<
 
 /// The piece of SLL that asks for its count.
 pub fn ask_left_count<L: Ledger>(machine: &mut Machine, steps: &mut Steps<L>)
-    requires { Stands machine.old address.SLLV }
+    requires { IsAt machine.old address.SLLV }
     ensures { Exits machine.old machine.new steps.old steps.new (piece.ask_left_count (view machine.old)) }
 {
     run_piece(machine, steps, &[COUNT]);
@@ -28,7 +28,7 @@ pub fn ask_left_count<L: Ledger>(machine: &mut Machine, steps: &mut Steps<L>)
 
 /// The piece of SRL that asks for its count.
 pub fn ask_right_count<L: Ledger>(machine: &mut Machine, steps: &mut Steps<L>)
-    requires { Stands machine.old address.SRLV }
+    requires { IsAt machine.old address.SRLV }
     ensures { Exits machine.old machine.new steps.old steps.new (piece.ask_right_count (view machine.old)) }
 {
     run_piece(machine, steps, &[COUNT]);
@@ -36,7 +36,7 @@ pub fn ask_right_count<L: Ledger>(machine: &mut Machine, steps: &mut Steps<L>)
 
 /// The piece of SRC that asks for its count.
 pub fn ask_turn_count<L: Ledger>(machine: &mut Machine, steps: &mut Steps<L>)
-    requires { Stands machine.old address.SRCV }
+    requires { IsAt machine.old address.SRCV }
     ensures { Exits machine.old machine.new steps.old steps.new (piece.ask_turn_count (view machine.old)) }
 {
     run_piece(machine, steps, &[COUNT]);
@@ -45,7 +45,7 @@ pub fn ask_turn_count<L: Ledger>(machine: &mut Machine, steps: &mut Steps<L>)
 /// The piece that finds the count of a shift, the low four bits of the source. Is there one? If it is 0 the machine
 /// goes to STO, and else the piece returns.
 pub fn take_count<L: Ledger>(machine: &mut Machine, steps: &mut Steps<L>) -> bool
-    requires { Stands machine.old address.COUNT }
+    requires { IsAt machine.old address.COUNT }
     ensures exits { Exits machine.old machine.new steps.old steps.new (piece.take_count (view machine.old)) }
     ensures some { result ≡ not (eqb (piece.take_count (view machine.old)).to address.STO) }
 {
@@ -55,7 +55,7 @@ pub fn take_count<L: Ledger>(machine: &mut Machine, steps: &mut Steps<L>) -> boo
 
 /// The piece of SRA that shifts the value by the count.
 pub fn shift_arithmetic<L: Ledger>(machine: &mut Machine, steps: &mut Steps<L>)
-    requires stands { Stands machine.old address.SRAB }
+    requires is_at { IsAt machine.old address.SRAB }
     requires some { 0 < (view machine.old).r.r0 }
     requires few { (view machine.old).r.r0 < 16 }
     ensures { Exits machine.old machine.new steps.old steps.new (piece.shift_arithmetic (view machine.old)) }
@@ -65,7 +65,7 @@ pub fn shift_arithmetic<L: Ledger>(machine: &mut Machine, steps: &mut Steps<L>)
 
 /// The piece of SLL that shifts the value by the count.
 pub fn shift_left<L: Ledger>(machine: &mut Machine, steps: &mut Steps<L>)
-    requires stands { Stands machine.old address.SLLB }
+    requires is_at { IsAt machine.old address.SLLB }
     requires some { 0 < (view machine.old).r.r0 }
     requires few { (view machine.old).r.r0 < 16 }
     ensures { Exits machine.old machine.new steps.old steps.new (piece.shift_left (view machine.old)) }
@@ -75,7 +75,7 @@ pub fn shift_left<L: Ledger>(machine: &mut Machine, steps: &mut Steps<L>)
 
 /// The piece of SRL that shifts the value by the count.
 pub fn shift_right<L: Ledger>(machine: &mut Machine, steps: &mut Steps<L>)
-    requires stands { Stands machine.old address.SRLB }
+    requires is_at { IsAt machine.old address.SRLB }
     requires some { 0 < (view machine.old).r.r0 }
     requires few { (view machine.old).r.r0 < 16 }
     ensures { Exits machine.old machine.new steps.old steps.new (piece.shift_right (view machine.old)) }
@@ -85,7 +85,7 @@ pub fn shift_right<L: Ledger>(machine: &mut Machine, steps: &mut Steps<L>)
 
 /// The piece of SRC that turns the value by the count.
 pub fn turn_right<L: Ledger>(machine: &mut Machine, steps: &mut Steps<L>)
-    requires stands { Stands machine.old address.SRCB }
+    requires is_at { IsAt machine.old address.SRCB }
     requires some { 0 < (view machine.old).r.r0 }
     requires few { (view machine.old).r.r0 < 16 }
     ensures { Exits machine.old machine.new steps.old steps.new (piece.turn_right (view machine.old)) }

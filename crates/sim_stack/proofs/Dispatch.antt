@@ -2,7 +2,7 @@
 use Rattle.std.proofs.Common.{None, ◌∙◌, ◌≡◌, ap, Option, refl, Some, subst, sym, true, ℕ}
 use Rattle.sim_rows.proofs.Common.{after_code, code_byte, Dispatched, grom_at, GplState, IsView, View}
 use Rattle.sim_rows.proofs.Common.{AtDispatch, CALL, GOCALL, GoOp, GORTN, GplOperation, is_row, Jump, MachineState, One}
-use Rattle.sim_rows.proofs.Common.{OneName, operation_entry, operation_in_view, Plain, PlainOp, RTN, RTNC, Stands, view}
+use Rattle.sim_rows.proofs.Common.{OneName, operation_entry, operation_in_view, Plain, PlainOp, RTN, RTNC, IsAt, view}
 use Rattle.sim_stack.proofs.Common.{is_stack, is_stack_row}
 use Rattle.sim_rows.specs.gpl_defs.declared.instruction.OneName.TheVariants as one
 
@@ -28,21 +28,21 @@ module _ {x : MachineState} (at : AtDispatch is_stack x) where
   pub here : {o : Option GplOperation} → operation_in_view (view x) ≡ o → is_stack o ≡ true
   here is = subst (λ (p : Option GplOperation). is_stack p ≡ true) is at.family
 
-  stands_at : {o : Option GplOperation} {n : ℕ} → operation_in_view (view x) ≡ o → operation_entry o ≡ n → Stands x n
-  stands_at is e = subst (λ (n : ℕ). Stands x n) (ap operation_entry is ∙ e) at.stands
+  is_at_address : {o : Option GplOperation} {n : ℕ} → operation_in_view (view x) ≡ o → operation_entry o ≡ n → IsAt x n
+  is_at_address is e = subst (λ (n : ℕ). IsAt x n) (ap operation_entry is ∙ e) at.is_at
 
-  pub stands_return : {op : PlainOp} → operation_in_view (view x) ≡ Some (Plain op) → Stands x GORTN
-  stands_return {op = op} is = stands_at is (of_plain op (here is))
+  pub at_return : {op : PlainOp} → operation_in_view (view x) ≡ Some (Plain op) → IsAt x GORTN
+  at_return {op = op} is = is_at_address is (of_plain op (here is))
 
   pub is_call : {op : GoOp} → operation_in_view (view x) ≡ Some (Jump op) → operation_in_view (view x) ≡ Some (Jump CALL)
   is_call {op = op} is = is ∙ ap (λ (o : GoOp). Some (Jump o)) (of_jump op (here is))
 
-  pub stands_call : {op : GoOp} → operation_in_view (view x) ≡ Some (Jump op) → Stands x GOCALL
-  stands_call is = stands_at (is_call is) refl
+  pub at_call : {op : GoOp} → operation_in_view (view x) ≡ Some (Jump op) → IsAt x GOCALL
+  at_call is = is_at_address (is_call is) refl
 
   pub row_here : {op : OneName} → operation_in_view (view x) ≡ Some (One op) → AtDispatch is_stack_row x
   row_here {op = op} is = record {
-    stands = at.stands;
+    is_at = at.is_at;
     dispatched = at.dispatched;
     family = subst (λ (p : Option GplOperation). is_stack_row p ≡ true) (sym is) (of_one op (here is));
   }

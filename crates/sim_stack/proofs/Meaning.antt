@@ -5,7 +5,7 @@ use Rattle.sim_rows.proofs.Common.{◌>>=◌, AtDispatch, AtRow, bound, bound_ma
 use Rattle.sim_rows.proofs.Common.{code_byte, Dispatched, EXIT, Exit, Exits, finished, from_dispatch, GplOperation, GplState}
 use Rattle.sim_rows.proofs.Common.{if_true, is_exit, is_turn_end, is_view, IsView, Jump, MachineState, matches, most_to_dispatch, never_exits}
 use Rattle.sim_rows.proofs.Common.{One, operands_of, operation_at, operation_in, Place, Plain, PlainOp, PUSH, reaches}
-use Rattle.sim_rows.proofs.Common.{Reason, row_result, row_width, size_of, Source, Stands, state_at_dispatch, step}
+use Rattle.sim_rows.proofs.Common.{Reason, row_result, row_width, size_of, Source, IsAt, state_at_dispatch, step}
 use Rattle.sim_rows.proofs.Common.{step_jump, step_plain, Stopped, stops, Turn, Turned, turned_by, TurnsBy, unchanged}
 use Rattle.sim_rows.proofs.Common.{View, view, Width, Word, word_or_byte}
 use Rattle.sim_rows.specs.gpl_defs.declared.instruction.OneName.TheVariants.{FETCH}
@@ -46,9 +46,9 @@ module _ {x y : MachineState} {before after : ℕ} {turn : Turn} (turn_is : turn
   -- the turn, by where it ended
   pub turns_at : {e : Exit} (most : ℕ) (s : GplState) (r : Result Changes Reason) → Exits x y before after e →
       EndsByRoom e most s r → TurnsBy most s x y before after turn r
-  turns_at most s (Ok c) run h = let k = comes_by run h in (turn_is ∙ ap turn_at k.stands.pc, k)
+  turns_at most s (Ok c) run h = let k = comes_by run h in (turn_is ∙ ap turn_at k.is_at.pc, k)
   turns_at most s (Err reason) run h =
-      let k = comes_by run h.1 in (turn_is ∙ ap turn_at k.stands.pc ∙ ap Stopped (sym h.0), k)
+      let k = comes_by run h.1 in (turn_is ∙ ap turn_at k.is_at.pc ∙ ap Stopped (sym h.0), k)
 
   -- what is no row, by its result
   turned_by_result : (s : GplState) (r : Result Changes Reason) {e : Exit} → is_turn_end x.cpu.pc ≡ false →
@@ -61,7 +61,7 @@ module _ {x y : MachineState} {before after : ℕ} {turn : Turn} (turn_is : turn
       turned_by x y before after most_to_dispatch turn s (Ok (finished c)) is (
         k.0,
         reaches most_to_dispatch (bound s) k.1 start refl (omega arith),
-        matches (finished c) y k.1.stands k.1.holds,
+        matches (finished c) y k.1.is_at k.1.holds,
       )
   turned_by_result s (Err reason) start stays is bound_is run h =
       let k = turns_at 54 s (Err reason) run h in
@@ -69,24 +69,24 @@ module _ {x y : MachineState} {before after : ℕ} {turn : Turn} (turn_is : turn
       turned_by x y before after most_to_dispatch turn s (Err reason) is (
         k.0,
         reaches most_to_dispatch (bound s) k.1 start refl (omega arith),
-        stops s reason y (never_exits s reason stays is) k.1.stands k.1.holds,
+        stops s reason y (never_exits s reason stays is) k.1.is_at k.1.holds,
       )
 
-  module _ (s : GplState) {entry : ℕ} (stands : Stands x entry) (start : is_turn_end entry ≡ false)
+  module _ (s : GplState) {entry : ℕ} (is_at : IsAt x entry) (start : is_turn_end entry ≡ false)
       (d : Dispatched s (view x)) where
     pub call_turns : operation_in s ≡ Some (Jump CALL) → Exits x y before after (called (view x)) →
         Turned s x y (from_dispatch before after) turn
     call_turns op run =
-        turned_by_result s (jump CALL (read_in s).0 (unchanged (beyond s))) (ap is_turn_end stands.pc ∙ start) (ap is_exit op)
+        turned_by_result s (jump CALL (read_in s).0 (unchanged (beyond s))) (ap is_turn_end is_at.pc ∙ start) (ap is_exit op)
         (step_jump s CALL op) (λ next. bound_made s next (Some (Jump CALL)) op) run
-        (calls s (view x) (is_view x stands.machine) d)
+        (calls s (view x) (is_view x is_at.machine) d)
 
     pub return_turns : (op : PlainOp) → is_stack (Some (Plain op)) ≡ true → operation_in s ≡ Some (Plain op) →
         Exits x y before after (returned (view x)) → Turned s x y (from_dispatch before after) turn
     return_turns op family at run =
-        turned_by_result s (plain op (unchanged (past_code s))) (ap is_turn_end stands.pc ∙ start)
+        turned_by_result s (plain op (unchanged (past_code s))) (ap is_turn_end is_at.pc ∙ start)
         (stack_stays (operation_in s) (ap is_stack at ∙ family)) (step_plain s op at)
-        (λ next. bound_made s next (Some (Plain op)) at) run (returns s (view x) op family (is_view x stands.machine) d at)
+        (λ next. bound_made s next (Some (Plain op)) at) run (returns s (view x) op family (is_view x is_at.machine) d at)
 
 -- ---- they have the form of bytes alone
 
@@ -113,7 +113,7 @@ module _ {x y : MachineState} {t u : ℕ} {op : GplOperation} {found : Option Gp
     turned {z = z} {v = v} {turn = turn} run turn_is =
         let b = family.begun rows at is l in
         let e = family.family rows at is l in
-        let i = is_view y b.comes.stands.machine in
+        let i = is_view y b.comes.is_at.machine in
         family.turned_or rows at is l 131 z v turn (omega arith)
         (λ s place source known here operands. turns_at turn_is 131 s (row_result op s place source) run
         (row_means op e s place source (view y) i byte_row known here operands))

@@ -4,7 +4,7 @@ use Rattle.sim_rows.proofs.Common.{exit, Exit, FETCHP, FETCHS, grom_at, GromStat
 use Rattle.sim_rows.proofs.Common.{shifted, SLA, View, with_grom_address}
 use Rattle.sim_stack.proofs.Common.{◌>>◌, address_before, at_first, Ends, locate_stacked, one_at_most, one_if}
 use Rattle.sim_stack.proofs.Common.{set_aside}
-use Rattle.sim_jumps.proofs.NextAddress.{sought}
+use Rattle.sim_jumps.proofs.NextAddress.{seeks}
 
 -- WHERE and SEEK, whatever is made of the address and of GROM
 module _ (image : List ℕ) (at link : ℕ) (made : ℕ → GromState → View) (f : View → Exit) {b to : ℕ} {R : View → Type 0}
@@ -17,7 +17,7 @@ module _ (image : List ℕ) (at link : ℕ) (made : ℕ → GromState → View) 
 
   pub found_first : Ends (read (address_before (next_in_grom at)) >> f) (13 + b) to R
   found_first =
-      subst (λ (e : Exit). Ends (e >> f) (13 + b) to R) (sym (sought image at (λ n. n) found fits fits)) (λ bytes.
+      subst (λ (e : Exit). Ends (e >> f) (13 + b) to R) (sym (seeks image at (λ n. n) found fits fits)) (λ bytes.
       let g = next bytes in
       let w = g.within in
       let one = one_at_most (at_first (next_in_grom at)) in

@@ -18,8 +18,8 @@ with_top v = record v { r = record v.r { r2 = return_offset v } }
 abbrev return_ends : List ℕ
 return_ends = TAKE ∷ GOTO ∷ []
 
-return_barred : (v : View) → nat_lt 0xC0 (return_offset v) ≡ true → Rest return_ends 0 16 v GORTN (pieces.full 7 (with_top v))
-return_barred v c = record { by = λ f. rw (c, not_limit 0xC0 (return_offset v) c) refl }
+return_rejected : (v : View) → nat_lt 0xC0 (return_offset v) ≡ true → Rest return_ends 0 16 v GORTN (pieces.full 7 (with_top v))
+return_rejected v c = record { by = λ f. rw (c, not_limit 0xC0 (return_offset v) c) refl }
 
 return_near : (v : View) → nat_lt 0xC0 (return_offset v) ≡ false → Part return_ends 4 v GORTN (with_top v) RTNW
 return_near v c = record { by = λ f. rw c refl }
@@ -46,7 +46,7 @@ unfolding if_room
 take_return v i =
     leads return_ends
     (pick (nat_lt 0xC0 (return_offset v))
-    (λ c. rest_is (rw (c, pieces.take_return) refl) (return_barred v c))
+    (λ c. rest_is (rw (c, pieces.take_return) refl) (return_rejected v c))
     (λ c. rest_is (rw (c, pieces.take_return) refl) (part_then return_ends 4 0 12 (return_near v c)
     (return_taken (with_top v) i.cells (at_most 0xC0 (return_offset v) c)))))
 

@@ -1,6 +1,6 @@
 //! CALL: the address after the call goes on the stack of return addresses.
 
-ghost use Rattle.sim_rows.specs.Prelude.{Exits, Stands, view};
+ghost use Rattle.sim_rows.specs.Prelude.{Exits, IsAt, view};
 ghost use Rattle.sim_rows.specs.native_interp.declared.addresses.TheConstants as address;
 ghost use Rattle.sim_stack.specs.Rows as row;
 
@@ -12,7 +12,7 @@ use std::sync::ledger::Ledger;
 
 /// Runs CALL from its dispatch to the end of the step.
 pub fn run_call<L: Ledger>(machine: &mut Machine, steps: &mut Steps<L>)
-    requires { Stands machine.old address.GOCALL }
+    requires { IsAt machine.old address.GOCALL }
     ensures { Exits machine.old machine.new steps.old steps.new (row.called (view machine.old)) }
 {
     read_call_target(machine, steps);

@@ -1,7 +1,7 @@
 //! The instructions that use the stacks, from their dispatch to the end of the step.
 
 ghost use Rattle.std.specs.Prelude.{◌≡◌, Some, true};
-ghost use Rattle.sim_rows.specs.Prelude.{AtDispatch, AtEntry, Exits, from_dispatch, One, row_entry, Stands};
+ghost use Rattle.sim_rows.specs.Prelude.{AtDispatch, AtEntry, Exits, from_dispatch, One, row_entry, IsAt};
 ghost use Rattle.sim_rows.specs.Prelude.{state_at_dispatch, Turned, view};
 ghost use Rattle.sim_rows.specs.sim_operands.Routines.{CanStore};
 ghost use Rattle.sim_stack.specs.Family.{is_stack, is_stack_row};
@@ -30,7 +30,7 @@ fn turn_here(machine: &Machine) -> Turn
 
 /// Runs the row of FETCH or PUSH to the end of the step.
 fn run_row_of_one<L: Ledger>(machine: &mut Machine, steps: &mut Steps<L>, name: OneName)
-    requires stands { Stands machine.old (row_entry (Some (One name))) }
+    requires is_at { IsAt machine.old (row_entry (Some (One name))) }
     requires family { is_stack_row (Some (One name)) ≡ true }
     requires byte { (view machine.old).r.r3 ≡ 1 }
     requires visible { CanStore (view machine.old) }

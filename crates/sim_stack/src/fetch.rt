@@ -1,7 +1,7 @@
 //! FETCH: the byte at the return address is stored, and that address goes on.
 
 ghost use Rattle.std.specs.Prelude.{◌≡◌};
-ghost use Rattle.sim_rows.specs.Prelude.{Exits, IsVisible, Stands, view};
+ghost use Rattle.sim_rows.specs.Prelude.{Exits, IsVisible, IsAt, view};
 ghost use Rattle.sim_rows.specs.sim_operands.Routines.{CanStore};
 ghost use Rattle.sim_rows.specs.native_interp.declared.addresses.TheConstants as address;
 ghost use Rattle.sim_stack.specs.Rows as row;
@@ -19,7 +19,7 @@ use std::sync::ledger::Ledger;
 
 /// Keeps the next address, where GROM goes on.
 fn set_aside<L: Ledger>(machine: &mut Machine, steps: &mut Steps<L>)
-    requires stands { Stands machine.old address.WHERE }
+    requires is_at { IsAt machine.old address.WHERE }
     requires link { (view machine.old).r.r11 ≡ address.FETCHN }
     ensures { Exits machine.old machine.new steps.old steps.new (row.set_aside (view machine.old)) }
 {
@@ -30,7 +30,7 @@ fn set_aside<L: Ledger>(machine: &mut Machine, steps: &mut Steps<L>)
 
 /// Loads the address on the stack.
 fn load_stacked<L: Ledger>(machine: &mut Machine, steps: &mut Steps<L>)
-    requires stands { Stands machine.old address.FETCHP }
+    requires is_at { IsAt machine.old address.FETCHP }
     requires visible { IsVisible 0 (view machine.old).r.r2 2 }
     ensures { Exits machine.old machine.new steps.old steps.new (row.load_stacked (view machine.old)) }
 {
@@ -40,7 +40,7 @@ fn load_stacked<L: Ledger>(machine: &mut Machine, steps: &mut Steps<L>)
 
 /// Reads the byte of GROM at that address.
 fn fetch_stacked<L: Ledger>(machine: &mut Machine, steps: &mut Steps<L>)
-    requires { Stands machine.old address.FETCHA }
+    requires { IsAt machine.old address.FETCHA }
     ensures { Exits machine.old machine.new steps.old steps.new (row.fetch_stacked (view machine.old)) }
 {
     seek_stacked(machine, steps);
@@ -52,7 +52,7 @@ fn fetch_stacked<L: Ledger>(machine: &mut Machine, steps: &mut Steps<L>)
 
 /// Finds the address after the byte, to be stored.
 fn locate_stacked<L: Ledger>(machine: &mut Machine, steps: &mut Steps<L>)
-    requires stands { Stands machine.old address.WHERE }
+    requires is_at { IsAt machine.old address.WHERE }
     requires link { (view machine.old).r.r11 ≡ address.FETCHB }
     ensures { Exits machine.old machine.new steps.old steps.new (row.locate_stacked (view machine.old)) }
 {
@@ -63,7 +63,7 @@ fn locate_stacked<L: Ledger>(machine: &mut Machine, steps: &mut Steps<L>)
 
 /// Stores the address and the byte, and goes on after the instruction.
 fn end_fetch<L: Ledger>(machine: &mut Machine, steps: &mut Steps<L>)
-    requires stands { Stands machine.old address.FETCHS }
+    requires is_at { IsAt machine.old address.FETCHS }
     requires visible { row.CanStoreBoth (view machine.old) }
     ensures { Exits machine.old machine.new steps.old steps.new (row.end_fetch (view machine.old)) }
 {
@@ -76,7 +76,7 @@ fn end_fetch<L: Ledger>(machine: &mut Machine, steps: &mut Steps<L>)
 
 /// Runs FETCH from its row to the end of the step.
 pub fn run_fetched<L: Ledger>(machine: &mut Machine, steps: &mut Steps<L>)
-    requires stands { Stands machine.old address.FETCHV }
+    requires is_at { IsAt machine.old address.FETCHV }
     requires byte { (view machine.old).r.r3 ≡ 1 }
     requires visible { CanStore (view machine.old) }
     ensures { Exits machine.old machine.new steps.old steps.new (row.fetched (view machine.old)) }

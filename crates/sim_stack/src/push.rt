@@ -1,7 +1,7 @@
 //! PUSH: a byte goes on the data stack.
 
 ghost use Rattle.std.specs.Prelude.{◌≡◌};
-ghost use Rattle.sim_rows.specs.Prelude.{Exits, Stands, view};
+ghost use Rattle.sim_rows.specs.Prelude.{Exits, IsAt, view};
 ghost use Rattle.sim_rows.specs.native_interp.declared.addresses.TheConstants as address;
 ghost use Rattle.sim_stack.specs.Rows as row;
 
@@ -13,7 +13,7 @@ use std::sync::ledger::Ledger;
 
 /// Runs PUSH from its row to the end of the step.
 pub fn run_push<L: Ledger>(machine: &mut Machine, steps: &mut Steps<L>)
-    requires stands { Stands machine.old address.PUSHV }
+    requires is_at { IsAt machine.old address.PUSHV }
     requires byte { (view machine.old).r.r3 ≡ 1 }
     ensures { Exits machine.old machine.new steps.old steps.new (row.pushed (view machine.old)) }
 {

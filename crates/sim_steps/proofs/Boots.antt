@@ -1,7 +1,7 @@
 -- From boot to the first step.
 use Rattle.std.proofs.Common.{ℕ, ◌<◌, ◌||◌, ◌∙◌, ◌≡◌, ap, arith, Bool, eqb, false, None, refl, suc, sym, true, zero}
 use Rattle.sim_rows.proofs.Common.{comes, comes_then, Exits, from, GBOOT, given, Gives, Goes, goes_in, GSTEP, just, MachineState, matches, Runs, SEEK, ShowsState}
-use Rattle.sim_rows.proofs.Common.{set_is, Stands, steps, View, view}
+use Rattle.sim_rows.proofs.Common.{set_is, IsAt, steps, View, view}
 use Rattle.sim_rows.specs.sim_operands.Pieces as operands
 use Rattle.sim_steps.specs.Starting.{StartsProgram, booted}
 use Rattle.sim_steps.specs.Pieces as pieces
@@ -16,7 +16,7 @@ before_is : (count : ℕ) (x y : MachineState) → Runs count x y → eqb x.cpu.
 before_is count x y r start zero less z e = ap (λ (m : MachineState). eqb m.cpu.pc GSTEP) (sym (given x z e)) ∙ start
 before_is count x y r start (suc more) less z e = left_is _ _ (r.clear (suc more) (omega arith) less z e)
 
-module _ (x a y : MachineState) (t u v : ℕ) (stands : Stands x GBOOT) (held : (view x).vdp.held ≡ None) (idle : (view x).grom.half_written ≡ false)
+module _ (x a y : MachineState) (t u v : ℕ) (is_at : IsAt x GBOOT) (held : (view x).vdp.held ≡ None) (idle : (view x).grom.half_written ≡ false)
     (fits : (view x).r.r0 < 65536) where
   abbrev booting : View
   booting = (pieces.boot (view x)).left
@@ -33,6 +33,6 @@ module _ (x a y : MachineState) (t u v : ℕ) (stands : Stands x GBOOT) (held : 
         count = c.count;
         within = c.within;
         counted = c.counted;
-        boots = record { leads = c.runs.leads; there = c.stands.pc; first = before_is c.count x y c.runs (ap (λ (p : ℕ). eqb p GSTEP) stands.pc) };
-        matches = matches (booted (view x)) y c.stands c.holds;
+        boots = record { leads = c.runs.leads; there = c.is_at.pc; first = before_is c.count x y c.runs (ap (λ (p : ℕ). eqb p GSTEP) is_at.pc) };
+        matches = matches (booted (view x)) y c.is_at c.holds;
       }

@@ -1,7 +1,7 @@
 -- The turn from the dispatch of a step.
 use Rattle.std.proofs.Common.{ℕ, ◌≡◌, Bool, None, Option, refl, slice_index, Some, subst, sym, true}
 use Rattle.sim_rows.proofs.Common.{AtDispatch, code_byte, ReachesWithin, Dispatched, Exits, GplOperation, GplState, MachineState, most_to_dispatch, Opcode}
-use Rattle.sim_rows.proofs.Common.{from_dispatch, operation_at, operation_entry, operation_in_view, Stands, state_at, state_at_dispatch, step_none, Stopped, Turn, Turned, whole_turn}
+use Rattle.sim_rows.proofs.Common.{from_dispatch, operation_at, operation_entry, operation_in_view, IsAt, state_at, state_at_dispatch, step_none, Stopped, Turn, Turned, whole_turn}
 use Rattle.sim_rows.proofs.Common.{turned_from, UNKN, view}
 use Rattle.sim_steps.specs.declared.family.Family.TheVariants.{Refused}
 use Rattle.sim_steps.specs.Families.{belongs}
@@ -16,11 +16,11 @@ module _ (s : GplState) (x y : MachineState) (t u : ℕ) (c : ReachesWithin most
   pub dispatched : Dispatched (state_at_dispatch (view y)) (view y)
   dispatched = subst (λ (z : GplState). Dispatched z (view y)) (sym seen) c.holds
 
-  pub stands : Stands y (operation_entry (operation_in_view (view y)))
-  stands = subst (λ (z : GplState). Stands y (operation_entry (operation_at (slice_index z.image z.pc)))) (sym seen) c.stands
+  pub is_at : IsAt y (operation_entry (operation_in_view (view y)))
+  is_at = subst (λ (z : GplState). IsAt y (operation_entry (operation_at (slice_index z.image z.pc)))) (sym seen) c.is_at
 
   pub at_dispatch : (is_one : Option GplOperation → Bool) → is_one (operation_in_view (view y)) ≡ true → AtDispatch is_one y
-  at_dispatch is_one family = record { stands = stands; dispatched = dispatched; family = family }
+  at_dispatch is_one family = record { is_at = is_at; dispatched = dispatched; family = family }
 
   pub turned : (z : MachineState) (after : ℕ) (turn : Turn) → Turned (state_at_dispatch (view y)) y z (from_dispatch u after) turn
       → Turned s x z (whole_turn t after) turn
@@ -31,11 +31,11 @@ none_of : (o : Option GplOperation) → belongs Refused o ≡ true → o ≡ Non
 none_of None e = refl
 none_of (Some op) e = absurd (cc)
 
-pub stands_stop : (y : MachineState) → AtDispatch (belongs Refused) y → Stands y UNKN
-stands_stop y at = subst (λ (o : Option GplOperation). Stands y (operation_entry o)) (none_of (operation_in_view (view y)) at.family) at.stands
+pub at_stop : (y : MachineState) → AtDispatch (belongs Refused) y → IsAt y UNKN
+at_stop y at = subst (λ (o : Option GplOperation). IsAt y (operation_entry o)) (none_of (operation_in_view (view y)) at.family) at.is_at
 
 pub refused : (y z : MachineState) (u after : ℕ) → AtDispatch (belongs Refused) y → Exits y z u after (pieces.stop_code (view y)) →
     Turned (state_at_dispatch (view y)) y z (from_dispatch u after) (Stopped Opcode)
 refused y z u after at run =
     let s = state_at_dispatch (view y) in
-    refuses s y z u after at.dispatched (step_none s (none_of (operation_in_view (view y)) at.family)) (stands_stop y at) run
+    refuses s y z u after at.dispatched (step_none s (none_of (operation_in_view (view y)) at.family)) (at_stop y at) run

@@ -1,7 +1,7 @@
 -- From boot to the first step, and the machine on which the interpreter begins.
 use Rattle.std.specs.Prelude.{ℕ, ◌+◌, ◌≡◌, ◌≤◌, List, slice_set}
 use Rattle.sim_rows.specs.Prelude.{Boots, GBOOT, GplState, IsBoot, IsMachine, MachineState, Matches, PortsAreIdle}
-use Rattle.sim_rows.specs.Prelude.{RETURN_STACK, Stands, start, state_of, VALUE_STACK, View, view}
+use Rattle.sim_rows.specs.Prelude.{RETURN_STACK, IsAt, start, state_of, VALUE_STACK, View, view}
 
 -- The state at the first step of a program with its entry in register 0: its stacks are
 -- empty, and all else is as it was.
@@ -23,4 +23,4 @@ pub record StartsProgram (s : GplState) (most : ℕ) (x y : MachineState) (befor
 abbrev pub MachinesStart : Type 0
 MachinesStart =
     (image : List ℕ) (entry : ℕ) (x : MachineState) → IsMachine x → IsBoot image entry x
-    → Stands x GBOOT × PortsAreIdle x.cpu.memory × (booted (view x) ≡ start image entry)
+    → IsAt x GBOOT × PortsAreIdle x.cpu.memory × (booted (view x) ≡ start image entry)

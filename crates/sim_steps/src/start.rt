@@ -1,6 +1,6 @@
 //! Boot, and the stop by a code byte.
 
-ghost use Rattle.sim_rows.specs.Prelude.{Exits, PortsAreIdle, Stands, view};
+ghost use Rattle.sim_rows.specs.Prelude.{Exits, PortsAreIdle, IsAt, view};
 ghost use Rattle.sim_rows.specs.native_interp.declared.addresses.TheConstants as address;
 ghost use Rattle.sim_steps.specs.Starting.{StartsProgram, booted};
 ghost use Rattle.sim_steps.specs.Pieces as piece;
@@ -13,7 +13,7 @@ use std::sync::ledger::Ledger;
 
 /// The piece of boot: the stacks are made empty, and SEEK is asked for the entry.
 pub fn boot<L: Ledger>(machine: &mut Machine, steps: &mut Steps<L>)
-    requires { Stands machine.old address.GBOOT }
+    requires { IsAt machine.old address.GBOOT }
     ensures { Exits machine.old machine.new steps.old steps.new (piece.boot (view machine.old)) }
 {
     run_piece(machine, steps, &[SEEK]);
@@ -22,7 +22,7 @@ pub fn boot<L: Ledger>(machine: &mut Machine, steps: &mut Steps<L>)
 /// From boot to the first step: the machine matches the state in which a program begins whose entry is in register 0,
 /// with empty stacks. It takes at most 10 instructions.
 pub fn start_program<L: Ledger>(machine: &mut Machine, steps: &mut Steps<L>)
-    requires stands { Stands machine.old address.GBOOT }
+    requires is_at { IsAt machine.old address.GBOOT }
     requires idle { PortsAreIdle machine.old.cpu.memory }
     ensures { StartsProgram (booted (view machine.old)) 10 machine.old machine.new steps.old steps.new }
 {
@@ -32,7 +32,7 @@ pub fn start_program<L: Ledger>(machine: &mut Machine, steps: &mut Steps<L>)
 
 /// The piece of the stop by reason 1.
 pub fn stop_code<L: Ledger>(machine: &mut Machine, steps: &mut Steps<L>)
-    requires { Stands machine.old address.UNKN }
+    requires { IsAt machine.old address.UNKN }
     ensures { Exits machine.old machine.new steps.old steps.new (piece.stop_code (view machine.old)) }
 {
     run_piece(machine, steps, &[]);

@@ -13,7 +13,7 @@ use Rattle.tms_defs.specs.Accesses.{Answer, Gives, ◌>>=◌}
 use Rattle.tms_defs.specs.Operand.{Cpu, register_in}
 use Rattle.console_defs.specs.Memory.{Memory, IsMemory, Scratchpad, region, word_read}
 use Rattle.interp_defs.specs.Interpreter.{HoldsInterpreter}
-use Rattle.sim_view.specs.View.{View, listed, relisted, view_of, view, Stands}
+use Rattle.sim_view.specs.View.{View, listed, relisted, view_of, view, IsAt}
 use Rattle.sim_view.specs.Running.{Ran, RunsPiece, ran}
 use Rattle.sim_view.proofs.Answers.{given, given_by}
 use Rattle.sim_view.proofs.Lists.{double_suc, listed-relisted, spell-words, length-words, words-spell}
@@ -75,7 +75,7 @@ view_shows m v h =
     b ∙ rw (f, j, k, h.low_part, h.high_part, h.rom, h.vdp, h.grom) refl
 
 -- A run of the view is that of a machine that shows it.
-pub exits : (ends : List ℕ) (p : ℕ) (x y : MachineState) (before after : ℕ) (e : Exit) → Stands x p → Leads ends (view x) p e →
+pub exits : (ends : List ℕ) (p : ℕ) (x y : MachineState) (before after : ℕ) (e : Exit) → IsAt x p → Leads ends (view x) p e →
     y ≡ (ran ends 16 x).left → after ≡ before + (ran ends 16 x).count → IsMachine y → Exits x y before after e
 exits ends p x y before after e h l left count bounds =
     let start : x ≡ machine x.cpu.memory (at (view x) x.cpu.status p) x.count = rw (h.pc, h.wp) refl in
@@ -95,7 +95,7 @@ exits ends p x y before after e h l left count bounds =
       counted = let n = ap (λ (r : Ran). r.count) r in omega arith;
       runs = subst C c (subst Q (sym is) (subst P (sym start) f.runs));
       shows = ap view is ∙ view_shows f.memory a.0.1.memory f.shows ∙ ap (λ (u : ℕ × View × ℕ × ℕ). u.1) t;
-      stands = record {
+      is_at = record {
         pc = ap (λ (s : MachineState). s.cpu.pc) is ∙ ap (λ (u : ℕ × View × ℕ × ℕ). u.2) t;
         wp = ap (λ (s : MachineState). s.cpu.wp) is ∙ ap (λ (u : ℕ × View × ℕ × ℕ). u.3) t;
         words = subst H (sym is) f.shows.code;
@@ -105,9 +105,9 @@ exits ends p x y before after e h l left count bounds =
 
 -- What a piece comes to: it stands at its entry, its run on the view leads to an exit, and it was run.
 pub piece : {ends : List ℕ} {p : ℕ} {x y : MachineState} {before after : ℕ} {e : Exit} →
-    Stands x p → Leads ends (view x) p e → RunsPiece ends x y before after → Exits x y before after e
-piece {ends = ends} {p = p} {x = x} {y = y} {before = before} {after = after} {e = e} stands leads run =
-    exits ends p x y before after e stands leads run.left run.count run.bounds
+    IsAt x p → Leads ends (view x) p e → RunsPiece ends x y before after → Exits x y before after e
+piece {ends = ends} {p = p} {x = x} {y = y} {before = before} {after = after} {e = e} is_at leads run =
+    exits ends p x y before after e is_at leads run.left run.count run.bounds
 
 -- ---- what the bounds of a machine say of its view
 

@@ -13,6 +13,6 @@ pub use Rattle.sim_view.specs.Prelude.{◌>>=◌, ADDR, APTR, ASPACE, Byte, Reac
 pub use Rattle.sim_view.specs.Prelude.{indexed, is_grom_idle, is_visible, IsFetched, join, last_out, LDATA, LOAD, low, MachineState, Memory}
 pub use Rattle.sim_view.specs.Prelude.{next_in_grom, next_in_vdp, NoOperation, pair_kind, PairKind, Place, place_of, plus, pointed, PortsAreIdle}
 pub use Rattle.sim_view.specs.Prelude.{previous_in_grom, ranged, ReadSetup, Reason, RegisterWrite, SDATA, SEEK, shifted, signed, size_of, SLA, SREG}
-pub use Rattle.sim_view.specs.Prelude.{SRL, Stands, STORE, STREAM, sum_of, unchanged, value_at, VdpState, View, view, with_register, with_value}
+pub use Rattle.sim_view.specs.Prelude.{SRL, IsAt, STORE, STREAM, sum_of, unchanged, value_at, VdpState, View, view, with_register, with_value}
 pub use Rattle.sim_view.specs.Prelude.{Word, word_in, WORKSPACE, WriteSetup}
 unfoldable pub use Rattle.sim_view.specs.Prelude.{operand_at, view_of}

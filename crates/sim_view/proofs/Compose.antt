@@ -1,7 +1,7 @@
 -- One stretch after another.
 use Rattle.std.proofs.Common.{refl, ◌≡◌, ℕ, ◌+◌, ◌-◌, ◌<◌, ◌≤◌, false, sym, ap, subst, ◌∙◌, arith, ⊎_elim}
 use Rattle.std.proofs.lemmas.Bool.{cases_order}
-use Rattle.sim_view.specs.Prelude.{ReachesWithin, Exit, Exits, is_turn_end, MachineState, Runs, Stands, steps, View, view}
+use Rattle.sim_view.specs.Prelude.{ReachesWithin, Exit, Exits, is_turn_end, MachineState, Runs, IsAt, steps, View, view}
 use Rattle.tms_defs.specs.Accesses.{Answer, Gives, ◌>>=◌}
 use Rattle.console_defs.proofs.RunLaws.{steps-add}
 use Rattle.sim_view.proofs.Answers.{given, given_by}
@@ -48,7 +48,7 @@ comes {y = y} {e = e} {Q = Q} x g = record {
   counted = x.counted;
   runs = x.runs;
   holds = subst Q (sym x.shows) g.holds;
-  stands = subst (λ (p : ℕ). Stands y p) g.to_is x.stands;
+  is_at = subst (λ (p : ℕ). IsAt y p) g.to_is x.is_at;
 }
 
 -- A stretch within bounds, and then another.
@@ -63,16 +63,16 @@ comes_then a b {x = x} {y = y} {z = z} {e = e} {R = R} c d g end =
       count = c.count + e.count;
       within = omega arith;
       counted = omega arith;
-      runs = runs_then c.count e.count x y z c.runs d.runs (ap is_turn_end c.stands.pc ∙ end);
+      runs = runs_then c.count e.count x y z c.runs d.runs (ap is_turn_end c.is_at.pc ∙ end);
       holds = subst R (sym d.shows) g.holds;
-      stands = subst (λ (p : ℕ). Stands z p) g.to_is d.stands;
+      is_at = subst (λ (p : ℕ). IsAt z p) g.to_is d.is_at;
     }
 
 pub comes_as : {most to : ℕ} {x y : MachineState} {before after : ℕ} {Q : View → Type 0} (more : ℕ) (R : View → Type 0) → ReachesWithin most x y before after to Q →
     most ≤ more → ((v : View) → Q v → R v) → ReachesWithin more x y before after to R
 comes_as {y = y} more R c le f =
     let w = c.within in
-    record { count = c.count; within = omega arith; counted = c.counted; runs = c.runs; holds = f (view y) c.holds; stands = c.stands }
+    record { count = c.count; within = omega arith; counted = c.counted; runs = c.runs; holds = f (view y) c.holds; is_at = c.is_at }
 
 -- The same for a stretch within bounds that was said of the view in the middle.
 pub comes_on : (a b : ℕ) {x y z : MachineState} {before middle after p q : ℕ} {Q R : View → Type 0} → ReachesWithin a x y before middle p Q →
@@ -86,7 +86,7 @@ comes_on a b {x = x} {y = y} {z = z} c d end =
       count = c.count + d.count;
       within = omega arith;
       counted = omega arith;
-      runs = runs_then c.count d.count x y z c.runs d.runs (ap is_turn_end c.stands.pc ∙ end);
+      runs = runs_then c.count d.count x y z c.runs d.runs (ap is_turn_end c.is_at.pc ∙ end);
       holds = d.holds;
-      stands = d.stands;
+      is_at = d.is_at;
     }

@@ -17,9 +17,9 @@ module _ {x y : MachineState} {before middle : ℕ} where
       let b = l.counted in
       record {
         counted = omega arith;
-        runs = runs_then e.count (f e.left).count x y z d.runs l.runs (ap is_turn_end d.stands.pc ∙ end);
+        runs = runs_then e.count (f e.left).count x y z d.runs l.runs (ap is_turn_end d.is_at.pc ∙ end);
         shows = l.shows;
-        stands = l.stands;
+        is_at = l.is_at;
       }
 
   -- What is known of the view that a routine leaves is known of the machine's.
@@ -68,4 +68,4 @@ module _ {to : ℕ} {R : View → Type 0} where
 -- A row that ends so on views does on the machine.
 pub comes_by : {x y : MachineState} {before after most to : ℕ} {e : Exit} {Holds : View → Type 0} →
     Exits x y before after e → Ends e most to Holds → ReachesWithin most x y before after to Holds
-comes_by {y = y} run ends = comes run (ends (subst AreBytes run.shows (is_view y run.stands.machine).cells))
+comes_by {y = y} run ends = comes run (ends (subst AreBytes run.shows (is_view y run.is_at.machine).cells))

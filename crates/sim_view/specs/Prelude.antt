@@ -92,7 +92,7 @@ pub use Rattle.native_interp.specs.declared.addresses.TheConstants.{UNKN, WHERE,
 pub use Rattle.native_interp.specs.declared.words.TheConstants.{INTERP}
 pub use Rattle.interp_defs.specs.Boot.{HoldsEntry, IsBoot}
 pub use Rattle.interp_defs.specs.Interpreter.{address_register, code_register, HoldsRegister, most_to_dispatch}
-pub use Rattle.interp_defs.specs.Match.{IsFetched, IsHalted, IsMatching, Matches, PortsAreIdle, shown_by, StandsBy}
+pub use Rattle.interp_defs.specs.Match.{IsFetched, IsHalted, IsMatching, Matches, PortsAreIdle, shown_by, IsStoppedBy}
 pub use Rattle.interp_defs.specs.Programs.{EndsAs, RunsSteps}
 pub use Rattle.interp_defs.specs.Runs.{is_turn_end, Runs}
 pub use Rattle.interp_defs.specs.Turned.{from_dispatch, Reaches, Turned, TurnedBy, whole_turn}
@@ -100,5 +100,5 @@ pub use Rattle.interp_defs.specs.Turns.{Boots, IsTurn}
 pub use Rattle.interp_defs.specs.declared.turn.Turn.{Turn}
 pub use Rattle.interp_defs.specs.declared.turn.Turn.TheVariants.{Stepped, Stopped}
 pub use Rattle.sim_view.specs.Exits.{ReachesWithin, Exit, Exits}
-pub use Rattle.sim_view.specs.View.{listed, Stands, view, View}
+pub use Rattle.sim_view.specs.View.{listed, IsAt, view, View}
 unfoldable pub use Rattle.sim_view.specs.View.{view_of}

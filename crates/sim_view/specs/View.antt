@@ -82,7 +82,7 @@ abbrev pub view : MachineState → View
 view x = view_of x.cpu.memory
 
 -- The machine is at an address, ready to run the interpreter's words.
-pub record Stands (x : MachineState) (address : ℕ) : Type 0 where
+pub record IsAt (x : MachineState) (address : ℕ) : Type 0 where
   pub pc : x.cpu.pc ≡ address
   pub wp : x.cpu.wp ≡ WORKSPACE
   pub words : HoldsInterpreter x.cpu.memory.low_expansion

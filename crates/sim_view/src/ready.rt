@@ -3,7 +3,7 @@
 ghost use Rattle.std.specs.Prelude.{◌≡◌, ◌<◌, ◌*◌, true, false};
 ghost use Rattle.tms_defs.specs.Bytes.{word_in};
 ghost use Rattle.interp_defs.specs.Interpreter.{HoldsInterpreter};
-ghost use Rattle.sim_view.specs.View.{Stands};
+ghost use Rattle.sim_view.specs.View.{IsAt};
 
 use console_bus::Bus;
 use native_interp::{INTERP, ORIGIN, WORKSPACE};
@@ -11,8 +11,8 @@ use tms_step::Machine;
 
 /// Does the machine stand at an address, with the interpreter's words and its workspace?
 pub fn is_ready(machine: &Machine, address: u16) -> bool
-    ensures stands { result ≡ true → Stands machine.now address }
-    ensures lacks { result ≡ false → Stands machine.now address → ⊥ }
+    ensures is_at { result ≡ true → IsAt machine.now address }
+    ensures lacks { result ≡ false → IsAt machine.now address → ⊥ }
 {
     machine.holds_bounds();
     machine.pc() == address && machine.wp() == WORKSPACE && holds_interpreter(machine.bus())

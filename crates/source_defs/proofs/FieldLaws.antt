@@ -11,7 +11,7 @@ use Rattle.source_defs.specs.declared.causes.TextError.TheVariants.{LineTooLong,
 use Rattle.source_defs.specs.Characters.{is_blank, is_asterisk, is_letter, upper_case}
 use Rattle.source_defs.specs.Fields.{HasBadLabel, Fields, no_fields, fields, fields_after, label_field, longest_line, is_comment, word_start, word_end}
 use Rattle.source_defs.specs.Fields.{operand_end, ends_field, in_quotes}
-use Rattle.source_defs.specs.FieldLaw.{IsWordStart, IsWordEnd, IsOperandEnd, IsComment, IsLabel, IsOperation, StandApart, AreFieldsOf, FieldsStandApart}
+use Rattle.source_defs.specs.FieldLaw.{IsWordStart, IsWordEnd, IsOperandEnd, IsComment, IsLabel, IsOperation, AreApart, AreFieldsOf, FieldsAreApart}
 use Rattle.source_defs.proofs.LeastLaws.{least_place_step, least_place_end, least_places_are_least}
 use Rattle.source_defs.specs.Names.{is_letter_or_digit, all_letters_or_digits, is_name, IsUpperCaseName, is_printed, is_kept_name}
 
@@ -128,7 +128,7 @@ operation_by false line from e le =
     ((rw past at start), end)
 
 apart : (line : List ℕ) (label : Option (List ℕ)) (end : ℕ) → end ≤ length line → IsLabel line label end
-    → StandApart line (fields_after line label end)
+    → AreApart line (fields_after line label end)
 apart line label end le is =
     let operation = word_start line end in
     let start = starts_word line end le in
@@ -196,7 +196,7 @@ module _ (line : List ℕ) (found : Fields) (short : length line ≤ longest_lin
   }
 
   -- another line's fields
-  of_others : is_comment line ≡ false → StandApart line found → AreFieldsOf line found
+  of_others : is_comment line ≡ false → AreApart line found → AreFieldsOf line found
   of_others e stand = record {
     short = short;
     comment = λ is. let both : true ≡ false = sym (commented line is) ∙ e in (cc both);
@@ -208,22 +208,22 @@ module _ (line : List ℕ) (found : Fields) (short : length line ≤ longest_lin
   by_label true e no_comment is =
       let ends = ends_word line 0 (omega arith) in
       of_others no_comment
-      (subst (StandApart line) (ok_same _ _ is) (apart line _ (word_end line 0) ends.within (ends, e, refl)))
+      (subst (AreApart line) (ok_same _ _ is) (apart line _ (word_end line 0) ends.within (ends, e, refl)))
   by_label false e no_comment is = (cc is)
 
   by_blank : (b : Bool) → is_blank (get_or line 0 0) ≡ b → is_comment line ≡ false → begun line b ≡ Ok found
       → AreFieldsOf line found
   by_blank true e no_comment is =
-      of_others no_comment (subst (StandApart line) (ok_same _ _ is) (apart line None 0 (omega arith) (e, refl)))
+      of_others no_comment (subst (AreApart line) (ok_same _ _ is) (apart line None 0 (omega arith) (e, refl)))
   by_blank false e no_comment is = by_label _ refl no_comment is
 
   by_comment : (b : Bool) → is_comment line ≡ b → whole line b ≡ Ok found → AreFieldsOf line found
   by_comment true e is = of_comment e (ok_same _ _ is)
   by_comment false e is = by_blank _ refl e is
 
-pub fields_stand_apart : FieldsStandApart
+pub fields_are_apart : FieldsAreApart
 unfolding fields
-fields_stand_apart line found is = by_length _ refl is
+fields_are_apart line found is = by_length _ refl is
   where
     by_length : (b : Bool) → nat_lt longest_line (length line) ≡ b
         → cond b (Err LineTooLong) (whole line (is_comment line)) ≡ given found

@@ -48,7 +48,7 @@ IsOperation line from (Some span) end =
 IsOperation line from None end = IsWordStart line from (length line) × (end ≡ length line)
 
 -- label, operation and operand field stand one after the other, with blanks alone between them
-pub record StandApart (line : List ℕ) (found : Fields) : Type 0 where
+pub record AreApart (line : List ℕ) (found : Fields) : Type 0 where
   pub label_end : ℕ
   pub operation_end : ℕ
   pub label : IsLabel line found.label label_end
@@ -60,8 +60,8 @@ pub record StandApart (line : List ℕ) (found : Fields) : Type 0 where
 pub record AreFieldsOf (line : List ℕ) (found : Fields) : Type 0 where
   pub short : length line ≤ longest_line
   pub comment : IsComment line → found ≡ no_fields
-  pub others : (IsComment line → ⊥) → StandApart line found
+  pub others : (IsComment line → ⊥) → AreApart line found
 
 -- the law, which is proved
-abbrev pub FieldsStandApart : Type 0
-FieldsStandApart = (line : List ℕ) (found : Fields) → fields line ≡ Ok found → AreFieldsOf line found
+abbrev pub FieldsAreApart : Type 0
+FieldsAreApart = (line : List ℕ) (found : Fields) → fields line ≡ Ok found → AreFieldsOf line found

@@ -6,7 +6,7 @@ use Rattle.std.specs.Option.{ok_or}
 use Rattle.tms_defs.specs.Bytes.{HoldsBytes}
 use Rattle.source_defs.specs.Refusals.{Refusal, ◌>>=◌, unless}
 use Rattle.source_defs.specs.Lines.{lines, line_texts, numbered}
-use Rattle.expression_defs.specs.Layout.{laid}
+use Rattle.expression_defs.specs.Layout.{line_layout}
 use Rattle.object_defs.specs.Modules.{Module, HasText}
 use Rattle.object_defs.specs.Writing.{written_lines, written}
 use Rattle.object_defs.specs.Reading.{read}
@@ -23,7 +23,7 @@ use Rattle.shelf_defs.specs.CopyLines.{LineKind, Itself, File, Bad, asked}
 use Rattle.shelf_defs.specs.Copied.{Place, PlacedLine, CopyRefusal, At, TooLarge, TooMany, Missing, Ending, Open, Ended, Refused, Copied, deepest}
 use Rattle.shelf_defs.specs.Copied.{most_copies, most_bytes}
 use Rattle.shelf_defs.specs.Copied.{refused, then_by, asked_line, one_line, lines_in, either, copy_line, copied_by}
-use Rattle.shelf_defs.specs.Assembly.{texts, in_place, unless_refused, laid_copied, module_of_copied, module_of_files}
+use Rattle.shelf_defs.specs.Assembly.{texts, in_place, unless_refused, layout_copied, module_of_copied, module_of_files}
 use Rattle.report_defs.specs.declared.status.Status.TheVariants.{Done}
 use Rattle.report_defs.specs.Report.{Whole, largest_input}
 use Rattle.report_defs.specs.LinkedFiles.{FilesRefusal, taken_file, read_by, read_files, modules_of, as_linked, linked_texts}
@@ -31,9 +31,9 @@ use Rattle.report_defs.specs.FileReports.{copy_report, ReportWith, files_report}
 use Rattle.report_defs.specs.ProgramCommands.{AsmFiles, OverFiles}
 use Rattle.source_modules.specs.Laws.{FilesHoldBytes, IsAssembled, AreAssembled, AssembledFilesAreRead, AssembledFilesLink}
 use Rattle.source_modules.proofs.Bytes.{AreBytes, bytes_of}
-use Rattle.source_modules.proofs.Laid.{TextBytes}
+use Rattle.source_modules.proofs.LayoutLine.{TextBytes}
 use Rattle.source_modules.proofs.Modules.{module_is, parts_bytes}
-use Rattle.source_modules.proofs.Reports.{small, stands_for}
+use Rattle.source_modules.proofs.Reports.{small, is_text_of}
 
 -- ---- the copied lines are of bytes
 
@@ -124,12 +124,12 @@ kept_is (Refused refusal) lines found e = cc e
 
 copied_module : (found : Copied) (m : Module) → module_of_copied found ≡ Ok m → module_of (numbered 1 (texts found.lines)) ≡ Ok m
 copied_module found m e =
-    let a = bound (laid_copied found) _ m e in
-    let b = bound (in_place found.lines (laid check (numbered 1 (texts found.lines)))) _ a.0 a.1 in
-    let laid_is = placed_is found.lines (laid check (numbered 1 (texts found.lines))) b.0 b.1 in
+    let a = bound (layout_copied found) _ m e in
+    let b = bound (in_place found.lines (line_layout check (numbered 1 (texts found.lines)))) _ a.0 a.1 in
+    let layout_is = placed_is found.lines (line_layout check (numbered 1 (texts found.lines))) b.0 b.1 in
     let kept = kept_is found.ending b.0 a.0 b.2 in
     let after = placed_is found.lines (module_after a.0) m a.2 in
-    ap (λ answer. answer >>= module_after) (laid_is ∙ ap Ok kept) ∙ after
+    ap (λ answer. answer >>= module_after) (layout_is ∙ ap Ok kept) ∙ after
 
 answers_bytes : (files : Files) → FilesHoldBytes files → ContentsBytes (of_files files)
 answers_bytes files hold number name = hold name
@@ -169,7 +169,7 @@ text_is m text it =
 pub assembled_files_are_read : AssembledFilesAreRead
 assembled_files_are_read m text it =
     let whole = files_module it.files it.source m it.files_bytes it.bytes it.module_is in
-    stands_for m text whole.is whole.has (text_is m text it) it.within
+    is_text_of m text whole.is whole.has (text_is m text it) it.within
 
 -- ---- several files
 
@@ -191,11 +191,11 @@ module _ (files : Files) where
   all_modules (name ∷ names) (m ∷ modules) number are =
       let text = are.0.0 in
       let it = are.0.2 in
-      let stands = assembled_files_are_read m text it in
+      let is_resolved = assembled_files_are_read m text it in
       let take = taken name text (of_files files number name) are.0.1 it.within in
       let others = read_by (of_files files) (number + 1) names in
       ap (λ first. memory_of (first >>= λ first. others >>= λ others. Ok (first ∷ others))) take
-      ∙ more_modules name text m modules others stands.reads (all_modules names modules (number + 1) are.1)
+      ∙ more_modules name text m modules others is_resolved.reads (all_modules names modules (number + 1) are.1)
   all_modules [] (m ∷ modules) number are = absurd are
   all_modules (name ∷ names) [] number are = absurd are
 

@@ -4,7 +4,7 @@ pub mod Values
 pub mod Instructions
 pub mod Outcomes
 pub mod Statements
-pub mod Laid
+pub mod LayoutLine
 pub mod Modules
 pub mod Reports
 pub mod Files

@@ -9,7 +9,7 @@ use Rattle.source_defs.specs.declared.text.Line.{Line as TextLine}
 use Rattle.source_defs.specs.Lines.{part as text_part, lines, line_texts}
 use Rattle.expression_defs.specs.Expression.{Value, Absolute, Relocatable, External}
 use Rattle.expression_defs.specs.Symbols.{Names, look_up}
-use Rattle.expression_defs.specs.Layout.{laid, assembled_lines}
+use Rattle.expression_defs.specs.Layout.{line_layout, assembled_lines}
 use Rattle.object_defs.specs.declared.spot.Spot.{Spot}
 use Rattle.object_defs.specs.declared.spot.Piece.{Piece}
 use Rattle.object_defs.specs.Modules.{Module, Reference, is_module_name}
@@ -40,7 +40,7 @@ use Rattle.source_modules.proofs.Values.{FitsValue, FitsLook}
 use Rattle.source_modules.proofs.Instructions.{FitsValues}
 use Rattle.source_modules.proofs.Outcomes.{FitsOutcome, outcome_fits}
 use Rattle.source_modules.proofs.Statements.{AreKept, HasNames}
-use Rattle.source_modules.proofs.Laid.{AreGood, FitsLines, TextBytes, laid_good, reached_le, nothing_laid}
+use Rattle.source_modules.proofs.LayoutLine.{AreGood, FitsLines, TextBytes, layout_fits, reached_le, nothing_placed}
 
 all_append : {A : Type 0} (P : A → Type 0) (first second : List A) → AllByRecursion P first → AllByRecursion P second → AllByRecursion P (first ++ second)
 all_append P [] second all others = others
@@ -58,12 +58,12 @@ one_of P (item ∷ items) (suc k) all = one_of P items k all.1
 
 -- ---- the lines by the second checks
 
-record StandsThere (line : AssembledLine) : Type 0 where
+record IsPlacedThere (line : AssembledLine) : Type 0 where
   fits : FitsOutcome line.outcome
   room : line.at.number + bytes_in line.outcome ≤ 65536
 
-abbrev AllStand : List AssembledLine → Type 0
-AllStand lines = AllByRecursion StandsThere lines
+abbrev AreAllResolved : List AssembledLine → Type 0
+AreAllResolved lines = AllByRecursion IsPlacedThere lines
 
 at_line_is : {A : Type 0} (number : ℕ) (answer : Result A AsmCause) (found : A) → at_line number answer ≡ Ok found → answer ≡ Ok found
 at_line_is number (Ok value) found e = cc e
@@ -76,10 +76,10 @@ room_by false true line found e = cc e
 room_by false false line found e = cc e
 
 assembled_fit : (known : Names) → FitsLook (look_up known) → (lines : List Line) (found : List AssembledLine) → AreGood lines
-    → assembled_lines (assembled_line known) lines ≡ Ok found → AllStand found
+    → assembled_lines (assembled_line known) lines ≡ Ok found → AreAllResolved found
 assembled_fit known fits [] found good e =
     let same : [] ≡ found = cc e in
-    subst AllStand same tt
+    subst AreAllResolved same tt
 assembled_fit known fits (line ∷ before) found good e =
     let a = bound (assembled_lines (assembled_line known) before) _ found e in
     let b = bound (at_line line.number (assembled_line known before a.0 line)) _ found a.2 in
@@ -88,13 +88,13 @@ assembled_fit known fits (line ∷ before) found good e =
     let placed : AssembledLine = record { at = at; outcome = c.0 } in
     let same_line : placed ≡ b.0 = room_by (nat_lt 32768 (word_count (placed ∷ a.0))) (overlaps a.0 placed) placed b.0 c.2 in
     let same : b.0 ∷ a.0 ≡ found = cc b.2 in
-    let said = good.0.said in
-    let size : bytes_in c.0 ≡ declared_size line.statement = outcome_size (look_up known) at line.statement c.0 said.sized c.1 in
-    let stands : StandsThere placed = record {
-      fits = ok_has FitsOutcome (outcome (look_up known) at line.statement) c.0 c.1 (outcome_fits (look_up known) fits at line.statement said.bytes);
+    let fit_statement = good.0.fit_statement in
+    let size : bytes_in c.0 ≡ declared_size line.statement = outcome_size (look_up known) at line.statement c.0 fit_statement.sized c.1 in
+    let is_resolved : IsPlacedThere placed = record {
+      fits = ok_has FitsOutcome (outcome (look_up known) at line.statement) c.0 c.1 (outcome_fits (look_up known) fits at line.statement fit_statement.bytes);
       room = omega (arith, good.0.room, size);
     } in
-    subst AllStand same (subst StandsThere same_line stands, assembled_fit known fits before a.0 good.1 a.1)
+    subst AreAllResolved same (subst IsPlacedThere same_line is_resolved, assembled_fit known fits before a.0 good.1 a.1)
 
 -- ---- the uses of external names
 
@@ -141,8 +141,8 @@ words_use (word ∷ words) at uses from le all =
     words_use words at (after_word uses (spot_by at from) word) (from + 2) (omega (arith, le))
     (word_use uses (spot_by at from) word (spot_fits at from (omega (arith, le))) all)
 
-line_use : (line : AssembledLine) (uses : List Reference) → StandsThere line → FitUses uses → FitUses (after_by line.at uses line.outcome)
-line_use line uses stands all = by line.outcome stands.room
+line_use : (line : AssembledLine) (uses : List Reference) → IsPlacedThere line → FitUses uses → FitUses (after_by line.at uses line.outcome)
+line_use line uses is_resolved all = by line.outcome is_resolved.room
   where
     by : (found : Outcome) → line.at.number + bytes_in found ≤ 65536 → FitUses (after_by line.at uses found)
     by (Words words) room =
@@ -152,7 +152,7 @@ line_use line uses stands all = by line.outcome stands.room
     by (Entry spot) room = all
     by second.Nothing room = all
 
-uses_fit : (start : List Reference) (lines : List AssembledLine) → FitUses start → AllStand lines → FitUses (references_of start lines)
+uses_fit : (start : List Reference) (lines : List AssembledLine) → FitUses start → AreAllResolved lines → FitUses (references_of start lines)
 uses_fit start [] fits all = fits
 uses_fit start (line ∷ before) fits all = line_use line (references_of start before) all.0 (uses_fit start before fits all.1)
 
@@ -192,7 +192,7 @@ at_by : (b : Bool) (one other : Option Content) → FitsAt one → FitsAt other 
 at_by true one other this that = this
 at_by false one other this that = that
 
-content_fits : (start : List Reference) (lines : List AssembledLine) (at : Part) (p : ℕ) → FitUses start → AllStand lines → FitsAt (content_at start lines at p)
+content_fits : (start : List Reference) (lines : List AssembledLine) (at : Part) (p : ℕ) → FitUses start → AreAllResolved lines → FitsAt (content_at start lines at p)
 content_fits start [] at p fits all = tt
 content_fits start (line ∷ before) at p fits all =
     at_by (covers line at p) (slice_get (contents start before line) (p - line.at.number)) (content_at start before at p)
@@ -248,24 +248,24 @@ title_is : (lines : List Line) → AreGood lines → is_module_name (title lines
 title_is [] good = refl
 title_is (line ∷ before) good = title_step line.statement (title before) good.0.titled (title_is before good.1)
 
-defs_said : (statement : Statement) → HasNames statement → AreKept (defs_in statement)
-defs_said (Def names) kept = kept
-defs_said _ kept = tt
+defs_fit : (statement : Statement) → HasNames statement → AreKept (defs_in statement)
+defs_fit (Def names) kept = kept
+defs_fit _ kept = tt
 
-refs_said : (statement : Statement) → HasNames statement → AreKept (refs_in statement)
-refs_said (Ref names) kept = kept
-refs_said _ kept = tt
+refs_fit : (statement : Statement) → HasNames statement → AreKept (refs_in statement)
+refs_fit (Ref names) kept = kept
+refs_fit _ kept = tt
 
 abbrev IsKeptName : List ℕ → Type 0
 IsKeptName name = AreKept (name ∷ [])
 
 defs_kept : (lines : List Line) → AreGood lines → AreKept (defs lines)
 defs_kept [] good = tt
-defs_kept (line ∷ before) good = all_append _ (defs before) (defs_in line.statement) (defs_kept before good.1) (defs_said line.statement good.0.said.names)
+defs_kept (line ∷ before) good = all_append _ (defs before) (defs_in line.statement) (defs_kept before good.1) (defs_fit line.statement good.0.fit_statement.names)
 
 refs_kept : (lines : List Line) → AreGood lines → AreKept (refs lines)
 refs_kept [] good = tt
-refs_kept (line ∷ before) good = all_append _ (refs before) (refs_in line.statement) (refs_kept before good.1) (refs_said line.statement good.0.said.names)
+refs_kept (line ∷ before) good = all_append _ (refs before) (refs_in line.statement) (refs_kept before good.1) (refs_fit line.statement good.0.fit_statement.names)
 
 value_fits : (found : Option Value) → IfSome found FitsValue → FitsSpot (spot_of found)
 value_fits (Some (Absolute number)) fits = fits
@@ -287,7 +287,7 @@ entry_step : (found : Outcome) (before : Option Spot) → FitsOutcome found → 
 entry_step (Entry spot) before fits is = fits
 entry_step _ before fits is = is
 
-entry_fits : (lines : List AssembledLine) → AllStand lines → IfSome (entry lines) FitsSpot
+entry_fits : (lines : List AssembledLine) → AreAllResolved lines → IfSome (entry lines) FitsSpot
 entry_fits [] all = tt
 entry_fits (line ∷ before) all = entry_step line.outcome (entry before) all.0.fits (entry_fits before all.1)
 
@@ -296,7 +296,7 @@ entry_fits (line ∷ before) all = entry_step line.outcome (entry before) all.0.
 below : (size : ℕ) → size ≤ 65535 → size < 65536
 below size le = omega (arith, le)
 
-lines_module : (lines : List Line) (found : List AssembledLine) → FitsLines lines → AllStand found → IsModule (module_by lines found)
+lines_module : (lines : List Line) (found : List AssembledLine) → FitsLines lines → AreAllResolved found → IsModule (module_by lines found)
 lines_module lines found fits all =
     let start = map unused (refs lines) in
     let unused_are = unused_fit (refs lines) (refs_kept lines fits.good) in
@@ -316,10 +316,10 @@ lines_module lines found fits all =
 -- the module of lines of bytes
 pub module_is : (texts : List (ℕ × List ℕ)) (m : Module) → AllByRecursion TextBytes texts → module_of texts ≡ Ok m → IsModule m
 module_is texts m are e =
-    let a = bound (laid check texts) _ m e in
+    let a = bound (line_layout check texts) _ m e in
     let b = bound (assembled_lines (assembled_line (names a.0)) a.0) _ m a.2 in
     let same : module_by a.0 b.0 ≡ m = cc b.2 in
-    let fits = laid_good texts [] a.0 are a.1 nothing_laid in
+    let fits = layout_fits texts [] a.0 are a.1 nothing_placed in
     subst IsModule same (lines_module a.0 b.0 fits (assembled_fit (names a.0) fits.known a.0 b.0 fits.good b.1))
 
 pub parts_bytes : (source : List ℕ) (found : List TextLine) → AreBytes source

@@ -17,7 +17,7 @@ use Rattle.report_defs.specs.declared.command.Command.TheVariants.{Asm}
 use Rattle.report_defs.specs.declared.status.Status.TheVariants.{Done}
 use Rattle.report_defs.specs.ObjectInput.{linked_input, linked_modules}
 use Rattle.report_defs.specs.Report.{Whole, largest_input, asm_report, link_report, ExecReport, ReportOn}
-use Rattle.source_modules.specs.Laws.{linked_alone, StandsFor, AssembledTextsAreRead}
+use Rattle.source_modules.specs.Laws.{linked_alone, IsTextOf, AssembledTextsAreRead}
 use Rattle.source_modules.proofs.Bytes.{bytes_of}
 use Rattle.source_modules.proofs.Modules.{source_module}
 
@@ -26,8 +26,8 @@ pub small : (text : List ℕ) → length text ≤ largest_input → nat_lt large
 small text le = grind (arith, nat_tests, le)
 
 -- the text of a module stands for it
-pub stands_for : (m : Module) (text : List ℕ) → IsModule m → HasText m → text ≡ written m → length text ≤ largest_input → StandsFor m text
-stands_for m text is has same le =
+pub is_text_of : (m : Module) (text : List ℕ) → IsModule m → HasText m → text ≡ written m → length text ≤ largest_input → IsTextOf m text
+is_text_of m text is has same le =
     let reads : read text ≡ Ok (m ∷ []) = ap read same ∙ written_modules_are_read m is has in
     let links : linked_input text ≡ linked_alone m = ap linked_modules reads in
     let fits = small text le in
@@ -60,4 +60,4 @@ assembled_texts_are_read source pieces bytes reported le =
     let is = large_not (nat_lt largest_input (length source)) source pieces refl reported in
     let it = was_written (module_of_source source) pieces is in
     let whole = source_module source it.m (bytes_of source bytes.fits) it.found_is in
-    (it.m, it.found_is, stands_for it.m (concat pieces) whole (module_has_text (line_texts source) it.m it.found_is) it.joined le)
+    (it.m, it.found_is, is_text_of it.m (concat pieces) whole (module_has_text (line_texts source) it.m it.found_is) it.joined le)

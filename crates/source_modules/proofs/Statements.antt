@@ -40,12 +40,12 @@ HasNames (Def names) = AreKept names
 HasNames (Ref names) = AreKept names
 HasNames _ = ⊤
 
-pub record IsSaid (statement : Statement) : Type 0 where
+pub record IsFitStatement (statement : Statement) : Type 0 where
   pub bytes : HasBytes statement
   pub names : HasNames statement
   pub sized : IsSized statement
 
-abbrev plain : (statement : Statement) → HasBytes statement → HasNames statement → IsSized statement → IsSaid statement
+abbrev plain : (statement : Statement) → HasBytes statement → HasNames statement → IsSized statement → IsFitStatement statement
 plain statement bytes names sized = record { bytes = bytes; names = names; sized = sized }
 
 -- ---- names
@@ -145,44 +145,44 @@ quoted_by false text are = tt
 -- ---- directives
 
 module _ (texts : List (List ℕ)) (are : AllBytes texts) where
-  of_one : (make : List ℕ → Statement) → ((text : List ℕ) → AreBytes text → IsSaid (make text)) → IfOk (one_operand texts >>= λ text. Ok (make text)) IsSaid
-  of_one make said = ok_then AreBytes IsSaid (one_operand texts) (λ text. Ok (make text)) (one_bytes texts are) said
+  of_one : (make : List ℕ → Statement) → ((text : List ℕ) → AreBytes text → IsFitStatement (make text)) → IfOk (one_operand texts >>= λ text. Ok (make text)) IsFitStatement
+  of_one make fit_statement = ok_then AreBytes IsFitStatement (one_operand texts) (λ text. Ok (make text)) (one_bytes texts are) fit_statement
 
-  of_list : (make : List (List ℕ) → Statement) → ((texts : List (List ℕ)) → AllBytes texts → IsSaid (make texts))
-      → IfOk (operand_list texts >>= λ texts. Ok (make texts)) IsSaid
-  of_list make said = ok_then AllBytes IsSaid (operand_list texts) (λ texts. Ok (make texts)) (list_bytes texts are) said
+  of_list : (make : List (List ℕ) → Statement) → ((texts : List (List ℕ)) → AllBytes texts → IsFitStatement (make texts))
+      → IfOk (operand_list texts >>= λ texts. Ok (make texts)) IsFitStatement
+  of_list make fit_statement = ok_then AllBytes IsFitStatement (operand_list texts) (λ texts. Ok (make texts)) (list_bytes texts are) fit_statement
 
-  of_names : (make : List (List ℕ) → Statement) → ((names : List (List ℕ)) → AreKept names → IsSaid (make names))
-      → IfOk (names_in texts >>= λ names. Ok (make names)) IsSaid
-  of_names make said = ok_then AreKept IsSaid (names_in texts) (λ names. Ok (make names)) (listed_kept texts) said
+  of_names : (make : List (List ℕ) → Statement) → ((names : List (List ℕ)) → AreKept names → IsFitStatement (make names))
+      → IfOk (names_in texts >>= λ names. Ok (make names)) IsFitStatement
+  of_names make fit_statement = ok_then AreKept IsFitStatement (names_in texts) (λ names. Ok (make names)) (listed_kept texts) fit_statement
 
-  rorg_said : (text : Option (List ℕ)) → PerhapsBytes text → IsSaid (Rorg text)
-  rorg_said None bytes = plain (Rorg None) tt tt tt
-  rorg_said (Some text) bytes = plain (Rorg (Some text)) bytes tt tt
+  rorg_fits : (text : Option (List ℕ)) → PerhapsBytes text → IsFitStatement (Rorg text)
+  rorg_fits None bytes = plain (Rorg None) tt tt tt
+  rorg_fits (Some text) bytes = plain (Rorg (Some text)) bytes tt tt
 
-  end_said : (text : Option (List ℕ)) → PerhapsBytes text → IsSaid (End text)
-  end_said None bytes = plain (End None) tt tt tt
-  end_said (Some text) bytes = plain (End (Some text)) bytes tt tt
+  end_fits : (text : Option (List ℕ)) → PerhapsBytes text → IsFitStatement (End text)
+  end_fits None bytes = plain (End None) tt tt tt
+  end_fits (Some text) bytes = plain (End (Some text)) bytes tt tt
 
-  directive_said : (found : Directive) → IfOk (directive_statement found texts) IsSaid
-  directive_said named.Aorg = of_one Aorg (λ text bytes. plain (Aorg text) bytes tt tt)
-  directive_said named.Rorg = ok_then PerhapsBytes IsSaid (optional_operand texts) _ (optional_bytes texts are) rorg_said
-  directive_said named.Dorg = of_one Dorg (λ text bytes. plain (Dorg text) bytes tt tt)
-  directive_said named.Bss = of_one Bss (λ text bytes. plain (Bss text) tt tt tt)
-  directive_said named.Bes = of_one Bes (λ text bytes. plain (Bes text) tt tt tt)
-  directive_said named.Even = plain Even tt tt tt
-  directive_said named.Equ = of_one Equ (λ text bytes. plain (Equ text) bytes tt tt)
-  directive_said named.Data = of_list Data (λ texts bytes. plain (Data texts) bytes tt tt)
-  directive_said named.Byte = of_list Byte (λ texts bytes. plain (Byte texts) bytes tt tt)
-  directive_said named.Text =
-      ok_then AreBytes IsSaid (one_operand texts) _ (one_bytes texts are)
-      (λ text bytes. ok_then AreBytes IsSaid (quoted text) _ (quoted_by (is_quoted text) text bytes) (λ text bytes. plain (Text text) bytes tt tt))
-  directive_said named.Def = of_names Def (λ names kept. plain (Def names) tt kept tt)
-  directive_said named.Ref = of_names Ref (λ names kept. plain (Ref names) tt kept tt)
-  directive_said named.Idt = of_one Idt (λ text bytes. plain (Idt text) tt tt tt)
-  directive_said named.Titl = of_one Titl (λ text bytes. plain (Titl text) tt tt tt)
-  directive_said named.Quiet = plain Nothing tt tt tt
-  directive_said named.End = ok_then PerhapsBytes IsSaid (optional_operand texts) _ (optional_bytes texts are) end_said
+  directive_fits : (found : Directive) → IfOk (directive_statement found texts) IsFitStatement
+  directive_fits named.Aorg = of_one Aorg (λ text bytes. plain (Aorg text) bytes tt tt)
+  directive_fits named.Rorg = ok_then PerhapsBytes IsFitStatement (optional_operand texts) _ (optional_bytes texts are) rorg_fits
+  directive_fits named.Dorg = of_one Dorg (λ text bytes. plain (Dorg text) bytes tt tt)
+  directive_fits named.Bss = of_one Bss (λ text bytes. plain (Bss text) tt tt tt)
+  directive_fits named.Bes = of_one Bes (λ text bytes. plain (Bes text) tt tt tt)
+  directive_fits named.Even = plain Even tt tt tt
+  directive_fits named.Equ = of_one Equ (λ text bytes. plain (Equ text) bytes tt tt)
+  directive_fits named.Data = of_list Data (λ texts bytes. plain (Data texts) bytes tt tt)
+  directive_fits named.Byte = of_list Byte (λ texts bytes. plain (Byte texts) bytes tt tt)
+  directive_fits named.Text =
+      ok_then AreBytes IsFitStatement (one_operand texts) _ (one_bytes texts are)
+      (λ text bytes. ok_then AreBytes IsFitStatement (quoted text) _ (quoted_by (is_quoted text) text bytes) (λ text bytes. plain (Text text) bytes tt tt))
+  directive_fits named.Def = of_names Def (λ names kept. plain (Def names) tt kept tt)
+  directive_fits named.Ref = of_names Ref (λ names kept. plain (Ref names) tt kept tt)
+  directive_fits named.Idt = of_one Idt (λ text bytes. plain (Idt text) tt tt tt)
+  directive_fits named.Titl = of_one Titl (λ text bytes. plain (Titl text) tt tt tt)
+  directive_fits named.Quiet = plain Nothing tt tt tt
+  directive_fits named.End = ok_then PerhapsBytes IsFitStatement (optional_operand texts) _ (optional_bytes texts are) end_fits
 
 as_operands_has : {A : Type 0} (P : A → Type 0) (answer : Result A OperandError) → IfOk answer P → IfOk (as_operands answer) P
 as_operands_has P (Ok value) has = has
@@ -196,22 +196,22 @@ as_form_has P (Err cause) has = tt
 -- ---- lines
 
 sized_by : (operation field : List ℕ) (answer : Result ℕ FormError) → line_size operation field ≡ answer → AreBytes field
-    → IfOk (answer >>= λ size. Ok (Instruction size operation field)) IsSaid
+    → IfOk (answer >>= λ size. Ok (Instruction size operation field)) IsFitStatement
 sized_by operation field (Ok size) e are = plain (Instruction size operation field) are tt e
 sized_by operation field (Err cause) e are = tt
 
-by_directive : (found : Option Directive) (operation field : List ℕ) → AreBytes field → IfOk (statement_by found operation field) IsSaid
+by_directive : (found : Option Directive) (operation field : List ℕ) → AreBytes field → IfOk (statement_by found operation field) IsFitStatement
 by_directive (Some found) operation field are =
-    as_operands_has IsSaid (directive_statement found (operand_texts field)) (directive_said (operand_texts field) (operands_bytes field are) found)
+    as_operands_has IsFitStatement (directive_statement found (operand_texts field)) (directive_fits (operand_texts field) (operands_bytes field are) found)
 by_directive None operation field are = sized_by operation field (line_size operation field) refl are
 
-at_operation : (line : List ℕ) (operation : Option Span) (operands : Span) → AreBytes line → IfOk (statement_at line operation operands) IsSaid
+at_operation : (line : List ℕ) (operation : Option Span) (operands : Span) → AreBytes line → IfOk (statement_at line operation operands) IsFitStatement
 at_operation line None operands are = plain Nothing tt tt tt
 at_operation line (Some operation) operands are =
     let field = part line operands in
-    as_form_has IsSaid (statement_by (directive (part line operation)) (part line operation) field)
+    as_form_has IsFitStatement (statement_by (directive (part line operation)) (part line operation) field)
     (by_directive (directive (part line operation)) (part line operation) field (range_bytes line operands.start operands.end are))
 
-pub line_said : (line : List ℕ) (found : Fields) → AreBytes line → IfOk (statement_in line found) IsSaid
+pub line_fits : (line : List ℕ) (found : Fields) → AreBytes line → IfOk (statement_in line found) IsFitStatement
 unfolding statement_in
-line_said line found are = at_operation line found.operation found.operands are
+line_fits line found are = at_operation line found.operation found.operands are

@@ -24,7 +24,7 @@ linked_alone m = with_line link_line (linked (m ∷ []))
 
 -- A text stands for a module: it reads as that module alone, `link` reports the linked memory of the module, and the
 -- reports of `exec` are those of runs of this memory, and no others.
-pub record StandsFor (m : Module) (text : List ℕ) : Type 0 where
+pub record IsTextOf (m : Module) (text : List ℕ) : Type 0 where
   pub reads : read text ≡ Ok (m ∷ [])
   pub links : linked_input text ≡ linked_alone m
   pub link : ReportOn Link text (link_report (linked_alone m))
@@ -39,7 +39,7 @@ abbrev pub AssembledTextsAreRead : Type 0
 AssembledTextsAreRead =
     (source : List ℕ) (pieces : List (List ℕ)) → HoldsBytes (length source) source
     → ReportOn Asm source (Whole Done pieces) → length (concat pieces) ≤ largest_input
-    → (m : Module) × (module_of_source source ≡ Ok m) × StandsFor m (concat pieces)
+    → (m : Module) × (module_of_source source ≡ Ok m) × IsTextOf m (concat pieces)
 
 -- each file holds bytes
 abbrev pub FilesHoldBytes : Files → Type 0
@@ -59,7 +59,7 @@ pub record IsAssembled (m : Module) (text : List ℕ) : Type 0 where
 
 -- The law, which is proved: so it is of a source that copies files.
 abbrev pub AssembledFilesAreRead : Type 0
-AssembledFilesAreRead = (m : Module) (text : List ℕ) → IsAssembled m text → StandsFor m text
+AssembledFilesAreRead = (m : Module) (text : List ℕ) → IsAssembled m text → IsTextOf m text
 
 -- the files of some names, in their order, are what `asm` wrote of sources with these modules
 abbrev pub AreAssembled : Files → List (List ℕ) → List Module → Type 0

@@ -21,7 +21,7 @@ fn is_written_as(image: &GromImage, low: u32, bytes: &[u8]) -> bool {
 }
 
 /// Whether the image distinguishes the addresses that were written from others.
-fn tells_written(image: &GromImage) -> bool {
+fn distinguishes_written(image: &GromImage) -> bool {
     image.is_written(0x6001)
         && image.is_written(0xFFFF)
         && !image.is_written(0x6003)
@@ -37,6 +37,6 @@ fn shows_what_was_written(rt: HostRuntime) -> Result<(), Fail> {
         image.put(at, byte);
         assert!(rt; is_written_as(&image, low, bytes), "at {at}");
     }
-    assert!(rt; tells_written(&image));
+    assert!(rt; distinguishes_written(&image));
     Ok(())
 }

@@ -98,7 +98,7 @@ fn is_read_as(image: &GromImage, at: u16, instr: GplInstr, next: u16) -> bool {
 }
 
 /// Whether the instruction at an address, where there is one, stands there in its shortest spelling.
-fn stands_short(image: &GromImage, at: u16) -> bool {
+fn is_short(image: &GromImage, at: u16) -> bool {
     match read_instr(image.bytes(), at) {
         GplRead::Instr { .. } => is_shortest(image.bytes(), at),
         GplRead::Refused(_) => false,
@@ -133,7 +133,7 @@ fn is_read_from_the_last_byte(image: &mut GromImage, bytes: &[u8]) -> bool {
             0x7FFF,
             ABS_CELL,
             HERE.wrapping_add(count).wrapping_sub(1),
-        ) && !stands_short(image, 0x7FFF),
+        ) && !is_short(image, 0x7FFF),
         Err(_) => false,
     }
 }

@@ -2,7 +2,7 @@
 
 ghost use Rattle.std.specs.Prelude.{IsTrue};
 ghost use Rattle.std.specs.List.{AllByRecursion};
-ghost use Rattle.object_defs.specs.Modules.{HasText, StandsEven};
+ghost use Rattle.object_defs.specs.Modules.{HasText, IsAtEvenPlace};
 ghost use Rattle.object_tags.specs.Seen.{model_of_module};
 
 use object_tags::{Module, Piece, Spot, TagCause, TagError, read_modules, write_module};
@@ -251,11 +251,11 @@ fn has_text(module: &Module) -> bool
     module.defs.as_slice().len() <= 256
         && module.refs.as_slice().len() <= 256
         && module.pieces.as_slice().len() <= 32_768
-        && stand_even(module.pieces.as_slice())
+        && are_at_even_places(module.pieces.as_slice())
 }
 
-fn stand_even(words: &[Piece]) -> bool
-    ensures { IsTrue result → AllByRecursion StandsEven words.now }
+fn are_at_even_places(words: &[Piece]) -> bool
+    ensures { IsTrue result → AllByRecursion IsAtEvenPlace words.now }
 {
     for word in words {
         let (Spot::Absolute(number) | Spot::Relocatable(number)) = word.at;

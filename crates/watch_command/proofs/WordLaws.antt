@@ -6,8 +6,8 @@ use Rattle.watch_defs.specs.declared.item.Item.{Item}
 use Rattle.report_defs.specs.ProgramCommands.{item_word, item_words}
 
 -- The words that are left say what follows these items.
-abbrev pub Said : List Item → List (List ℕ) → Option (List Item) → Type 0
-Said items left all = all ≡ option_map (λ rest. items ++ rest) (item_words left)
+abbrev pub AddsItems : List Item → List (List ℕ) → Option (List Item) → Type 0
+AddsItems items left all = all ≡ option_map (λ rest. items ++ rest) (item_words left)
 
 -- by what the next word says, and by what follows
 abbrev by_word : List Item → Option (List Item) → Option Item → Option (List Item)
@@ -20,6 +20,6 @@ after items item None = refl
 after items item (Some rest) = ap Some (sym (append_assoc items (item ∷ []) rest))
 
 module _ (items : List Item) (word : List ℕ) (left : List (List ℕ)) (all : Option (List Item))
-    (said : Said items (word ∷ left) all) where
-  pub said_more : (item : Item) → Some item ≡ item_word word → Said (items ++ item ∷ []) left all
-  said_more item is = said ∙ ap (by_word items (item_words left)) (sym is) ∙ after items item (item_words left)
+    (parsed : AddsItems items (word ∷ left) all) where
+  pub adds_more : (item : Item) → Some item ≡ item_word word → AddsItems (items ++ item ∷ []) left all
+  adds_more item is = parsed ∙ ap (by_word items (item_words left)) (sym is) ∙ after items item (item_words left)

@@ -14,9 +14,9 @@ use report_defs::MOST_STEPS;
 /// The most steps and the items that the words after `watch` say: a number up to 100,000, and the words of one to
 /// eight items. It takes no memory.
 pub fn watch_words(words: &[Vec<u8>]) -> Option<(u32, WatchedItems)>
-    ensures said { option_map (λ said. spec.Watch said.0 said.1) result
+    ensures parsed { option_map (λ parsed. spec.Watch parsed.0 parsed.1) result
         ≡ spec.watch_command (map (λ word. word.items) words.now) }
-    ensures limit { IfSome result (λ said. said.0 ≤ most_steps) }
+    ensures limit { IfSome result (λ parsed. parsed.0 ≤ most_steps) }
 {
     let (number, words) = words.split_first()?;
     let limit = number_word(number.as_slice(), MOST_STEPS)?;

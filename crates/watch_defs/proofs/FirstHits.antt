@@ -105,7 +105,7 @@ module _ (list : List Item) (limit : ℕ) (s : GplState) where
         let p : Item → Bool = λ item. holds item before next in
         let first = position-Some p list place (Pc 0) is in
         let item : Item = get_or list place (Pc 0) in
-        let stands : slice_get list place ≡ Some item = slice_get-get_or list place (Pc 0) first.0 in
+        let is_item : slice_get list place ≡ Some item = slice_get-get_or list place (Pc 0) first.0 in
         let less : place + 1 - 1 ≡ place = omega arith in
         record {
           counted = some;
@@ -114,11 +114,11 @@ module _ (list : List Item) (limit : ℕ) (s : GplState) where
           begins = refl;
           numbered = omega arith;
           item = item;
-          stands = ap (slice_get list) less ∙ stands;
+          is_item = ap (slice_get list) less ∙ is_item;
           holds = first.1;
           none_before =
               λ k other lt at. ap p (sym (get_or_from_slice_get list k other (Pc 0) at)) ∙ first.2 k (omega arith);
-          changed = ap (option_and_then (λ i. change i before next)) stands;
+          changed = ap (option_and_then (λ i. change i before next)) is_item;
         }
 
     by_item : (hit : Found) (o : Option ℕ) → first_item list before next ≡ o → option_map hit_of o ≡ Some hit

@@ -28,7 +28,7 @@ pub record IsFirstHit (list : List Item) (limit : ℕ) (s : GplState) (step from
   pub begins : from ≡ (state_after s (step - 1)).pc
   pub numbered : 1 ≤ number
   pub item : Item
-  pub stands : slice_get list (number - 1) ≡ Some item
+  pub is_item : slice_get list (number - 1) ≡ Some item
   pub holds : IsTrue (items.holds item (state_after s (step - 1)) (state_after s step))
   pub none_before : NoneHoldsBefore list (number - 1) (state_after s (step - 1)) (state_after s step)
   pub changed : shown ≡ items.change item (state_after s (step - 1)) (state_after s step)

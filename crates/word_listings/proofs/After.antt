@@ -9,7 +9,7 @@ use Rattle.source_defs.specs.ListedLines.{listed}
 use Rattle.expression_defs.specs.Expression.{Absolute}
 use Rattle.expression_defs.specs.Symbols.{predefined}
 use Rattle.source_defs.specs.Lines.{numbered}
-use Rattle.expression_defs.specs.Layout.{laid_after, assembled_lines}
+use Rattle.expression_defs.specs.Layout.{layout_after, assembled_lines}
 use Rattle.object_defs.specs.Digits.{padded}
 use Rattle.object_defs.specs.Modules.{Module}
 use Rattle.asm_defs.specs.declared.causes.AsmCause.{AsmCause}
@@ -37,7 +37,7 @@ use Rattle.word_listings.specs.Modules.{wraps, wrapping_from, unless_far}
 use Rattle.word_listings.proofs.Instructions.{AreWords}
 
 -- lines after which the location is an absolute place, and which say nothing else
-pub record Stands (before : List Line) (at : ℕ) : Type 0 where
+pub record IsAt (before : List Line) (at : ℕ) : Type 0 where
   pub names_are : names before ≡ predefined
   pub location_is : location before ≡ absolute_at at
   pub refs_are : refs before ≡ []
@@ -54,7 +54,7 @@ pub record Taken (before : List Line) (number : ℕ) (text : List ℕ) (at next 
   pub check_is : check before number (listed text) ≡ Ok line
   pub last_is : line.last ≡ last
   pub number_is : line.number ≡ number
-  pub stands : Stands (line ∷ before) next
+  pub after_these : IsAt (line ∷ before) next
   pub assemble_is : (earlier : List AssembledLine) → assembled_line predefined before earlier line
       ≡ (answer >>= λ found. with_room earlier (record { at = absolute_at at; outcome = found }))
 
@@ -66,28 +66,28 @@ module _ (at : ℕ) (text : List ℕ) (size : ℕ) (last : Bool) (answer : Resul
   in_part : nat_le (at + (0 + size)) 65536 ≡ true
   in_part = grind (arith, nat_tests, fits)
 
-  let_through : (before : EarlierLines) → before.location ≡ absolute_at at → checked before (listed text) ≡ Ok found
+  accepted : (before : EarlierLines) → before.location ≡ absolute_at at → checked before (listed text) ≡ Ok found
   unfolding parsed moved statement_in
-  let_through before there =
-      rw (back.cut.fields_are, back.cut.name_is, back.cut.field_is, back.says, back.own.refs)
+  accepted before there =
+      rw (back.cut.fields_are, back.cut.name_is, back.cut.field_is, back.parses, back.own.refs)
       (rw (there, back.own.moves before.names before.reached, back.own.few before, back.own.good before, in_part) refl)
 
-  module _ (before : List Line) (stands : Stands before at) (number : ℕ) where
+  module _ (before : List Line) (after_these : IsAt before at) (number : ℕ) where
     abbrev line : Line
     line = line_of number found
 
     location_next : location (line ∷ before) ≡ absolute_at (at + size)
     location_next =
         let n : ℕ = (location before).number in
-        let e : (location before).number ≡ at = ap (λ (l : Location). l.number) stands.location_is in
-        let p : (location before).part ≡ part.Absolute = ap (λ (l : Location). l.part) stands.location_is in
+        let e : (location before).number ≡ at = ap (λ (l : Location). l.number) after_these.location_is in
+        let p : (location before).part ≡ part.Absolute = ap (λ (l : Location). l.part) after_these.location_is in
         here_by (location before).part _ _ p (omega (arith, e))
       where
         here_by : (found : Part) (m n : ℕ) → found ≡ part.Absolute → m ≡ n → ◌≡◌ {A = Location} (record { part = found; number = m }) (absolute_at n)
         here_by found m n p e = rw (p, e) refl
 
     place_is : place before line ≡ absolute_at at
-    place_is = ap (λ here. after here 0) stands.location_is ∙ same_place (at + 0) at (omega arith)
+    place_is = ap (λ here. after here 0) after_these.location_is ∙ same_place (at + 0) at (omega arith)
 
     with_no_names : (before : List Line) → names before ≡ predefined → names (line_of number found ∷ before) ≡ predefined
     with_no_names before e = rw back.own.refs e
@@ -95,16 +95,16 @@ module _ (at : ℕ) (text : List ℕ) (size : ℕ) (last : Bool) (answer : Resul
     pub taken : Taken before number text at (at + size) last answer
     taken = record {
       line = line;
-      check_is = ap (λ answer. answer >>= λ found. Ok (line_of number found)) (let_through (known_of before) stands.location_is);
+      check_is = ap (λ answer. answer >>= λ found. Ok (line_of number found)) (accepted (known_of before) after_these.location_is);
       last_is = back.own.last_is;
       number_is = refl;
-      stands = record {
-        names_are = with_no_names before stands.names_are;
+      after_these = record {
+        names_are = with_no_names before after_these.names_are;
         location_is = location_next;
-        refs_are = rw (stands.refs_are, back.own.refs) refl;
-        defs_are = rw (stands.defs_are, back.own.defs) refl;
-        reached_is = ap (λ here. max (reached before) (relocatable here)) location_next ∙ ap (λ n. max n 0) stands.reached_is;
-        title_is = back.own.title_kept (title before) ∙ stands.title_is;
+        refs_are = rw (after_these.refs_are, back.own.refs) refl;
+        defs_are = rw (after_these.defs_are, back.own.defs) refl;
+        reached_is = ap (λ here. max (reached before) (relocatable here)) location_next ∙ ap (λ n. max n 0) after_these.reached_is;
+        title_is = back.own.title_kept (title before) ∙ after_these.title_is;
       };
       assemble_is = λ earlier.
           ap (λ place. assembled_at predefined place back.statement earlier) place_is
@@ -132,7 +132,7 @@ Comes before from (Err refusal) = Fails before refusal
 -- lines after others, to the last
 pub record Ends (before : List Line) (number : ℕ) (texts : List (List ℕ)) (answer : Result Module (Refusal AsmCause)) : Type 0 where
   pub all : List Line
-  pub laid_is : laid_after check before (numbered number (map listed texts)) ≡ Ok all
+  pub layout_is : layout_after check before (numbered number (map listed texts)) ≡ Ok all
   pub names_are : names all ≡ predefined
   pub module_is : (assembled_lines (assembled_line predefined) all >>= λ found. Ok (module_by all found)) ≡ answer
 
@@ -142,8 +142,8 @@ pub ends_last : (before : List Line) (number : ℕ) (text : List ℕ) (at next :
     → Ends before number (text ∷ []) answer
 ends_last before number text at next come answer taken is = record {
   all = taken.line ∷ before;
-  laid_is = rw (taken.check_is, taken.last_is) refl;
-  names_are = taken.stands.names_are;
+  layout_is = rw (taken.check_is, taken.last_is) refl;
+  names_are = taken.after_these.names_are;
   module_is = is;
 }
 
@@ -151,10 +151,10 @@ pub ends_more : (before : List Line) (number : ℕ) (text : List ℕ) (texts : L
     (taken : Taken before number text at next false come) → Ends (taken.line ∷ before) (number + 1) texts answer → Ends before number (text ∷ texts) answer
 ends_more before number text texts at next come answer taken ends = record {
   all = ends.all;
-  laid_is =
+  layout_is =
       rw taken.check_is
-      (chosen taken.line.last false (Ok (taken.line ∷ before)) (laid_after check (taken.line ∷ before) (numbered (number + 1) (map listed texts))) taken.last_is
-      ∙ ends.laid_is);
+      (chosen taken.line.last false (Ok (taken.line ∷ before)) (layout_after check (taken.line ∷ before) (numbered (number + 1) (map listed texts))) taken.last_is
+      ∙ ends.layout_is);
   names_are = ends.names_are;
   module_is = ends.module_is;
 }
@@ -211,7 +211,7 @@ module _ (from : ℕ) (total : List ℕ) (tails : List (List ℕ)) (whole : Modu
   -- the last lines, after all words or where a line before is refused
   abbrev pub Closes : Type 0
   Closes =
-      (before : List Line) (number : ℕ) → Stands before end →
+      (before : List Line) (number : ℕ) → IsAt before end →
       ((earlier : List AssembledLine) → Holds before earlier from total → Ends before number tails (Ok whole))
       × ((refusal : Refusal AsmCause) → Fails before refusal → Ends before number tails (Err refusal))
 
@@ -228,11 +228,11 @@ module _ (from : ℕ) (total : List ℕ) (tails : List (List ℕ)) (whole : Modu
     abbrev GoesFrom : ℕ → Type 0
     GoesFrom most =
         (words : List ℕ) (at number : ℕ) (before : List Line) (come : Result (List ℕ) (Refusal AsmCause)) → length words ≤ most →
-        at % 2 ≡ 0 → at + 2 * length words ≡ end → AreWords words → Stands before at → Comes before from come → AreAll come words at →
+        at % 2 ≡ 0 → at + 2 * length words ≡ end → AreWords words → IsAt before at → Comes before from come → AreAll come words at →
         Ends before number (texts_from most at words ++ tails) (finish come (wrapping_from most number at words))
 
     module _ (most word : ℕ) (words : List ℕ) (others : GoesFrom most) (at number : ℕ) (before : List Line) (few : length words ≤ most) (even : at % 2 ≡ 0)
-        (size : at + 2 * length (word ∷ words) ≡ end) (are : AreWords (word ∷ words)) (stands : Stands before at) where
+        (size : at + 2 * length (word ∷ words) ≡ end) (are : AreWords (word ∷ words)) (after_these : IsAt before at) where
       abbrev count : ℕ
       count = (printed (word ∷ words) at).count
 
@@ -255,7 +255,7 @@ module _ (from : ℕ) (total : List ℕ) (tails : List (List ℕ)) (whole : Modu
           let left = length-drop count (word ∷ words) in
           ends_more before number _ _ _ _ _ _ line
           (others rest (at + 2 * count) (number + 1) (line.line ∷ before) come (omega (arith, left, few, some)) (omega (arith, even))
-          (omega (arith, size, left, within)) (drop_words count (word ∷ words) are) line.stands comes all)
+          (omega (arith, size, left, within)) (drop_words count (word ∷ words) are) line.after_these comes all)
 
       goes_by : (far : Bool) → LineBack at text (2 * count) false (come_unless far (take count (word ∷ words))) →
           Counts (word ∷ words) text count → (come : Result (List ℕ) (Refusal AsmCause)) → Comes before from come →
@@ -263,16 +263,16 @@ module _ (from : ℕ) (total : List ℕ) (tails : List (List ℕ)) (whole : Modu
           Ends before number (text ∷ (texts_from most (at + 2 * count) rest ++ tails)) (finish come (if far then Some number else later))
       goes_by far back counts (Err refusal) comes all =
           let within = counts.within in
-          let line = taken at text (2 * count) false _ back (omega (arith, size, below, within)) before stands number in
+          let line = taken at text (2 * count) false _ back (omega (arith, size, below, within)) before after_these number in
           go_on line (Err refusal) counts (fails_still line.line before refusal comes) tt
       goes_by true back counts (Ok held) comes all =
           let within = counts.within in
-          let line = taken at text (2 * count) false _ back (omega (arith, size, below, within)) before stands number in
+          let line = taken at text (2 * count) false _ back (omega (arith, size, below, within)) before after_these number in
           go_on line (Err (record { line = number; cause = Form JumpTooFar })) counts
           (fails_now before number text at (at + 2 * count) false (Form JumpTooFar) comes.0 line comes.1.assembled_are) tt
       goes_by false back counts (Ok held) comes all =
           let within = counts.within in
-          let line = taken at text (2 * count) false _ back (omega (arith, size, below, within)) before stands number in
+          let line = taken at text (2 * count) false _ back (omega (arith, size, below, within)) before after_these number in
           let more : List ℕ = take count (word ∷ words) in
           let long : length (held ++ take count (word ∷ words)) ≡ length held + count =
           length-append held (take count (word ∷ words)) ∙ ap (λ n. length held + n) (length-take-le count (word ∷ words) within) in
@@ -284,18 +284,18 @@ module _ (from : ℕ) (total : List ℕ) (tails : List (List ℕ)) (whole : Modu
                 ∙ (ap (λ rest. held ++ rest) (take-append-drop count (word ∷ words)) ∙ all.1),
           )
 
-    no_more : (at number : ℕ) (before : List Line) (come : Result (List ℕ) (Refusal AsmCause)) → at + 2 * 0 ≡ end → Stands before at → Comes before from come →
+    no_more : (at number : ℕ) (before : List Line) (come : Result (List ℕ) (Refusal AsmCause)) → at + 2 * 0 ≡ end → IsAt before at → Comes before from come →
         AreAll come [] at → Ends before number tails (finish come None)
-    no_more at number before (Err refusal) size stands comes all =
-        (closes before number (subst (Stands before) (omega (arith, size)) stands)).1 refusal comes
-    no_more at number before (Ok held) size stands comes all =
+    no_more at number before (Err refusal) size after_these comes all =
+        (closes before number (subst (IsAt before) (omega (arith, size)) after_these)).1 refusal comes
+    no_more at number before (Ok held) size after_these comes all =
         let same : held ≡ total = sym (append-nil held) ∙ all.1 in
-        (closes before number (subst (Stands before) (omega (arith, size)) stands)).0 comes.0 (subst (Holds before comes.0 from) same comes.1)
+        (closes before number (subst (IsAt before) (omega (arith, size)) after_these)).0 comes.0 (subst (Holds before comes.0 from) same comes.1)
 
     pub goes_from : (most : ℕ) → GoesFrom most
-    goes_from zero (word ∷ words) at number before come few even size are stands comes all = absurd (omega (arith, few))
-    goes_from (suc most) (word ∷ words) at number before come few even size are stands comes all =
+    goes_from zero (word ∷ words) at number before come few even size are after_these comes all = absurd (omega (arith, few))
+    goes_from (suc most) (word ∷ words) at number before come few even size are after_these comes all =
         let back = words_back at (omega (arith, size, below)) even word words are in
-        goes_by most word words (goes_from most) at number before (omega (arith, few)) even size are stands
+        goes_by most word words (goes_from most) at number before (omega (arith, few)) even size are after_these
         (wraps at (instr_at word)) back.0 back.1 come comes all
-    goes_from _ _ at number before come few even size are stands comes all = no_more at number before come size stands comes all
+    goes_from _ _ at number before come few even size are after_these comes all = no_more at number before come size after_these comes all

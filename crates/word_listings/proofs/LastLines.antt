@@ -31,7 +31,7 @@ use Rattle.line_laws.proofs.SecondChecks.{room_by}
 use Rattle.line_laws.proofs.LinkedPieces.{pieces_held, pieces_there, pieces_split, none_from, at_word, content_none, content_not_yet, nothing_before}
 use Rattle.line_laws.proofs.Whole.{not_covered, no_uses}
 use Rattle.word_listings.proofs.LineBacks.{absolute_at, end_text, end_outcome, end_line, IsEntry, byte_line}
-use Rattle.word_listings.proofs.After.{Stands, Holds, Fails, taken, Ends, ends_last, ends_more, assembles_now, fails_still}
+use Rattle.word_listings.proofs.After.{IsAt, Holds, Fails, taken, Ends, ends_last, ends_more, assembles_now, fails_still}
 
 -- lines that hold some pieces and an entry, or none, and nothing else
 pub record Held (lines : List AssembledLine) (held : List Piece) (entered : Option Spot) : Type 0 where
@@ -193,30 +193,30 @@ same_module n m s t p q d e r u x y a b c f g h = rw (a, b, c, f, g, h) refl
 abbrev pub module_with : List Piece → Option Spot → Module
 module_with held entered = record { name = padded 8 []; size = 0; pieces = held; defs = []; refs = []; entry = entered }
 
-module_is : (all : List Line) (at : ℕ) (lines : List AssembledLine) (held : List Piece) (entered : Option Spot) → Stands all at → Held lines held entered
+module_is : (all : List Line) (at : ℕ) (lines : List AssembledLine) (held : List Piece) (entered : Option Spot) → IsAt all at → Held lines held entered
     → module_by all lines ≡ module_with held entered
-module_is all at lines held entered stands is =
-    same_module _ _ _ _ _ _ _ _ _ _ _ _ stands.title_is stands.reached_is
-    (ap (λ references. pieces (map unused references) lines) stands.refs_are ∙ is.pieces_are)
-    (ap (map (definition_in (names all))) stands.defs_are)
-    (ap (λ references. references_of (map unused references) lines) stands.refs_are ∙ no_uses lines) is.entry_is
+module_is all at lines held entered after_these is =
+    same_module _ _ _ _ _ _ _ _ _ _ _ _ after_these.title_is after_these.reached_is
+    (ap (λ references. pieces (map unused references) lines) after_these.refs_are ∙ is.pieces_are)
+    (ap (map (definition_in (names all))) after_these.defs_are)
+    (ap (λ references. references_of (map unused references) lines) after_these.refs_are ∙ no_uses lines) is.entry_is
 
 -- END after lines that hold some pieces
 module _ (entered : Option ℕ) (is_entry : IsEntry entered) where
-  pub closes_end : (end : ℕ) (fits : end ≤ 65536) (before : List Line) (lines : List AssembledLine) (number : ℕ) (held : List Piece) → Stands before end
+  pub closes_end : (end : ℕ) (fits : end ≤ 65536) (before : List Line) (lines : List AssembledLine) (number : ℕ) (held : List Piece) → IsAt before end
       → assembled_lines (assembled_line predefined) before ≡ Ok lines → Held lines held None
       → Ends before number (end_text entered ∷ []) (Ok (module_with held (option_map spot.Absolute entered)))
-  closes_end end fits before lines number held stands are is =
-      let line = taken end (end_text entered) 0 true _ (end_line end entered is_entry) (omega (arith, fits)) before stands number in
+  closes_end end fits before lines number held after_these are is =
+      let line = taken end (end_text entered) 0 true _ (end_line end entered is_entry) (omega (arith, fits)) before after_these number in
       let now = assembles_now before number (end_text entered) end (end + 0) true (end_outcome entered) lines line are (end_room end entered lines held is) in
       ends_last before number (end_text entered) end (end + 0) (Ok (end_outcome entered)) _ line
       (ap (λ answer. answer >>= λ found. Ok (module_by (line.line ∷ before) found)) now
-      ∙ ap Ok (module_is (line.line ∷ before) (end + 0) (end_assembled end entered ∷ lines) held _ line.stands (end_held end entered lines held is)))
+      ∙ ap Ok (module_is (line.line ∷ before) (end + 0) (end_assembled end entered ∷ lines) held _ line.after_these (end_held end entered lines held is)))
 
-  pub breaks_end : (end : ℕ) (fits : end ≤ 65536) (before : List Line) (number : ℕ) (refusal : Refusal AsmCause) → Stands before end → Fails before refusal
+  pub breaks_end : (end : ℕ) (fits : end ≤ 65536) (before : List Line) (number : ℕ) (refusal : Refusal AsmCause) → IsAt before end → Fails before refusal
       → Ends before number (end_text entered ∷ []) (Err refusal)
-  breaks_end end fits before number refusal stands fails =
-      let line = taken end (end_text entered) 0 true _ (end_line end entered is_entry) (omega (arith, fits)) before stands number in
+  breaks_end end fits before number refusal after_these fails =
+      let line = taken end (end_text entered) 0 true _ (end_line end entered is_entry) (omega (arith, fits)) before after_these number in
       ends_last before number (end_text entered) end (end + 0) (Ok (end_outcome entered)) _ line
       (ap (λ answer. answer >>= λ found. Ok (module_by (line.line ∷ before) found)) (fails_still line.line before refusal fails))
 
@@ -225,21 +225,21 @@ module _ (entered : Option ℕ) (is_entry : IsEntry entered) where
     abbrev byte_text : List ℕ
     byte_text = codes "BYTE " ++ hex_byte byte
 
-    pub closes_byte : (half : ℕ) (words : List ℕ) → end ≡ 2 * (half + length words) → (before : List Line) (lines : List AssembledLine) (number : ℕ) → Stands before end
+    pub closes_byte : (half : ℕ) (words : List ℕ) → end ≡ 2 * (half + length words) → (before : List Line) (lines : List AssembledLine) (number : ℕ) → IsAt before end
         → Holds before lines (2 * half) words
         → Ends before number (byte_text ∷ end_text entered ∷ [])
         (Ok (module_with (pieces_of (2 * half) (words ++ join byte 0 ∷ [])) (option_map spot.Absolute entered)))
-    closes_byte half words there before lines number stands holds =
-        let line = taken end byte_text 1 false _ (byte_line end byte small) (omega (arith, fits)) before stands number in
+    closes_byte half words there before lines number after_these holds =
+        let line = taken end byte_text 1 false _ (byte_line end byte small) (omega (arith, fits)) before after_these number in
         let now = assembles_now before number byte_text end (end + 1) false (Bytes (byte ∷ [])) lines line holds.assembled_are
         (byte_room end byte lines half words holds.hold there) in
         ends_more before number _ _ _ _ _ _ line
-        (closes_end (end + 1) (omega (arith, fits)) (line.line ∷ before) (byte_assembled end byte ∷ lines) (number + 1) _ line.stands now
+        (closes_end (end + 1) (omega (arith, fits)) (line.line ∷ before) (byte_assembled end byte ∷ lines) (number + 1) _ line.after_these now
         (byte_held end byte lines half words holds.hold there holds.entry_is (omega (arith, there, fits))))
 
-    pub breaks_byte : (before : List Line) (number : ℕ) (refusal : Refusal AsmCause) → Stands before end → Fails before refusal
+    pub breaks_byte : (before : List Line) (number : ℕ) (refusal : Refusal AsmCause) → IsAt before end → Fails before refusal
         → Ends before number (byte_text ∷ end_text entered ∷ []) (Err refusal)
-    breaks_byte before number refusal stands fails =
-        let line = taken end byte_text 1 false _ (byte_line end byte small) (omega (arith, fits)) before stands number in
+    breaks_byte before number refusal after_these fails =
+        let line = taken end byte_text 1 false _ (byte_line end byte small) (omega (arith, fits)) before after_these number in
         ends_more before number _ _ _ _ _ _ line
-        (breaks_end (end + 1) (omega (arith, fits)) (line.line ∷ before) (number + 1) refusal line.stands (fails_still line.line before refusal fails))
+        (breaks_end (end + 1) (omega (arith, fits)) (line.line ∷ before) (number + 1) refusal line.after_these (fails_still line.line before refusal fails))

@@ -62,7 +62,7 @@ pub record LineBack (at : ℕ) (text : List ℕ) (size : ℕ) (last : Bool) (ans
   pub no_copy : is_word name (codes "COPY") ≡ false
   pub clean : list_all in_line (listed text) ≡ true
   pub statement : Statement
-  pub says : operation_statement name field ≡ Ok statement
+  pub parses : operation_statement name field ≡ Ok statement
   pub own : IsOwn at size last statement
   pub comes : outcome known (absolute_at at) statement ≡ answer
 
@@ -71,14 +71,14 @@ line_back : {at size : ℕ} {last : Bool} {answer : Result Outcome AsmCause} (na
     → Fit name (field_of operands) → (operands ≡ None) ⊎ (0 < length (field_of operands)) → is_word name (codes "COPY") ≡ false
     → operation_statement name (field_of operands) ≡ Ok statement → IsOwn at size last statement → outcome known (absolute_at at) statement ≡ answer
     → LineBack at (with_operands name operands) size last answer
-line_back name operands statement fit some no_copy says own comes = record {
+line_back name operands statement fit some no_copy parses own comes = record {
   name = name;
   field = field_of operands;
   cut = cut_listed name operands fit some;
   no_copy = no_copy;
   clean = listed_in_line name operands fit;
   statement = statement;
-  says = says;
+  parses = parses;
   own = own;
   comes = comes;
 }

@@ -4,7 +4,7 @@ use Rattle.std.proofs.Common.{Ok, Some, None, arith}
 use Rattle.std.specs.Prelude.{Option, map, nat_le, if◌then◌else◌}
 use Rattle.std.specs.List.{AllByRecursion}
 use Rattle.std.proofs.lemmas.Bool.Decides.{nat_tests}
-use Rattle.object_defs.specs.Modules.{Module, StandsEven}
+use Rattle.object_defs.specs.Modules.{Module, IsAtEvenPlace}
 use Rattle.object_defs.specs.Laws.{FitsPiece}
 use Rattle.object_laws.proofs.Written.{written_modules_are_read}
 use Rattle.link_defs.specs.Placing.{sections, first_base, word_at, section_words}
@@ -24,7 +24,7 @@ pieces_fit [] at are below = _
 pieces_fit (word ∷ words) at are below =
     (record { at = omega (arith, below); word = are 0 }, pieces_fit words (at + 2) (λ k. are (suc k)) (omega (arith, below)))
 
-pieces_even : (words : List ℕ) (at : ℕ) → at % 2 ≡ 0 → AllByRecursion StandsEven (pieces_of at words)
+pieces_even : (words : List ℕ) (at : ℕ) → at % 2 ≡ 0 → AllByRecursion IsAtEvenPlace (pieces_of at words)
 pieces_even [] at even = _
 pieces_even (word ∷ words) at even = (even, pieces_even words (at + 2) (omega (arith, even)))
 
@@ -108,10 +108,10 @@ taken_module None found m e = cc e
 taken_module (Some number) found m e = cc e
 
 pub entered_listings_link : EnteredListingsLink
-entered_listings_link at bytes entry m stands inside is =
-    let even = stands.even in
-    let within = stands.within in
+entered_listings_link at bytes entry m after_these inside is =
+    let even = after_these.even in
+    let within = after_these.within in
     let size = padded_size bytes in
-    let same = taken_module _ (module_of_words at (padded_words bytes) (Some entry)) m (sym (entered_listings_come_back at bytes entry stands inside) ∙ is) in
+    let same = taken_module _ (module_of_words at (padded_words bytes) (Some entry)) m (sym (entered_listings_come_back at bytes entry after_these inside) ∙ is) in
     subst (LinksTo at (padded_words bytes) entry) same
-    (modules_of_words_link at (padded_words bytes) entry (padded_fit bytes stands.holds.fits) even (omega (arith, even, within, size)) inside)
+    (modules_of_words_link at (padded_words bytes) entry (padded_fit bytes after_these.holds.fits) even (omega (arith, even, within, size)) inside)

@@ -33,11 +33,11 @@ use Rattle.listed_lines.proofs.OperandLines.{whole, one_text}
 use Rattle.listed_lines.proofs.Scans.{all_both}
 use Rattle.listed_lines.proofs.LineTexts.{plain_byte, number_fit, Cut, Fit, cut_listed, in_line, listed_in_line, joined, lines_joined, clean, clean_lines, text_of}
 use Rattle.word_listings.specs.Modules.{padded_words, module_of_words, wrapping_from, first_wrapping, unless_far}
-use Rattle.word_listings.specs.Law.{StandEven, listed_module, WordListingsComeBack, EnteredListingsComeBack}
+use Rattle.word_listings.specs.Law.{AreFromEvenAddress, listed_module, WordListingsComeBack, EnteredListingsComeBack}
 use Rattle.word_listings.proofs.Slots.{known, word_value}
 use Rattle.word_listings.proofs.Instructions.{AreWords, instr_at-signed}
 use Rattle.word_listings.proofs.LineBacks.{absolute_at, byte_line, end_text, end_line, IsEntry, words_back, LineBack}
-use Rattle.word_listings.proofs.After.{Stands, Holds, Ends, same_place, texts_from, drop_words, goes_from, Closes}
+use Rattle.word_listings.proofs.After.{IsAt, Holds, Ends, same_place, texts_from, drop_words, goes_from, Closes}
 use Rattle.word_listings.proofs.LastLines.{closes_end, breaks_end, closes_byte, breaks_byte, words_held}
 use Rattle.source_defs.specs.Names.{is_word}
 use Rattle.std.specs.Prelude.{ℤ, pos, negsuc, FitsSigned, IfSome, if◌then◌else◌}
@@ -92,8 +92,8 @@ module _ (at : ℕ) (inside : at < 65536) where
       let in_part : nat_le (at + 0) 65536 ≡ true = grind (arith, nat_tests, inside) in
       rw (aorg_cut.fields_are, aorg_cut.name_is, aorg_cut.field_is, aorg_operands) (rw (word_value known (Relocatable 0) at inside, in_part) refl)
 
-  aorg_stands : Stands (aorg_line ∷ []) at
-  aorg_stands = record {
+  aorg_is_at : IsAt (aorg_line ∷ []) at
+  aorg_is_at = record {
     names_are = refl;
     location_is = same_place (at + 0) at (omega arith);
     refs_are = refl;
@@ -113,7 +113,7 @@ module _ (at : ℕ) (inside : at < 65536) where
   from_first : (texts : List (List ℕ)) (answer : Result Module (Refusal AsmCause)) → Ends (aorg_line ∷ []) 2 texts answer → Ends [] 1 (aorg_text ∷ texts) answer
   from_first texts answer ends = record {
     all = ends.all;
-    laid_is = rw aorg_check ends.laid_is;
+    layout_is = rw aorg_check ends.layout_is;
     names_are = ends.names_are;
     module_is = ends.module_is;
   }
@@ -173,7 +173,7 @@ module _ (half : ℕ) (bytes : List ℕ) (entered : Option ℕ) (all : AllBytes 
   all_go tails whole below closes =
       goes_from (2 * half) words tails whole (2 * half + 2 * length words) below closes (length words) words (2 * half) 2 (aorg_line (2 * half) inside ∷ []) (Ok [])
       (omega arith) (omega arith) refl (are_words bytes all)
-      (aorg_stands (2 * half) inside) (_, aorg_holds (2 * half) inside half) (omega arith, refl)
+      (aorg_is_at (2 * half) inside) (_, aorg_holds (2 * half) inside half) (omega arith, refl)
 
   by_rest : Rest bytes → Ends (aorg_line (2 * half) inside ∷ []) 2 texts answer
   by_rest (Even none padded size) =
@@ -182,10 +182,10 @@ module _ (half : ℕ) (bytes : List ℕ) (entered : Option ℕ) (all : AllBytes 
       (subst (λ found. Ends (aorg_line (2 * half) inside ∷ []) 2 (texts_from (length words) (2 * half) words ++ (end_text entered ∷ []))
       (unless_far (first_wrapping 2 (2 * half) words) (module_of_words (2 * half) found entered))) (sym padded)
       (all_go (end_text entered ∷ []) (module_of_words (2 * half) words entered) below
-      (λ before number stands. (
-        λ earlier holds. closes_end entered is_entry (2 * half + 2 * length words) below before earlier number _ stands holds.assembled_are
+      (λ before number after_these. (
+        λ earlier holds. closes_end entered is_entry (2 * half + 2 * length words) below before earlier number _ after_these holds.assembled_are
             (words_held earlier half words holds.hold holds.entry_is (omega (arith, below))),
-        λ refusal fails. breaks_end entered is_entry (2 * half + 2 * length words) below before number refusal stands fails,
+        λ refusal fails. breaks_end entered is_entry (2 * half + 2 * length words) below before number refusal after_these fails,
       ))))
   by_rest (Odd byte lt odd padded size) =
       let below : 2 * half + 2 * length words ≤ 65536 = omega (arith, fits, size) in
@@ -194,9 +194,9 @@ module _ (half : ℕ) (bytes : List ℕ) (entered : Option ℕ) (all : AllBytes 
       (subst (λ found. Ends (aorg_line (2 * half) inside ∷ []) 2 (texts_from (length words) (2 * half) words ++ ((codes "BYTE " ++ hex_byte byte) ∷ end_text entered ∷ []))
       (unless_far (first_wrapping 2 (2 * half) words) (module_of_words (2 * half) found entered))) (sym padded)
       (all_go ((codes "BYTE " ++ hex_byte byte) ∷ end_text entered ∷ []) (module_of_words (2 * half) (words ++ join byte 0 ∷ []) entered) below
-      (λ before number stands. (
-        λ earlier holds. closes_byte entered is_entry (2 * half + 2 * length words) byte more lt half words (omega arith) before earlier number stands holds,
-        λ refusal fails. breaks_byte entered is_entry (2 * half + 2 * length words) byte more lt before number refusal stands fails,
+      (λ before number after_these. (
+        λ earlier holds. closes_byte entered is_entry (2 * half + 2 * length words) byte more lt half words (omega arith) before earlier number after_these holds,
+        λ refusal fails. breaks_byte entered is_entry (2 * half + 2 * length words) byte more lt before number refusal after_these fails,
       ))))
 
   abbrev pub listing_texts : List (List ℕ)
@@ -261,16 +261,16 @@ listing_is at bytes end =
     (rw (map-append listing_line texts (odd_texts bytes ++ end ∷ []))
     (rw (map-append listing_line (odd_texts bytes) (end ∷ [])) refl))
 
-pub after_laid : (all : List Line) (come : Result Module (Refusal AsmCause)) → names all ≡ predefined
+pub after_layout : (all : List Line) (come : Result Module (Refusal AsmCause)) → names all ≡ predefined
     → (assembled_lines (assembled_line predefined) all >>= λ found. Ok (module_by all found)) ≡ come → module_after all ≡ come
-after_laid all come names is =
+after_layout all come names is =
     ap (λ known. assembled_lines (assembled_line known) all >>= λ found. Ok (module_by all found)) names ∙ is
 
 -- the module of a source whose lines are let through to the last
 source_is : (texts : List (List ℕ)) (answer : Result Module (Refusal AsmCause)) → Ends [] 1 texts answer → list_all (λ line. list_all in_line line) (map listed texts) ≡ true
     → module_of_source (joined (map listed texts)) ≡ answer
 source_is texts answer ends clean =
-    rw (lines_joined (map listed texts) clean, ends.laid_is) (after_laid ends.all answer ends.names_are ends.module_is)
+    rw (lines_joined (map listed texts) clean, ends.layout_is) (after_layout ends.all answer ends.names_are ends.module_is)
 
 even_comes_back : (half : ℕ) (bytes : List ℕ) (entered : Option ℕ) → AllBytes bytes → 2 * half < 65536 → 2 * half + length bytes ≤ 65536 → IsEntry entered
     → module_of_source (concat (listing_to (2 * half) bytes (end_text entered))) ≡ listed_module (2 * half) bytes entered
@@ -280,22 +280,22 @@ even_comes_back half bytes entered all inside fits is_entry =
     ∙ source_is (listing_texts half bytes entered all inside fits is_entry) _ (listing_ends half bytes entered all inside fits is_entry)
     (clean_lines (listing_texts half bytes entered all inside fits is_entry) (clean_all half bytes entered all inside fits is_entry)))
 
-comes_back : (at : ℕ) (bytes : List ℕ) (entered : Option ℕ) → StandEven at bytes → IsEntry entered
+comes_back : (at : ℕ) (bytes : List ℕ) (entered : Option ℕ) → AreFromEvenAddress at bytes → IsEntry entered
     → module_of_source (concat (listing_to at bytes (end_text entered))) ≡ listed_module at bytes entered
-comes_back at bytes entered stands is_entry =
-    let even = stands.even in
-    let below = stands.below in
-    let within = stands.within in
+comes_back at bytes entered after_these is_entry =
+    let even = after_these.even in
+    let below = after_these.below in
+    let within = after_these.within in
     let same : 2 * (at / 2) ≡ at = omega (arith, even) in
     subst (λ at. module_of_source (concat (listing_to at bytes (end_text entered))) ≡ listed_module at bytes entered) same
-    (even_comes_back (at / 2) bytes entered stands.holds.fits (omega (arith, even, below)) (omega (arith, even, within)) is_entry)
+    (even_comes_back (at / 2) bytes entered after_these.holds.fits (omega (arith, even, below)) (omega (arith, even, within)) is_entry)
 
 pub word_listings_come_back : WordListingsComeBack
 unfolding memory_listing
-word_listings_come_back at bytes stands = comes_back at bytes None stands tt
+word_listings_come_back at bytes after_these = comes_back at bytes None after_these tt
 
 pub entered_listings_come_back : EnteredListingsComeBack
-entered_listings_come_back at bytes entry stands lt = comes_back at bytes (Some entry) stands lt
+entered_listings_come_back at bytes entry after_these lt = comes_back at bytes (Some entry) after_these lt
 
 -- ---- The lines of a listing stand for themselves: none copies a file, and the last alone ends the source
 
@@ -306,7 +306,7 @@ pub record OwnLine (last : Bool) (text : List ℕ) : Type 0 where
   pub cut : Cut (listed text) name field
   pub no_copy : is_word name (codes "COPY") ≡ false
   pub statement : Statement
-  pub says : operation_statement name field ≡ Ok statement
+  pub parses : operation_statement name field ≡ Ok statement
   pub last_is : is_end statement ≡ last
 
 own_back : (at : ℕ) (text : List ℕ) (size : ℕ) (last : Bool) (answer : Result Outcome AsmCause) → LineBack at text size last answer → OwnLine last text
@@ -316,7 +316,7 @@ own_back at text size last _ back = record {
   cut = back.cut;
   no_copy = back.no_copy;
   statement = back.statement;
-  says = back.says;
+  parses = back.parses;
   last_is = back.own.last_is;
 }
 
@@ -334,7 +334,7 @@ own_origin at inside = record {
   cut = aorg_cut at inside;
   no_copy = refl;
   statement = Aorg (hex_word at);
-  says = rw (aorg_operands at inside) refl;
+  parses = rw (aorg_operands at inside) refl;
   last_is = refl;
 }
 
@@ -398,7 +398,7 @@ none_wraps (suc most) (word ∷ words) number at from to =
 none_wraps _ _ number at from to = refl
 
 pub inner_listings_come_back : InnerListingsComeBack
-inner_listings_come_back at bytes stands from to =
+inner_listings_come_back at bytes after_these from to =
     let fit = words_fit bytes in
-    word_listings_come_back at bytes stands
+    word_listings_come_back at bytes after_these
     ∙ ap (λ far. unless_far far (module_of_words at (padded_words bytes) None)) (none_wraps (length (words_of_bytes bytes)) (words_of_bytes bytes) 2 at from (omega (arith, to, fit)))

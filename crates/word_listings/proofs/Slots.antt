@@ -11,7 +11,7 @@ use Rattle.expression_defs.specs.Expression.{Value, Absolute, expression, negate
 use Rattle.expression_defs.specs.Symbols.{look_up, predefined, registers}
 use Rattle.instruction_defs.specs.Printed.{register_text, operand_text, signed_text}
 use Rattle.line_laws.specs.KnownLines.{look_in}
-use Rattle.line_laws.proofs.Whole.{registers_stand}
+use Rattle.line_laws.proofs.Whole.{registers_look_up}
 use Rattle.listed_lines.proofs.DigitLaws.{eqb_same, word_tokens, byte_tokens, word_passes, none_closed}
 use Rattle.std.proofs.Common.{zero, suc, ◌+◌, ◌-◌, ◌*◌, ◌/◌, ◌%◌, not, []}
 use Rattle.std.proofs.Common.{◌++◌, length, length-append, get_or, Some, None}
@@ -85,7 +85,7 @@ module _ (look : List ℕ → Option Value) (here : Value) where
 pub register_value : (here : Value) (n : ℕ) → n < 16 → expression known here (register_text n) ≡ Ok (Absolute n)
 unfolding token_at tokens_from digits registers
 register_value here n lt =
-    ap (λ look. expression look here (register_text n)) (fun_ext registers_stand)
+    ap (λ look. expression look here (register_text n)) (fun_ext registers_look_up)
     ∙ is_value _ n
     (agree_below_at (λ n. comes_to (expression (look_in registers) here (register_text n)) n) (λ n. true) 16 n refl lt)
 

@@ -14,7 +14,7 @@ use Rattle.word_listings.specs.Modules.{padded_words, module_of_words, first_wra
 use Rattle.tms_defs.specs.Words.{words_of_bytes}
 
 -- bytes that stand from an even address on, within memory
-pub record StandEven (at : ℕ) (bytes : List ℕ) : Type 0 where
+pub record AreFromEvenAddress (at : ℕ) (bytes : List ℕ) : Type 0 where
   pub holds : HoldsBytes (length bytes) bytes
   pub even : at % 2 ≡ 0
   pub below : at < 65536
@@ -31,14 +31,14 @@ listed_module at bytes entry =
 -- is one.
 abbrev pub WordListingsComeBack : Type 0
 WordListingsComeBack =
-    (at : ℕ) (bytes : List ℕ) → StandEven at bytes
+    (at : ℕ) (bytes : List ℕ) → AreFromEvenAddress at bytes
     → module_of_source (concat (memory_listing at bytes)) ≡ listed_module at bytes None
 
 -- The law, which is proved: so the listing of bytes that stand far enough from the ends of memory is never refused. A
 -- jump leads at most 254 bytes below its own address, and 256 above.
 abbrev pub InnerListingsComeBack : Type 0
 InnerListingsComeBack =
-    (at : ℕ) (bytes : List ℕ) → StandEven at bytes → 0x00FE ≤ at → at + length bytes ≤ 0xFF01
+    (at : ℕ) (bytes : List ℕ) → AreFromEvenAddress at bytes → 0x00FE ≤ at → at + length bytes ≤ 0xFF01
     → module_of_source (concat (memory_listing at bytes)) ≡ Ok (module_of_words at (padded_words bytes) None)
 
 -- the listing with an entry after END
@@ -52,12 +52,12 @@ entered_listing at bytes entry =
 -- otherwise.
 abbrev pub EnteredListingsComeBack : Type 0
 EnteredListingsComeBack =
-    (at : ℕ) (bytes : List ℕ) (entry : ℕ) → StandEven at bytes → entry < 65536
+    (at : ℕ) (bytes : List ℕ) (entry : ℕ) → AreFromEvenAddress at bytes → entry < 65536
     → module_of_source (concat (entered_listing at bytes entry)) ≡ listed_module at bytes (Some entry)
 
 -- The law, which is proved: a listing has at most 26 bytes for each word, which is a rough bound, and 45 for its other
 -- lines: AORG, BYTE of a last odd byte, and END.
 abbrev pub WordListingsAreShort : Type 0
 WordListingsAreShort =
-    (at : ℕ) (bytes : List ℕ) → StandEven at bytes
+    (at : ℕ) (bytes : List ℕ) → AreFromEvenAddress at bytes
     → length (concat (memory_listing at bytes)) ≤ 26 * length (words_of_bytes bytes) + 45

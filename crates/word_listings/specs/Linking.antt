@@ -11,7 +11,7 @@ use Rattle.link_defs.specs.Causes.{LinkCause, OutOfMemoryRange}
 use Rattle.link_defs.specs.LinkedMemory.{LinkedMemory, is_loadable, linked}
 use Rattle.asm_defs.specs.Modules.{module_of_source}
 use Rattle.word_listings.specs.Modules.{padded_words, module_of_words}
-use Rattle.word_listings.specs.Law.{StandEven, entered_listing}
+use Rattle.word_listings.specs.Law.{AreFromEvenAddress, entered_listing}
 
 -- the first of the addresses of words, from an address on, at which nothing is loaded
 abbrev pub first_outside : ℕ → List ℕ → Option ℕ
@@ -53,6 +53,6 @@ ModulesOfWordsLink =
 -- module is linked to the words of these bytes and to nothing else, with that entry; or it is refused as above.
 abbrev pub EnteredListingsLink : Type 0
 EnteredListingsLink =
-    (at : ℕ) (bytes : List ℕ) (entry : ℕ) (m : Module) → StandEven at bytes → entry < 65536
+    (at : ℕ) (bytes : List ℕ) (entry : ℕ) (m : Module) → AreFromEvenAddress at bytes → entry < 65536
     → module_of_source (concat (entered_listing at bytes entry)) ≡ Ok m
     → LinksTo at (padded_words bytes) entry m

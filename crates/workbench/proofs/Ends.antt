@@ -31,7 +31,7 @@ use Rattle.bench_shelf.specs.States.{ShelfState}
 use Rattle.file_commands.specs.Reported.{CopyReported, CopyFails}
 use Rattle.reports.specs.Outputs.{Outputs}
 use Rattle.reports.specs.Answers.{Ends, WantsMemory, Reported}
-use Rattle.reports.specs.Run.{Run, EndsSaid}
+use Rattle.reports.specs.Run.{Run, EndsParsed}
 use Rattle.reports.proofs.Runs.{by_report}
 use Rattle.reports.proofs.NoUsage.{IsNoUsage, same_no_usage, program_no_usage, large_no_usage, source_no_usage}
 use Rattle.bench_commands.specs.InputRun.{TookWithin}
@@ -81,28 +81,28 @@ no_usage (Watch limit items) before after report (source, reading, same, on) =
 -- a run ends by what its command answers
 pub ends_over : (command : FileCommand) (run : Run ProgramCommand Inputs) (answer : Result Report Status) (end : Status)
     → AnswersWith command run.before run.after answer → Ends run.outputs answer end
-    → EndsSaid file_program (Some (OverFiles command)) run end
+    → EndsParsed file_program (Some (OverFiles command)) run end
 ends_over command run (Ok report) end is ends =
     by_report file_program (OverFiles command) run report end is (no_usage command run.before run.after report is) ends
 ends_over command run (Err status.ReadFault) end (leaves, failed) (is, out, err) =
-    subst (EndsSaid file_program (Some (OverFiles command)) run) (sym is)
+    subst (EndsParsed file_program (Some (OverFiles command)) run) (sym is)
     (record { leaves = leaves; out = out; err = err }, failed)
 ends_over command run (Err status.Memory) end leaves (is, out, err) =
-    subst (EndsSaid file_program (Some (OverFiles command)) run) (sym is)
+    subst (EndsParsed file_program (Some (OverFiles command)) run) (sym is)
     (record { leaves = leaves; out = out; err = err })
 ends_over command run (Err _) end fails ends = absurd fails
 
 -- what holds of what the words say holds of the command that was read of them
-pub ends_said : (before after : Inputs) (o : Outputs) (end : Status) (said words : Option ProgramCommand) → said ≡ words
-    → EndsSaid file_program said (record { said = said; before = before; after = after; outputs = o }) end
-    → EndsSaid file_program words (record { said = words; before = before; after = after; outputs = o }) end
-ends_said before after o end said words same ends = rw (sym same) ends
+pub ends_parsed : (before after : Inputs) (o : Outputs) (end : Status) (parsed words : Option ProgramCommand) → parsed ≡ words
+    → EndsParsed file_program parsed (record { parsed = parsed; before = before; after = after; outputs = o }) end
+    → EndsParsed file_program words (record { parsed = words; before = before; after = after; outputs = o }) end
+ends_parsed before after o end parsed words same ends = rw (sym same) ends
 
 -- a command of `bench` leaves the shelf as it was
 pub ends_plain : (command : Command) (shelf : ShelfState) (input input' : SourceState) (o : Outputs) (end : Status)
-    → EndsSaid bench_program (Some command) (record { said = Some command; before = input; after = input'; outputs = o }) end
-    → EndsSaid file_program (Some (Plain command)) (record {
-      said = Some (Plain command);
+    → EndsParsed bench_program (Some command) (record { parsed = Some command; before = input; after = input'; outputs = o }) end
+    → EndsParsed file_program (Some (Plain command)) (record {
+      parsed = Some (Plain command);
       before = record { input = input; shelf = shelf };
       after = record { input = input'; shelf = shelf };
       outputs = o;

@@ -10,7 +10,7 @@ use Rattle.report_defs.specs.declared.status.Status.TheVariants as status
 use Rattle.report_defs.specs.Report.{Report, Faulty, largest_input}
 use Rattle.report_defs.specs.ProgramCommands.{AsmFiles, LinkFiles, Watch, ProgramCommand, OverFiles, Plain}
 use Rattle.file_commands.specs.Reported.{CopyReported}
-use Rattle.reports.specs.Run.{Run, EndsSaid, EndsBy}
+use Rattle.reports.specs.Run.{Run, EndsParsed, EndsBy}
 use Rattle.file_commands.specs.Inputs.{Inputs}
 use Rattle.workbench.specs.FileProgram.{Reports, Begins, Leaves, file_program, TakesOfShelf}
 
@@ -51,18 +51,18 @@ leaving (OverFiles (LinkFiles names)) before after (input, within, questions, di
 leaving (OverFiles (Watch limit items)) before after (input, same) = same
 leaving (Plain command) before after (input, same) = same
 
-takes_said : (said : Option ProgramCommand) (run : Run ProgramCommand Inputs) (end : Status)
-    → EndsSaid file_program said run end → TakesOfShelf said run.before.shelf run.after.shelf
-takes_said None run end ends = ap (λ (r : Inputs). r.shelf) ends.unread
-takes_said (Some command) run status.Done (report, is, wrote) = reporting command run.before run.after report is
-takes_said (Some command) run status.Refused (report, is, wrote) = reporting command run.before run.after report is
-takes_said (Some command) run status.Usage ends = absurd ends
-takes_said (Some command) run status.ReadFault (nothing, failed) = leaving command run.before run.after nothing.leaves
-takes_said (Some command) run status.WriteFault (inl (report, is, wrote)) = reporting command run.before run.after report is
-takes_said (Some command) run status.WriteFault (inr (front, is, missed)) = beginning command run.before run.after front is
-takes_said (Some command) run status.Memory nothing = leaving command run.before run.after nothing.leaves
-takes_said (Some command) run status.Stopped (report, is, wrote) = reporting command run.before run.after report is
+takes_parsed : (parsed : Option ProgramCommand) (run : Run ProgramCommand Inputs) (end : Status)
+    → EndsParsed file_program parsed run end → TakesOfShelf parsed run.before.shelf run.after.shelf
+takes_parsed None run end ends = ap (λ (r : Inputs). r.shelf) ends.unread
+takes_parsed (Some command) run status.Done (report, is, wrote) = reporting command run.before run.after report is
+takes_parsed (Some command) run status.Refused (report, is, wrote) = reporting command run.before run.after report is
+takes_parsed (Some command) run status.Usage ends = absurd ends
+takes_parsed (Some command) run status.ReadFault (nothing, failed) = leaving command run.before run.after nothing.leaves
+takes_parsed (Some command) run status.WriteFault (inl (report, is, wrote)) = reporting command run.before run.after report is
+takes_parsed (Some command) run status.WriteFault (inr (front, is, missed)) = beginning command run.before run.after front is
+takes_parsed (Some command) run status.Memory nothing = leaving command run.before run.after nothing.leaves
+takes_parsed (Some command) run status.Stopped (report, is, wrote) = reporting command run.before run.after report is
 
 pub takes_of_shelf : (run : Run ProgramCommand Inputs) (end : Status) → EndsBy file_program run end
-    → TakesOfShelf run.said run.before.shelf run.after.shelf
-takes_of_shelf run end ends = takes_said run.said run end ends
+    → TakesOfShelf run.parsed run.before.shelf run.after.shelf
+takes_of_shelf run end ends = takes_parsed run.parsed run end ends

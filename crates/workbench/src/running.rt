@@ -14,7 +14,7 @@ use bench_io::{Sink, Source};
 use bench_shelf::Shelf;
 use command_words::Words;
 use report_defs::Status;
-use reports::{finish, tell};
+use reports::{finish, end_with_line};
 use std::alloc::Global;
 
 /// Runs the command that the words say. `asm` reads the source from `input` and the files that it copies from `shelf`;
@@ -37,7 +37,7 @@ pub fn bench_with<S: Source, F: Shelf, O: Sink, E: Sink>(
 ) -> Status
     ensures laws { LawsOfFileRuns }
     ensures ends { EndsBy file_program (record {
-      said = program_command words.now;
+      parsed = program_command words.now;
       before = record { input = S.state input.old; shelf = F.shelf shelf.old };
       after = record { input = S.state input.new; shelf = F.shelf shelf.new };
       outputs = record {
@@ -55,6 +55,6 @@ pub fn bench_with<S: Source, F: Shelf, O: Sink, E: Sink>(
             finish(&report_over(alloc, &command, input, shelf), out, err)
         }
         Some(ProgramCommand::Plain(command)) => run_command(alloc, command, input, out, err),
-        None => tell(usage(), Status::Usage, err),
+        None => end_with_line(usage(), Status::Usage, err),
     }
 }

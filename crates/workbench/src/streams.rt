@@ -32,7 +32,7 @@ pub fn bench_over<F: Shelf, R: Read + Drop, W: Write + Drop, E: Write + Drop>(
 ) -> (Status, StdSource<R>, StdSink<W>, StdSink<E>)
     ensures laws { LawsOfFileRuns }
     ensures ends { EndsOver (λ before after outputs end. EndsBy file_program (record {
-      said = program_command words.now;
+      parsed = program_command words.now;
       before = record { input = before; shelf = F.shelf shelf.old };
       after = record { input = after; shelf = F.shelf shelf.new };
       outputs = outputs;
@@ -63,7 +63,7 @@ pub fn bench_through<F: Shelf, R: Read + Drop, W: Write + Drop, E: Write + Drop>
 ) -> (Status, StdSource<R>, StdSink<W>, StdSink<E>)
     ensures laws { LawsOfFileRuns }
     ensures ends { EndsThrough (λ before after outputs end. EndsBy file_program (record {
-      said = program_command words.now;
+      parsed = program_command words.now;
       before = record { input = before; shelf = F.shelf shelf.old };
       after = record { input = after; shelf = F.shelf shelf.new };
       outputs = outputs;

@@ -2,7 +2,7 @@ use Rattle.std.proofs.Common.{◌≡◌, ◌+◌, ℕ, List, [], ◌∷◌, Ok, 
 use Rattle.source_defs.specs.declared.text.Line.{Line as TextLine}
 use Rattle.source_defs.specs.Refusals.{◌>>=◌}
 use Rattle.source_defs.specs.Lines.{LinesLieInside, line_texts}
-use Rattle.expression_defs.specs.Layout.{laid, laid_after}
+use Rattle.expression_defs.specs.Layout.{line_layout, layout_after}
 use Rattle.asm_defs.specs.Locations.{Line}
 use Rattle.asm_defs.specs.FirstChecks.{check}
 use Rattle.asm_defs.specs.Modules.{module_after}
@@ -21,7 +21,7 @@ use Rattle.asm_core.proofs.source.assemble.Goals.{in-None, in-Some+in_ok-take+th
 pub loop-line-init : goal.loop-line-init
 loop-line-init c =
     let none = c.new-builder.ensures.none in
-    let empty : [] ≡ none.lines = cc none.laid in
+    let empty : [] ≡ none.lines = cc none.line_layout in
     let text = c.args.text.now in
     let all = c.into_iter-line-iterator.ensures.into_iter_gives ∙ c.lines-line-items.ensures.all in (
       [],
@@ -29,12 +29,12 @@ loop-line-init c =
       c.new-builder.ensures.open,
       subst (LinesLieInside text) (sym c.into_iter-line-iterator.ensures.into_iter_gives) c.lines-line-items.ensures.inside,
       subst (IsNumbered 1) (sym all) (lines_numbered text),
-      ap (λ lines. laid_after check [] (texts_of text lines)) all,
+      ap (λ lines. layout_after check [] (texts_of text lines)) all,
     )
 
 -- the lines that are left, from their first on
 abbrev left_from : List ℕ → List Line → List TextLine → Result (List Line) (Refusal AsmCause)
-left_from text before lines = laid_after check before (texts_of text lines)
+left_from text before lines = layout_after check before (texts_of text lines)
 
 pub loop-line-preserved : goal.loop-line-preserved
 loop-line-preserved c =
@@ -81,7 +81,7 @@ returns c =
     let before = i.0 in
     elim c.match-next.branch [
       | in-None w ↦
-          let whole : Ok before ≡ laid check (line_texts text) = ap (left_from text before) (sym w.in-None.ensures.steps.0) ∙ i.5 in
+          let whole : Ok before ≡ line_layout check (line_texts text) = ap (left_from text before) (sym w.in-None.ensures.steps.0) ∙ i.5 in
           subst (GivesModule c.module.result) (ap (λ answer. answer >>= module_after) whole)
           (c.module.ensures.gives before (subst (IsAfter before) (sym w.builder-is) i.1))
       | in-Some+in_ok-take+then-builder w ↦
@@ -92,7 +92,7 @@ returns c =
           let taken = (rw w.split_line.ensures at (w.in_ok-take.ensures before i.1)) in
           let last =
           first_of_two taken.0.last (has_ended before) (sym taken.2.ended ∙ w.if-builder.true) (sym i.1.ended ∙ i.2) in
-          let whole : Ok (taken.0 ∷ before) ≡ laid check (line_texts text) =
+          let whole : Ok (taken.0 ∷ before) ≡ line_layout check (line_texts text) =
           sym (ends_there text before line next numbered.0 taken.0 taken.1 last) ∙ (ap (left_from text before) (sym steps) ∙ i.5) in
           subst (GivesModule c.module.result) (ap (λ answer. answer >>= module_after) whole)
           (c.module.ensures.gives (taken.0 ∷ before) (subst (IsAfter (taken.0 ∷ before)) (sym w.builder-is) taken.2))

@@ -5,7 +5,7 @@ use Rattle.report_defs.specs.ProgramCommands.{program_command}
 use Rattle.report_defs.specs.declared.status.Status.{Status}
 use Rattle.report_defs.specs.declared.status.Status.TheVariants.{Done, Refused, Stopped}
 use Rattle.reports.specs.Streams.{EndsThrough, IsWhole}
-use Rattle.reports.proofs.Streams.{said_ending, vectors_hold_the_report}
+use Rattle.reports.proofs.Streams.{parsed_ending, vectors_hold_the_report}
 use Rattle.file_commands.specs.Inputs.{Inputs}
 use Rattle.workbench.specs.FileProgram.{file_program}
 use Rattle.bench_tests.proofs.streams.over_bytes.Goals as goal
@@ -21,7 +21,7 @@ returns-in-Done g c =
     let leave : SourceState → Inputs = λ s. record { input = s; shelf = g.F.Shelf.shelf c.bench_through-status.new.shelf }
     in
     let Ends : List ℕ → Type 0 = λ bytes. EndsThrough
-    (said_ending file_program (program_command c.args.words.now) enter leave)
+    (parsed_ending file_program (program_command c.args.words.now) enter leave)
     (record {
       left = Some c.args.bytes.now;
       out = Some (c.in-Ok.output.inner.items ++ writer_buffer c.in-Ok.output);

@@ -31,12 +31,12 @@ returns-in-Some g c =
       out = g.O.Sink.state c.args.out.now;
       out' = g.O.Sink.state c.write.new.out;
       err = g.E.Sink.state c.args.err.now;
-      err' = g.E.Sink.state c.tell.new.err;
+      err' = g.E.Sink.state c.end_with_line.new.err;
     } in
     let wrote = rows_written c.write.result o lines (sym c.is_err.ensures.value ∙ c.if-is_err.false) c.write.ensures in
-    let reported = rw (c.as_slice.ensures.value, c.gpl_line.ensures) at c.tell.ensures in
-    subst (λ (refused : Result Unit (Refusal GplCause)). EndsWith o (report_by lines refused) c.tell.result) c.in-Some.ensures
-    (line_written o lines (gpl_line (model_of_refusal c.in-Some.refused)) c.tell.result wrote reported)
+    let reported = rw (c.as_slice.ensures.value, c.gpl_line.ensures) at c.end_with_line.ensures in
+    subst (λ (refused : Result Unit (Refusal GplCause)). EndsWith o (report_by lines refused) c.end_with_line.result) c.in-Some.ensures
+    (line_written o lines (gpl_line (model_of_refusal c.in-Some.refused)) c.end_with_line.result wrote reported)
 
 pub returns-in-None : goal.returns-in-None
 returns-in-None g c =

@@ -3,7 +3,7 @@ use Rattle.asm_core.specs.Building.{HasAccepted}
 use Rattle.asm_core.specs.Finishing.{RefusesAt}
 use Rattle.asm_defs.specs.FirstChecks.{check}
 use Rattle.source_defs.specs.Lines.{numbered}
-use Rattle.expression_defs.specs.Layout.{laid}
+use Rattle.expression_defs.specs.Layout.{line_layout}
 use Rattle.line_table.proofs.Joined.{source_gives_words}
 use Rattle.gpl_run.proofs.FurtherLines.{goes_on, stays_ended, refused}
 use Rattle.gpl_run.proofs.assembling.take_line.Goals as goal
@@ -16,7 +16,7 @@ returns-then-is_ended c rest has =
 pub unreachable-requires : goal.unreachable-requires
 unreachable-requires c =
     let has = c.requires.1 in
-    let there = subst (λ text. RefusesAt c.in-Err-At.field-0 (laid check (numbered 1 (has.texts ++ text ∷ [])))) c.as_bytes.ensures.value
+    let there = subst (λ text. RefusesAt c.in-Err-At.field-0 (line_layout check (numbered 1 (has.texts ++ text ∷ [])))) c.as_bytes.ensures.value
     (c.in-Err-At.ensures.texts has.texts has.taken).0 in
     let refuses = refused c.requires.0 c.args.line.now c.args.builder.now has c.in-Err-At.field-0 there in
     let assembled = source_gives_words.1.links.assembled in

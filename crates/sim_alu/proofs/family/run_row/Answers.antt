@@ -19,7 +19,7 @@ returns-then-pc-eq-STO g c =
     let y = c.make_result.new.machine in
     let at : y.cpu.pc ≡ STO = let a = c.pc.ensures.value in let b = c.if-pc-eq-STO.true in omega arith in
     StoredResults.by_sto c.args.operation x y c.finish_row.new.machine c.args.steps.now c.make_result.new.steps c.finish_row.new.steps c.requires.family
-    (row_entry (Some c.args.operation)) c.requires.stands
+    (row_entry (Some c.args.operation)) c.requires.is_at
     c.make_result.ensures at c.finish_row.ensures
 
 pub returns-else-pc-eq-STO : goal.returns-else-pc-eq-STO
@@ -28,5 +28,5 @@ returns-else-pc-eq-STO g c =
     let y = c.make_result.new.machine in
     let away : y.cpu.pc ≡ STO → ⊥ = λ here. let a = c.pc.ensures.value in let b = c.if-pc-eq-STO.false in absurd (omega arith) in
     StoredResults.by_store c.args.operation x y c.finish_with_status.new.machine c.args.steps.now c.make_result.new.steps c.finish_with_status.new.steps
-    c.requires.family (row_entry (Some c.args.operation)) c.requires.stands
+    c.requires.family (row_entry (Some c.args.operation)) c.requires.is_at
     c.make_result.ensures away c.finish_with_status.ensures

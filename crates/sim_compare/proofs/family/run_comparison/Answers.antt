@@ -7,4 +7,4 @@ end_comparison-requires g c = Comparisons.comparison_decided c.args.operation c.
 
 pub returns : goal.returns
 returns g c =
-    Comparisons.runs c.args.operation c.requires.family (is_view c.args.machine.now c.requires.stands.machine) c.compare_operands.ensures c.end_comparison.ensures
+    Comparisons.runs c.args.operation c.requires.family (is_view c.args.machine.now c.requires.is_at.machine) c.compare_operands.ensures c.end_comparison.ensures

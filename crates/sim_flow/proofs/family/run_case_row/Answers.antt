@@ -1,5 +1,5 @@
 use Rattle.std.proofs.Common.{arith, Some, subst, sym}
-use Rattle.sim_rows.proofs.Common.{GplOperation, most_of_case_row, row_entry, RunsRow, Stands}
+use Rattle.sim_rows.proofs.Common.{GplOperation, most_of_case_row, row_entry, RunsRow, IsAt}
 use Rattle.sim_rows.proofs.Family.{at_row, entry, stopped, turned}
 use Rattle.sim_flow.proofs.Dispatch.{case_alone, rows}
 use Rattle.sim_flow.proofs.family.run_case_row.Goals as goal
@@ -13,7 +13,7 @@ returns-in_default g c = stopped rows c.requires c.in_default.is c.start_row.ens
 pub run_case-requires : goal.run_case-requires
 run_case-requires g c =
     let at = entry rows c.requires c.in-Some.is c.start_row.ensures in
-    subst (λ (op : GplOperation). Stands c.start_row.new.machine (row_entry (Some op))) (case_alone _ at.family) at.stands
+    subst (λ (op : GplOperation). IsAt c.start_row.new.machine (row_entry (Some op))) (case_alone _ at.family) at.is_at
 
 pub returns : goal.returns
 returns g c =

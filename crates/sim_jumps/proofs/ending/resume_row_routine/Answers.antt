@@ -5,7 +5,7 @@ use Rattle.sim_jumps.specs.Routines.{resume_row}
 use Rattle.sim_jumps.proofs.ending.resume_row_routine.Goals as goal
 
 pub end_row_routine-requires : goal.end_row_routine-requires
-end_row_routine-requires g c = c.resume.ensures.stands
+end_row_routine-requires g c = c.resume.ensures.is_at
 
 pub returns : goal.returns
 unfolding resume_row

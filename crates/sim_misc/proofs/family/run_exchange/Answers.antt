@@ -10,7 +10,7 @@ turn_to_source-requires g c =
     let x = c.args.machine.now in
     let y = c.keep_destination.new.machine in
     let z = c.run_store.new.machine in
-    Exchanges.stands_stored x y z c.args.steps.now c.keep_destination.new.steps c.run_store.new.steps c.keep_destination.ensures c.requires.entry.space
+    Exchanges.at_stored x y z c.args.steps.now c.keep_destination.new.steps c.run_store.new.steps c.keep_destination.ensures c.requires.entry.space
     c.run_store.ensures.value
 
 pub finish_row-requires-clause-idle : goal.finish_row-requires-clause-idle
@@ -29,4 +29,4 @@ pub returns : goal.returns
 returns g c =
     λ s place source known a is.
     Exchanges.exchanges c.keep_destination.ensures c.requires.entry.space c.run_store.ensures.value c.turn_to_source.ensures
-    s place source known a is c.requires.entry.stands.machine c.finish_row.new.machine c.finish_row.new.steps c.finish_row.ensures
+    s place source known a is c.requires.entry.is_at.machine c.finish_row.new.machine c.finish_row.new.steps c.finish_row.ensures

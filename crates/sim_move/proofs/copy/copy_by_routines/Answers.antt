@@ -11,7 +11,7 @@ run_load-requires-clause-visible g c = Routines.visible_asked c.requires.at c.re
 pub store_byte-requires : goal.store_byte-requires
 store_byte-requires g c =
     let l = c.run_load.ensures in
-    Routines.stands_read c.requires.at c.requires.left c.next_byte.ensures l.value l.stream
+    Routines.at_read c.requires.at c.requires.left c.next_byte.ensures l.value l.stream
 
 pub run_store-requires-clause-idle : goal.run_store-requires-clause-idle
 run_store-requires-clause-idle g c =
@@ -28,14 +28,14 @@ count_byte-requires g c =
     let l = c.run_load.ensures in
     let s = c.run_store.ensures in
     let q = c.requires in
-    Routines.stands_stored q.at q.left c.next_byte.ensures l.value l.stream c.store_byte.ensures s.register
+    Routines.at_stored q.at q.left c.next_byte.ensures l.value l.stream c.store_byte.ensures s.register
 
 pub returns : goal.returns
 returns g c =
     let q = c.requires in
     let l = c.run_load.ensures in
     let s = c.run_store.ensures in
-    CopiedBytes.copies q.at q.stands.pc q.left
+    CopiedBytes.copies q.at q.is_at.pc q.left
     (Routines.goes q.at q.left c.next_byte.ensures l.value l.stream c.store_byte.ensures s.register
     c.count_byte.ensures)
     (Routines.place_is q.at q.left c.next_byte.ensures l.value l.stream c.store_byte.ensures s.register

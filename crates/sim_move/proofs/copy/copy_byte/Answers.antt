@@ -1,6 +1,6 @@
 use Rattle.std.proofs.Common.{◌≡◌, arith}
 use Rattle.sim_move.proofs.CopyPaths
-use Rattle.sim_move.specs.SimCopyPieces.{CellsToCells, CellsToVideo, GromToCells, GromToVideo, VideoToCells, VideoToVideo}
+use Rattle.sim_move.specs.CopyPieces.{CellsToCells, CellsToVideo, GromToCells, GromToVideo, VideoToCells, VideoToVideo}
 use Rattle.sim_move.proofs.copy.copy_byte.Goals as goal
 use Rattle.sim_rows.specs.native_interp.declared.addresses.TheConstants.{COPYCC, COPYCV, COPYGC, COPYGV, COPYVC, COPYVV}
 

@@ -4,7 +4,7 @@ use Rattle.sim_move.proofs.CopyEnds
 use Rattle.sim_move.proofs.copy.end_copy.Goals as goal
 
 pub leave_copy-requires : goal.leave_copy-requires
-leave_copy-requires g c = CopyEnds.stands_ended c.requires.at c.requires.none_left
+leave_copy-requires g c = CopyEnds.ended_at c.requires.at c.requires.none_left
 
 pub end_row-requires-clause-idle : goal.end_row-requires-clause-idle
 end_row-requires-clause-idle g c = CopyEnds.idle_ended c.requires.at c.leave_copy.ensures

@@ -1,6 +1,6 @@
 use Rattle.std.proofs.Common.{refl}
 use Rattle.sim_rows.proofs.sim_operands.Ends.{goes_at, stays}
-use Rattle.sim_move.specs.SimCopyPieces.{set_source, set_target}
+use Rattle.sim_move.specs.CopyPieces.{set_source, set_target}
 use Rattle.sim_move.proofs.copy.start_copy.Goals as goal
 use Rattle.sim_rows.specs.native_interp.declared.addresses.TheConstants.{SETR, SETW}
 

@@ -5,7 +5,7 @@ use Rattle.sim_move.proofs.length.load_placed.Goals as goal
 pub load_count-requires-clause-visible : goal.load_count-requires-clause-visible
 load_count-requires-clause-visible g c =
     let here = on c.pc.ensures.value c.if-pc-eq-MOVEN.true in
-    let image = (is_view c.args.machine.now c.requires.stands.machine).grom.image in
+    let image = (is_view c.args.machine.now c.requires.is_at.machine).grom.image in
     shown CanLoad c.address_routine.ensures (word_found _ c.requires.ready image c.requires.word
     (not_at GSTOP c.address_routine.ensures (λ e. let n = sym here ∙ e in absurd (omega arith))))
 

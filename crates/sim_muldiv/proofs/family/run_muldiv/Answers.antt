@@ -16,7 +16,7 @@ run_row-requires g c =
     let e = entry rows c.requires c.in-Some.is c.start_row.ensures in
     let b = begun rows c.requires c.in-Some.is c.start_row.ensures in
     record {
-      stands = e.stands;
+      is_at = e.is_at;
       family = e.family;
       ready = ready (state_at_dispatch (view c.args.machine.now)) b.place b.source
           (view c.start_row.new.machine) c.requires.family b.comes.holds b.is_both;
@@ -26,4 +26,4 @@ pub returns : goal.returns
 returns g c =
     let e = entry rows c.requires c.in-Some.is c.start_row.ensures in
     turned rows c.requires c.in-Some.is c.start_row.ensures 91 (omega arith)
-    (runs_row e.stands.machine _ e.family c.run_row.ensures)
+    (runs_row e.is_at.machine _ e.family c.run_row.ensures)

@@ -2,8 +2,8 @@ use Rattle.sim_muldiv.proofs.Common.{view, byte_product, CanStore, exit_then, fi
 use Rattle.sim_muldiv.proofs.Common.{word_visible}
 use Rattle.sim_muldiv.proofs.product.run_byte_product.Goals as goal
 
-pub finish_row_routine-requires-clause-stands : goal.finish_row_routine-requires-clause-stands
-finish_row_routine-requires-clause-stands g c = (multiplied_bytes c.requires.byte c.multiply.ensures).stands
+pub finish_row_routine-requires-clause-is_at : goal.finish_row_routine-requires-clause-is_at
+finish_row_routine-requires-clause-is_at g c = (multiplied_bytes c.requires.byte c.multiply.ensures).is_at
 
 pub finish_row_routine-requires-clause-visible : goal.finish_row_routine-requires-clause-visible
 finish_row_routine-requires-clause-visible g c =

@@ -2,8 +2,8 @@ use Rattle.sim_muldiv.proofs.Common.{view, CanStore, exit_then, finish_row, firs
 use Rattle.sim_muldiv.proofs.Common.{low_product, refl, second_visible, shown, store, word_product}
 use Rattle.sim_muldiv.proofs.product.run_word_product.Goals as goal
 
-pub store_routine-requires-clause-stands : goal.store_routine-requires-clause-stands
-store_routine-requires-clause-stands g c = (multiplied_words c.requires.word c.multiply.ensures).stands
+pub store_routine-requires-clause-is_at : goal.store_routine-requires-clause-is_at
+store_routine-requires-clause-is_at g c = (multiplied_words c.requires.word c.multiply.ensures).is_at
 
 pub store_routine-requires-clause-visible : goal.store_routine-requires-clause-visible
 store_routine-requires-clause-visible g c =
@@ -12,7 +12,7 @@ store_routine-requires-clause-visible g c =
 
 pub low_product-requires : goal.low_product-requires
 low_product-requires g c = (exit_then store
-    (multiplied_words c.requires.word c.multiply.ensures) refl c.store_routine.ensures).stands
+    (multiplied_words c.requires.word c.multiply.ensures) refl c.store_routine.ensures).is_at
 
 pub finish_row_routine-requires-clause-visible : goal.finish_row_routine-requires-clause-visible
 finish_row_routine-requires-clause-visible g c =

@@ -5,7 +5,7 @@ pub store_routine-requires-clause-visible : goal.store_routine-requires-clause-v
 store_routine-requires-clause-visible g c = shown CanStore c.store_last.ensures c.requires.visible
 
 pub clear_overflow-requires : goal.clear_overflow-requires
-clear_overflow-requires g c = (exit_then store c.store_last.ensures refl c.store_routine.ensures).stands
+clear_overflow-requires g c = (exit_then store c.store_last.ensures refl c.store_routine.ensures).is_at
 
 pub returns : goal.returns
 unfolding end_division

@@ -7,8 +7,8 @@ load_routine-requires-clause-visible g c =
     shown CanLoad c.load_low_word.ensures
     (second_visible (view c.args.machine.now) c.requires.word c.requires.visible)
 
-pub divide_words-requires-clause-stands : goal.divide_words-requires-clause-stands
-divide_words-requires-clause-stands g c = (exit_then load c.load_low_word.ensures refl c.load_routine.ensures).stands
+pub divide_words-requires-clause-is_at : goal.divide_words-requires-clause-is_at
+divide_words-requires-clause-is_at g c = (exit_then load c.load_low_word.ensures refl c.load_routine.ensures).is_at
 
 pub divide_words-requires-clause-fits : goal.divide_words-requires-clause-fits
 divide_words-requires-clause-fits g c =

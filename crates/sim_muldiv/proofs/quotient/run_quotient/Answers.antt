@@ -7,13 +7,13 @@ use Rattle.sim_muldiv.proofs.quotient.run_quotient.Goals as goal
 
 pub set_overflow-requires : goal.set_overflow-requires
 set_overflow-requires g c = (Ways.over _ _ _
-    (on c.pc.ensures.value c.if-pc-eq-OVER.true) c.compare_divisor.ensures).1.stands
+    (on c.pc.ensures.value c.if-pc-eq-OVER.true) c.compare_divisor.ensures).1.is_at
 
 pub run_byte_quotient-requires : goal.run_byte_quotient-requires
 run_byte_quotient-requires g c =
     let way = Ways.bytes _ _ _ (on c.pc-else-pc-eq-OVER.ensures.value c.if-pc-eq-DIVBY.true) c.compare_divisor.ensures in
     record {
-      stands = way.2.stands;
+      is_at = way.2.is_at;
       visible = shown AreVisible way.2 c.requires.ready.visible;
       byte = shown (λ (w : View). (w.r.r3 == 1) ≡ true) way.2 way.1;
       fits = shown (λ (w : View). 256 ≤ w.r.r6) way.2 (some_divisor _ c.requires.ready (ltb-true _ _ way.0) way.1);
@@ -25,7 +25,7 @@ run_word_quotient-requires g c =
     (off c.pc-else-pc-eq-OVER.ensures.value c.if-pc-eq-DIVBY.false)
     c.compare_divisor.ensures in
     record {
-      stands = way.2.stands;
+      is_at = way.2.is_at;
       visible = shown AreVisible way.2 c.requires.ready.visible;
       word = shown (λ (w : View). (w.r.r3 == 1) ≡ false) way.2 way.1;
       fits = shown (λ (w : View). w.r.r9 < w.r.r6) way.2 (ltb-true _ _ way.0);

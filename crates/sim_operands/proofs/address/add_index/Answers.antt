@@ -9,4 +9,4 @@ returns-clause-exits g c = piece c.requires (Paths.index _ (is_view _ c.requires
 pub returns-clause-went : goal.returns-clause-went
 returns-clause-went g c =
     let e = piece c.requires (Paths.index _ (is_view _ c.requires.machine)) c.run_piece.ensures in
-    ap (λ (pc : ℕ). eqb pc ASPACE) (c.pc.ensures.value ∙ e.stands.pc)
+    ap (λ (pc : ℕ). eqb pc ASPACE) (c.pc.ensures.value ∙ e.is_at.pc)

@@ -10,4 +10,4 @@ returns-clause-exits g c = piece c.requires (Paths.address _ (is_view _ c.requir
 pub returns-clause-short : goal.returns-clause-short
 returns-clause-short g c =
     let e = piece c.requires (Paths.address _ (is_view _ c.requires.machine)) c.run_piece.ensures in
-    ap (λ (pc : ℕ). eqb pc ASHORT) (c.pc.ensures.value ∙ e.stands.pc)
+    ap (λ (pc : ℕ). eqb pc ASHORT) (c.pc.ensures.value ∙ e.is_at.pc)

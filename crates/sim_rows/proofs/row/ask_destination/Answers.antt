@@ -3,15 +3,15 @@ use Rattle.sim_view.proofs.Common.{off, on}
 use Rattle.sim_rows.specs.Prelude.{ROW}
 use Rattle.sim_view.specs.native_interp.declared.addresses.TheConstants.{STROW}
 use Rattle.sim_rows.proofs.FirstOperand
-use Rattle.sim_rows.proofs.RowStart.{stands_at}
+use Rattle.sim_rows.proofs.RowStart.{is_at_address}
 use Rattle.sim_rows.proofs.row.ask_destination.Goals as goal
 
 pub ask_first-requires : goal.ask_first-requires
 ask_first-requires g c =
     let x = c.args.machine.now in
     let not_stored : x.cpu.pc ≡ STROW → ⊥ = λ here. let a = c.pc-else-pc-eq-WIDE.ensures.value in let b = c.if-pc-eq-STROW.false in absurd (omega arith) in
-    stands_at ROW x (c.requires.stands.pc ∙ (FirstOperand.narrow_here c.requires (off c.pc.ensures.value c.if-pc-eq-WIDE.false) not_stored).starts)
-    c.requires.stands
+    is_at_address ROW x (c.requires.is_at.pc ∙ (FirstOperand.narrow_here c.requires (off c.pc.ensures.value c.if-pc-eq-WIDE.false) not_stored).starts)
+    c.requires.is_at
 
 pub returns-then-pc-eq-WIDE : goal.returns-then-pc-eq-WIDE
 returns-then-pc-eq-WIDE g c = FirstOperand.asks_wide c.requires (on c.pc.ensures.value c.if-pc-eq-WIDE.true) c.ask_wide.ensures

@@ -62,7 +62,7 @@ keep_stored-requires g c =
     let elsewhere : c.run_address.new.machine.cpu.pc ≡ GSTOP → ⊥ = λ here. let a = c.pc.ensures.value in let b = c.if-pc-eq-GSTOP.false in
     absurd (omega arith) in
     let here : c.args.machine.now.cpu.pc ≡ STROW = let a = c.pc-entry.ensures.value in let b = c.if-entry-eq-STROW.true in omega arith in
-    Destinations.stands_stored c.requires c.ask_destination.ensures _ _ c.run_address.ensures elsewhere here
+    Destinations.at_stored c.requires c.ask_destination.ensures _ _ c.run_address.ensures elsewhere here
 
 pub returns-then-entry-eq-STROW : goal.returns-then-entry-eq-STROW
 returns-then-entry-eq-STROW g c =
@@ -77,7 +77,7 @@ load_wide-requires g c =
     let elsewhere : c.run_address.new.machine.cpu.pc ≡ GSTOP → ⊥ = λ here. let a = c.pc.ensures.value in let b = c.if-pc-eq-GSTOP.false in
     absurd (omega arith) in
     let here : c.args.machine.now.cpu.pc ≡ WIDE = let a = c.pc-entry.ensures.value in let b = c.if-entry-eq-WIDE.true in omega arith in
-    Destinations.stands_wide c.requires c.ask_destination.ensures _ _ c.run_address.ensures elsewhere here
+    Destinations.at_wide c.requires c.ask_destination.ensures _ _ c.run_address.ensures elsewhere here
 
 pub run_load-requires-clause-idle : goal.run_load-requires-clause-idle
 run_load-requires-clause-idle g c =
@@ -101,7 +101,7 @@ keep_wide-requires g c =
     let o = Destinations.wide_here c.requires c.ask_destination.ensures _ _ c.run_address.ensures
     (wide_there g at) (is_wide g at) in
     (Destinations.value c.requires c.ask_destination.ensures _ _ c.run_address.ensures
-    (wide_there g at) WIDVAL WIDDST o.kind.label_is refl c.load_wide.ensures refl c.run_load.ensures.value).stands
+    (wide_there g at) WIDVAL WIDDST o.kind.label_is refl c.load_wide.ensures refl c.run_load.ensures.value).is_at
 
 pub returns-then-entry-eq-WIDE : goal.returns-then-entry-eq-WIDE
 returns-then-entry-eq-WIDE g c =
@@ -115,7 +115,7 @@ load_first-requires g c =
     absurd (omega arith) in
     let kind = narrow_here c.requires (λ here. let a = c.pc-entry.ensures.value in let b = c.if-entry-eq-WIDE.false in absurd (omega arith))
     (λ here. let a = c.pc-entry.ensures.value in let b = c.if-entry-eq-STROW.false in absurd (omega arith)) in
-    Destinations.stands_first c.requires c.ask_destination.ensures _ _ c.run_address.ensures elsewhere kind
+    Destinations.at_first c.requires c.ask_destination.ensures _ _ c.run_address.ensures elsewhere kind
 
 pub run_load-requires-2-clause-idle : goal.run_load-requires-2-clause-idle
 run_load-requires-2-clause-idle g c =
@@ -134,7 +134,7 @@ pub keep_first-requires : goal.keep_first-requires
 keep_first-requires g c =
     let at = (goal.at.keep_first-requires g c).After-load_first in
     (Destinations.value c.requires c.ask_destination.ensures _ _ c.run_address.ensures
-    (first_there g at) OPSVAL OPSDST (is_first g at).label_is refl c.load_first.ensures refl c.run_load-2.ensures.value).stands
+    (first_there g at) OPSVAL OPSDST (is_first g at).label_is refl c.load_first.ensures refl c.run_load-2.ensures.value).is_at
 
 pub returns : goal.returns
 returns g c =

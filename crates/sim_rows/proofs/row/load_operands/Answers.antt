@@ -24,11 +24,11 @@ module _ (g : Over) (c : After-load_destination g) (went : c.load_destination.re
       RowStart.TwoOperands s c.args.machine.now c.load_destination.new.machine c.args.steps.now c.load_destination.new.steps begun
   two here = RowStart.two s c.args.machine.now c.load_destination.new.machine c.args.steps.now c.load_destination.new.steps begun here
 
-pub load_source-requires-clause-stands : goal.load_source-requires-clause-stands
-load_source-requires-clause-stands g c =
-    let at = (goal.at.load_source-requires-clause-stands g c).After-load_destination in
+pub load_source-requires-clause-is_at : goal.load_source-requires-clause-is_at
+load_source-requires-clause-is_at g c =
+    let at = (goal.at.load_source-requires-clause-is_at g c).After-load_destination in
     let o = two g at c.if-not-load_destination.false (on c.pc.ensures.value c.if-pc-eq-OPSTWO.true) in
-    o.comes.stands
+    o.comes.is_at
 
 pub load_source-requires-clause-idle : goal.load_source-requires-clause-idle
 load_source-requires-clause-idle g c =

@@ -1,6 +1,6 @@
 use Rattle.std.proofs.Common.{ℕ, ◌<◌, ◌≡◌, ap, arith, subst, sym}
 use Rattle.sim_view.proofs.Common.{is_view, off, on}
-use Rattle.sim_rows.specs.Prelude.{GSTOP, OPVAL, PortsAreIdle, return_of, Stands, View, view}
+use Rattle.sim_rows.specs.Prelude.{GSTOP, OPVAL, PortsAreIdle, return_of, IsAt, View, view}
 use Rattle.sim_view.specs.native_interp.declared.addresses.TheConstants.{STREAM}
 use Rattle.sim_rows.proofs.Again.{fetched_again, idle_again}
 use Rattle.sim_rows.proofs.Destinations.{found_there, FoundThere, visible_again}
@@ -32,7 +32,7 @@ module _ (g : Over) (c : After-load_second g) where
 
 pub returns-then-pc-eq-STREAM : goal.returns-then-pc-eq-STREAM
 returns-then-pc-eq-STREAM g c = λ s place has kept.
-    Sources.immediate c.ask_second.ensures (is_view c.args.machine.now c.requires.stands.machine) s place has kept
+    Sources.immediate c.ask_second.ensures (is_view c.args.machine.now c.requires.is_at.machine) s place has kept
     (on c.pc.ensures.value c.if-pc-eq-STREAM.true) c.stream_value.ensures
 
 pub run_address-requires-clause-idle : goal.run_address-requires-clause-idle
@@ -47,7 +47,7 @@ run_address-requires-clause-fetched g c =
 
 pub returns-then-pc-eq-GSTOP : goal.returns-then-pc-eq-GSTOP
 returns-then-pc-eq-GSTOP g c = λ s place has kept.
-    Sources.bars c.ask_second.ensures (is_view c.args.machine.now c.requires.stands.machine) s place has kept (off c.pc.ensures.value c.if-pc-eq-STREAM.false) _
+    Sources.bars c.ask_second.ensures (is_view c.args.machine.now c.requires.is_at.machine) s place has kept (off c.pc.ensures.value c.if-pc-eq-STREAM.false) _
     _ c.run_address.ensures (on c.pc-2.ensures.value c.if-pc-eq-GSTOP.true)
 
 pub load_second-requires : goal.load_second-requires
@@ -56,8 +56,8 @@ load_second-requires g c =
     absurd (omega arith) in
     let found = found_there c.ask_second.new.machine c.run_address.new.machine c.ask_second.new.steps c.run_address.new.steps elsewhere
     c.run_address.ensures in
-    subst (λ (p : ℕ). Stands c.run_address.new.machine p)
-    (ap return_of (Sources.shows_asking c.ask_second.ensures (off c.pc.ensures.value c.if-pc-eq-STREAM.false))) found.stands
+    subst (λ (p : ℕ). IsAt c.run_address.new.machine p)
+    (ap return_of (Sources.shows_asking c.ask_second.ensures (off c.pc.ensures.value c.if-pc-eq-STREAM.false))) found.is_at
 
 pub run_load-requires-clause-idle : goal.run_load-requires-clause-idle
 run_load-requires-clause-idle g c =
@@ -75,5 +75,5 @@ run_load-requires-clause-visible g c =
 pub returns : goal.returns
 returns g c = λ s place has kept.
     let at = (goal.at.returns g c).After-load_second in
-    Sources.placed c.ask_second.ensures (is_view c.args.machine.now c.requires.stands.machine) s place has kept (away g at) _ _ c.run_address.ensures
+    Sources.placed c.ask_second.ensures (is_view c.args.machine.now c.requires.is_at.machine) s place has kept (away g at) _ _ c.run_address.ensures
     (elsewhere g at) c.load_second.ensures c.run_load.ensures.value

@@ -24,10 +24,10 @@ overflow_cast-code g c =
     let kept : (view c.args.machine.now).r.r0 ≡ code_byte (state_at_dispatch (view c.args.machine.now)) = c.requires.dispatched.code in
     let a = c.register-code.ensures in omega arith
 
-pub go_to_row-requires-clause-stands : goal.go_to_row-requires-clause-stands
-go_to_row-requires-clause-stands g c =
-    let at = (goal.at.go_to_row-requires-clause-stands g c).After-load_operands in
-    (ready g at c.if-not-load_operands.false).comes.stands
+pub go_to_row-requires-clause-is_at : goal.go_to_row-requires-clause-is_at
+go_to_row-requires-clause-is_at g c =
+    let at = (goal.at.go_to_row-requires-clause-is_at g c).After-load_operands in
+    (ready g at c.if-not-load_operands.false).comes.is_at
 
 pub go_to_row-requires-clause-low : goal.go_to_row-requires-clause-low
 go_to_row-requires-clause-low g c =

@@ -18,9 +18,9 @@ unfolding end_row
 returns-then-register-eq0 g c =
     exits_by (rw (eq-eqb _ 0 (on c.register.ensures c.if-register-eq0.true)) refl) c.show.ensures
 
-pub store_routine-requires-clause-stands : goal.store_routine-requires-clause-stands
-store_routine-requires-clause-stands g c =
-    (draws (ne_eqb _ 0 (off c.register.ensures c.if-register-eq0.false)) c.show-2.ensures).stands
+pub store_routine-requires-clause-is_at : goal.store_routine-requires-clause-is_at
+store_routine-requires-clause-is_at g c =
+    (draws (ne_eqb _ 0 (off c.register.ensures c.if-register-eq0.false)) c.show-2.ensures).is_at
 
 pub store_routine-requires-clause-visible : goal.store_routine-requires-clause-visible
 store_routine-requires-clause-visible g c =

@@ -8,7 +8,7 @@ pub store_routine-requires-clause-visible : goal.store_routine-requires-clause-v
 store_routine-requires-clause-visible g c = shown CanStore c.store_result.ensures c.requires.visible
 
 pub end_row_routine-requires : goal.end_row_routine-requires
-end_row_routine-requires g c = (exit_then store c.store_result.ensures refl c.store_routine.ensures).stands
+end_row_routine-requires g c = (exit_then store c.store_result.ensures refl c.store_routine.ensures).is_at
 
 pub returns : goal.returns
 unfolding finish_row

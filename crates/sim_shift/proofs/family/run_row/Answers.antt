@@ -1,12 +1,12 @@
 use Rattle.std.proofs.Common.{subst, sym, ap, ◌∙◌}
-use Rattle.sim_rows.proofs.Common.{GplOperation, most_of_shift_row, RunsRow, ShiftOp, Stands, Two}
+use Rattle.sim_rows.proofs.Common.{GplOperation, most_of_shift_row, RunsRow, ShiftOp, IsAt, Two}
 use Rattle.sim_shift.specs.Family.{count_entry, name_of}
 use Rattle.sim_shift.proofs.Dispatch.{counts, named}
 use Rattle.sim_shift.proofs.family.run_row.Goals as goal
 
-pub run_named-requires-clause-stands : goal.run_named-requires-clause-stands
-run_named-requires-clause-stands g c =
-    subst (λ (op : ShiftOp). Stands c.args.machine.now (count_entry op)) (sym c.shift_of.ensures) (counts c.requires)
+pub run_named-requires-clause-is_at : goal.run_named-requires-clause-is_at
+run_named-requires-clause-is_at g c =
+    subst (λ (op : ShiftOp). IsAt c.args.machine.now (count_entry op)) (sym c.shift_of.ensures) (counts c.requires)
 
 pub returns : goal.returns
 returns g c =

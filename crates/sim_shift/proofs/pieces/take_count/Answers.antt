@@ -10,4 +10,4 @@ returns-clause-exits g c =
 pub returns-clause-some : goal.returns-clause-some
 returns-clause-some g c =
     let e = piece c.requires (Paths.take_count _) c.run_piece.ensures in
-    ap (λ (pc : ℕ). not (eqb pc STO)) (c.pc.ensures.value ∙ e.stands.pc)
+    ap (λ (pc : ℕ). not (eqb pc STO)) (c.pc.ensures.value ∙ e.is_at.pc)

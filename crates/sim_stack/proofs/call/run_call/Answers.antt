@@ -8,7 +8,7 @@ returns-then-pc-eq-GSTOP g c =
     stopped call_on (on c.pc.ensures.value c.if-pc-eq-GSTOP.true) c.read_call_target.ensures
 
 pub find_next-requires : goal.find_next-requires
-find_next-requires g c = (room _ _ _ _ _ (off c.pc.ensures.value c.if-pc-eq-GSTOP.false) c.read_call_target.ensures).1.stands
+find_next-requires g c = (room _ _ _ _ _ (off c.pc.ensures.value c.if-pc-eq-GSTOP.false) c.read_call_target.ensures).1.is_at
 
 pub store_next-requires-clause-visible : goal.store_next-requires-clause-visible
 store_next-requires-clause-visible g c =
@@ -21,5 +21,5 @@ unfolding called call_on
 returns g c =
     let elsewhere = off c.pc.ensures.value c.if-pc-eq-GSTOP.false in
     let stored = exit_then store_next c.find_next.ensures refl c.store_next.ensures in
-    goes_then call_on elsewhere c.read_call_target.ensures (room _ _ _ _ _ elsewhere c.read_call_target.ensures).1.stands refl
+    goes_then call_on elsewhere c.read_call_target.ensures (room _ _ _ _ _ elsewhere c.read_call_target.ensures).1.is_at refl
     (exit_then end_row stored refl c.end_row_routine.ensures)

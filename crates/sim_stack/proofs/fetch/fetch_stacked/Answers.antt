@@ -3,7 +3,7 @@ use Rattle.sim_stack.proofs.fetch.fetch_stacked.Goals as goal
 
 pub returns : goal.returns
 returns g c =
-    let sought = exit_then seek c.seek_stacked.ensures refl c.seek_address.ensures in
-    let asked = exit_then ask_byte sought refl c.ask_byte.ensures in
+    let seeks = exit_then seek c.seek_stacked.ensures refl c.seek_address.ensures in
+    let asked = exit_then ask_byte seeks refl c.ask_byte.ensures in
     let read = exit_then fetch asked refl c.fetch_byte.ensures in
     exit_then keep_byte read refl c.keep_byte.ensures

@@ -8,9 +8,9 @@ unfolding fetched
 returns-then-pc-eq-GSTOP g c =
     stopped fetch_on (on c.pc.ensures.value c.if-pc-eq-GSTOP.true) c.keep_place.ensures
 
-pub set_aside-requires-clause-stands : goal.set_aside-requires-clause-stands
-set_aside-requires-clause-stands g c =
-    (room _ _ _ _ _ (off c.pc.ensures.value c.if-pc-eq-GSTOP.false) c.keep_place.ensures).1.stands
+pub set_aside-requires-clause-is_at : goal.set_aside-requires-clause-is_at
+set_aside-requires-clause-is_at g c =
+    (room _ _ _ _ _ (off c.pc.ensures.value c.if-pc-eq-GSTOP.false) c.keep_place.ensures).1.is_at
 
 pub set_aside-requires-clause-link : goal.set_aside-requires-clause-link
 set_aside-requires-clause-link g c =
@@ -45,5 +45,5 @@ returns g c =
     let word = exit_then load_stacked c.set_aside.ensures refl c.load_stacked.ensures in
     let byte = exit_then fetch_stacked word refl c.fetch_stacked.ensures in
     let located = exit_then locate_stacked byte refl c.locate_stacked.ensures in
-    goes_then fetch_on elsewhere c.keep_place.ensures (room _ _ _ _ _ elsewhere c.keep_place.ensures).1.stands refl
+    goes_then fetch_on elsewhere c.keep_place.ensures (room _ _ _ _ _ elsewhere c.keep_place.ensures).1.is_at refl
     (exit_then end_fetch located refl c.end_fetch.ensures)

@@ -7,9 +7,9 @@ unfolding pushed
 returns-then-pc-eq-GSTOP g c =
     stopped finish_row (on c.pc.ensures.value c.if-pc-eq-GSTOP.true) c.push_pointer.ensures
 
-pub finish_row_routine-requires-clause-stands : goal.finish_row_routine-requires-clause-stands
-finish_row_routine-requires-clause-stands g c =
-    (room _ _ _ _ _ (off c.pc.ensures.value c.if-pc-eq-GSTOP.false) c.push_pointer.ensures).1.stands
+pub finish_row_routine-requires-clause-is_at : goal.finish_row_routine-requires-clause-is_at
+finish_row_routine-requires-clause-is_at g c =
+    (room _ _ _ _ _ (off c.pc.ensures.value c.if-pc-eq-GSTOP.false) c.push_pointer.ensures).1.is_at
 
 pub finish_row_routine-requires-clause-visible : goal.finish_row_routine-requires-clause-visible
 finish_row_routine-requires-clause-visible g c =
@@ -22,5 +22,5 @@ pub returns : goal.returns
 unfolding pushed
 returns g c =
     let elsewhere = off c.pc.ensures.value c.if-pc-eq-GSTOP.false in
-    goes_then finish_row elsewhere c.push_pointer.ensures (room _ _ _ _ _ elsewhere c.push_pointer.ensures).1.stands refl
+    goes_then finish_row elsewhere c.push_pointer.ensures (room _ _ _ _ _ elsewhere c.push_pointer.ensures).1.is_at refl
     c.finish_row_routine.ensures

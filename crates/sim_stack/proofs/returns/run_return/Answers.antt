@@ -12,7 +12,7 @@ returns-then-pc-eq-TAKE g c =
 pub go_to-requires-then-pc-ne-GSTOP : goal.go_to-requires-then-pc-ne-GSTOP
 go_to-requires-then-pc-ne-GSTOP g c =
     let elsewhere = off c.pc-else-pc-eq-TAKE.ensures.value c.if-pc-ne-GSTOP.true in
-    (keeps (off c.pc.ensures.value c.if-pc-eq-TAKE.false) (room _ _ _ _ _ elsewhere c.take_return.ensures).1).1.stands
+    (keeps (off c.pc.ensures.value c.if-pc-eq-TAKE.false) (room _ _ _ _ _ elsewhere c.take_return.ensures).1).1.is_at
 
 pub returns-then-pc-ne-GSTOP : goal.returns-then-pc-ne-GSTOP
 unfolding returned
@@ -21,7 +21,7 @@ returns-then-pc-ne-GSTOP g c =
     let elsewhere = off c.pc-else-pc-eq-TAKE.ensures.value c.if-pc-ne-GSTOP.true in
     let taken = keeps other (room _ _ _ _ _ elsewhere c.take_return.ensures).1 in
     stays c.pc.ensures.value TAKE clear_and_go c.take_return.ensures c.if-pc-eq-TAKE.false
-    (goes_then jump.go_to elsewhere c.take_return.ensures taken.1.stands refl c.go_to-then-pc-ne-GSTOP.ensures)
+    (goes_then jump.go_to elsewhere c.take_return.ensures taken.1.is_at refl c.go_to-then-pc-ne-GSTOP.ensures)
 
 pub returns-else-pc-ne-GSTOP : goal.returns-else-pc-ne-GSTOP
 unfolding returned

@@ -5,7 +5,7 @@ use Rattle.sim_steps.proofs.Turns
 use Rattle.sim_steps.proofs.turn.gpl_turn.Goals as goal
 
 pub current_operation-requires-clause-wp : goal.current_operation-requires-clause-wp
-current_operation-requires-clause-wp g c = c.begin_step.ensures.stands.wp
+current_operation-requires-clause-wp g c = c.begin_step.ensures.is_at.wp
 
 pub current_operation-requires-clause-dispatched : goal.current_operation-requires-clause-dispatched
 current_operation-requires-clause-dispatched g c =

@@ -10,5 +10,5 @@ returns-in_default c =
     let alone =
     over_input_alone c.args.words.now word words name (search rules) (search rules) c.in_default.not-Link
     c.in_default.not-Watch in
-    let said = c.input_command-in_default.ensures in
-    record { command = said.command ∙ alone; within = said.within }
+    let parsed = c.input_command-in_default.ensures in
+    record { command = parsed.command ∙ alone; within = parsed.within }

@@ -4,7 +4,7 @@ use Rattle.asm_core.proofs.lines.AsmLines.new.Goals as goal
 pub returns-clause-none : goal.returns-clause-none
 returns-clause-none c = record {
   lines = [];
-  laid = refl;
+  line_layout = refl;
   all = refl;
   after_lines = record {
     names = c.new.ensures;
@@ -15,6 +15,6 @@ returns-clause-none c = record {
     refs = c.new-3.ensures.items;
     taken = refl;
     ended = refl;
-    worked = record { order = []; founds = []; all = refl; known = c.new-4.ensures.items; stand = tt; image = refl };
+    worked = record { order = []; founds = []; all = refl; known = c.new-4.ensures.items; resolved = tt; image = refl };
   };
 }

@@ -7,7 +7,7 @@ use Rattle.asm_defs.specs.Locations.{Line, location, reached, relocatable, after
 use Rattle.asm_defs.specs.FirstChecks as spec
 use Rattle.asm_defs.specs.FirstChecks.{EarlierLines, known_of, line_of, location_after, defs_in, refs_in, is_end}
 use Rattle.asm_defs.specs.Modules.{title_by}
-use Rattle.asm_defs.proofs.CheckLaws.{checked_within, checked_titled, checked_said}
+use Rattle.asm_defs.proofs.CheckLaws.{checked_within, checked_titled, checked_parses}
 use Rattle.asm_checks.specs.Checks.{model_of_checked}
 use Rattle.asm_checks.proofs.Labels.{checked_new, checked_known, has_room}
 use Rattle.asm_core.specs.Building.{Takes}
@@ -85,7 +85,7 @@ returns-in-Ok-work c = λ lines is.
     let next : IsNext c.args.self.now c.args.line.now.text.now c.in-Ok.checked lines next_line = record {
       at = ap (λ (from : Location). after from found.move.gap) is.location;
       number = ap (λ taken. taken + 1) is.taken;
-      parsed = checked_said (known_of lines) c.args.line.now.text.now found checked;
+      parsed = checked_parses (known_of lines) c.args.line.now.text.now found checked;
       statement = refl;
     } in
     let place : c.advance.new.self.location ≡ location (next_line ∷ lines) =

@@ -11,10 +11,10 @@ use Rattle.module_image.specs.declared.image.Image.{Image}
 use Rattle.asm_core.proofs.second_pass.Output.fill.Goals as goal
 
 pub returns : goal.returns
-returns c = λ unused done others held stand fills output.
+returns c = λ unused done others held resolved fills output.
     let found = model_of_outcome c.args.outcome.now in
     let line : AssembledLine = record { at = c.args.at; outcome = found } in
-    let holds = c.in_ok-fill_bytes.ensures.filled unused done others held stand fills output.bytes in
+    let holds = c.in_ok-fill_bytes.ensures.filled unused done others held resolved fills output.bytes in
     record {
       bytes = record {
         image = subst (λ (image : Image). IsImage unused (onto (line ∷ done) others) image) (sym c.note_entry.ensures.image) holds.image;

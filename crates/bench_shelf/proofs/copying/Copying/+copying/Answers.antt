@@ -1,6 +1,6 @@
 use Rattle.std.proofs.Common.{◌<◌, None, refl, sym, ap, ◌∙◌, subst, arith}
 use Rattle.source_defs.specs.Lines.{LinesLieInside, line_texts}
-use Rattle.expression_defs.proofs.LaidLaws.{texts_of}
+use Rattle.expression_defs.proofs.LayoutLaws.{texts_of}
 use Rattle.shelf_defs.specs.CopyLines.{File, Bad}
 use Rattle.shelf_defs.specs.Copied as spec
 use Rattle.shelf_defs.specs.Copied.{most_bytes}

@@ -1,7 +1,7 @@
 use Rattle.std.proofs.Common.{◌≡◌, ◌+◌, ◌*◌, ◌≤◌}
 use Rattle.std.specs.Prelude.{is_some}
 use Rattle.source_defs.specs.Lines.{LinesLieInside, line_texts}
-use Rattle.expression_defs.proofs.LaidLaws.{texts_of}
+use Rattle.expression_defs.proofs.LayoutLaws.{texts_of}
 use Rattle.shelf_defs.specs.Copied.{most_bytes, most_copies}
 use Rattle.asm_core.specs.Building.{IsOpen}
 use Rattle.bench_shelf.specs.Causes.{CountsGrew, ReadWithinLimit}

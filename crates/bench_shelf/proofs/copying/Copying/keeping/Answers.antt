@@ -7,7 +7,7 @@ use Rattle.bench_shelf.proofs.copying.Copying.keeping.Goals as goal
 pub returns-clause-none : goal.returns-clause-none
 returns-clause-none c =
     let holds = c.new-copying.ensures.none in
-    let none : [] ≡ holds.taken.lines = cc holds.taken.laid in
+    let none : [] ≡ holds.taken.lines = cc holds.taken.line_layout in
     record {
       taken = holds.taken;
       places = holds.places;

@@ -1,8 +1,8 @@
 use Rattle.std.proofs.Common.{[], ◌∷◌, ◌++◌, length, refl, sym, ap, subst, arith, length-append}
-use Rattle.shelf_defs.specs.Assembly.{texts, laid_copied}
+use Rattle.shelf_defs.specs.Assembly.{texts, layout_copied}
 use Rattle.shelf_defs.specs.Copied.{own_line, prepend}
 use Rattle.source_defs.specs.Lines.{numbered}
-use Rattle.expression_defs.specs.Layout.{laid}
+use Rattle.expression_defs.specs.Layout.{line_layout}
 use Rattle.asm_defs.specs.declared.causes.AsmCause.{AsmCause}
 use Rattle.asm_defs.specs.FirstChecks.{check}
 use Rattle.asm_core.specs.Finishing.{RefusesAt}
@@ -19,8 +19,8 @@ returns-in-Err-At-clause-leads c done holds =
     let text = c.args.own.now.text.now in
     let refuses = c.in-Err-At.ensures.texts (texts done) holds.taken in
     let refused = own_refused old _ place text done _ c.in-Err-At.cause c.requires.going holds
-    (subst (λ error. RefusesAt error (laid check (numbered 1 (texts done ++ text ∷ [])))) c.in-Err-At.field-0-is refuses.0) refuses.1 refl refl in (
-      subst (λ (cause : AsmCause). CopyRefuses (refused_at place (Asm cause)) (laid_copied (prepend done (own_line (model_of_place place) old.copies text))))
+    (subst (λ error. RefusesAt error (line_layout check (numbered 1 (texts done ++ text ∷ [])))) c.in-Err-At.field-0-is refuses.0) refuses.1 refl refl in (
+      subst (λ (cause : AsmCause). CopyRefuses (refused_at place (Asm cause)) (layout_copied (prepend done (own_line (model_of_place place) old.copies text))))
           (sym c.in-Err-At.cause-is) refused.0,
       refused.1,
     )
@@ -50,5 +50,5 @@ returns-in-Err-At-clause-causes c =
     let held = c.requires.room.held in
     let refuses = (c.in-Err-At.ensures.texts (texts held.0) held.1.taken).0 in
     let own = refusal_is _ c.in-Err-At.cause _
-    (subst (λ error. RefusesAt error (laid check (numbered 1 (texts held.0 ++ c.args.own.now.text.now ∷ [])))) c.in-Err-At.field-0-is refuses) in
+    (subst (λ error. RefusesAt error (line_layout check (numbered 1 (texts held.0 ++ c.args.own.now.text.now ∷ [])))) c.in-Err-At.field-0-is refuses) in
     subst IsOwnCause (sym c.in-Err-At.cause-is) own.0

@@ -1,15 +1,15 @@
 use Rattle.std.proofs.Common.{refl}
 use Rattle.bench_shelf.proofs.FolderLaws.{
-  nothing_said,
+  nothing_claimed,
   nothing_left,
-  tells_refused,
-  tells_counts,
-  tells_anew,
-  tells_faults,
-  tells_misses,
-  tells_no_fault,
-  tells_no_miss,
-  tells_other,
+  finds_refused,
+  finds_counts,
+  finds_anew,
+  finds_faults,
+  finds_misses,
+  finds_no_fault,
+  finds_no_miss,
+  finds_other,
 }
 use Rattle.bench_shelf.proofs.directory.DirShelfShelf.TheImpl.Goals as goal
 
@@ -18,15 +18,15 @@ open_file-tells g c =
     let before = c.args.self.now in
     let after = c.new.self.now in
     record {
-      opened = nothing_said c.result;
-      refused = tells_refused before after c.args.name.now c.result c.ensures;
+      opened = nothing_claimed c.result;
+      refused = finds_refused before after c.args.name.now c.result c.ensures;
       end = nothing_left c.result;
-      counts = tells_counts before after c.result c.ensures;
-      anew = tells_anew before after c.args.name.now c.result c.ensures;
-      faults = tells_faults before after c.result c.ensures;
-      misses = tells_misses before after c.result c.ensures;
-      no_fault = tells_no_fault before after c.result c.ensures;
-      no_miss = tells_no_miss before after c.result c.ensures;
-      other = tells_other before after c.result c.ensures;
+      counts = finds_counts before after c.result c.ensures;
+      anew = finds_anew before after c.args.name.now c.result c.ensures;
+      faults = finds_faults before after c.result c.ensures;
+      misses = finds_misses before after c.result c.ensures;
+      no_fault = finds_no_fault before after c.result c.ensures;
+      no_miss = finds_no_miss before after c.result c.ensures;
+      other = finds_other before after c.result c.ensures;
       files = refl;
     }

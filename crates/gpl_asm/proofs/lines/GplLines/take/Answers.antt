@@ -3,14 +3,14 @@ use Rattle.std.specs.Prelude.{Option}
 use Rattle.source_defs.specs.Refusals.{◌>>=◌}
 use Rattle.source_defs.specs.Fields.{no_fields}
 use Rattle.expression_defs.specs.Symbols.{Names}
-use Rattle.source_defs.proofs.FieldLaws.{fields_stand_apart}
+use Rattle.source_defs.proofs.FieldLaws.{fields_are_apart}
 use Rattle.expression_defs.specs.Layout.{with_names}
 use Rattle.gpl_source_defs.specs.declared.location.Location.{Location}
 use Rattle.gpl_source_defs.specs.Locations.{location, after, origin_of}
 use Rattle.expression_defs.specs.Layout.{set_or}
 use Rattle.gpl_source_defs.specs.FirstChecks.{checked, line_of, names, label_entry, label_value, is_taken, is_full, is_end}
 use Rattle.gpl_lines.specs.Defined.{model_of_checked}
-use Rattle.gpl_source_defs.proofs.CheckLaws.{is_let_through}
+use Rattle.gpl_source_defs.proofs.CheckLaws.{is_accepted}
 use Rattle.gpl_asm.specs.Replay.{answer}
 use Rattle.gpl_asm.proofs.LineLaws.{place_is}
 use Rattle.gpl_asm.proofs.CountLaws.{counted}
@@ -19,7 +19,7 @@ use Rattle.gpl_asm.proofs.lines.GplLines.take.Goals as goal
 
 pub returns-then-is_comment-clause-short : goal.returns-then-is_comment-clause-short
 returns-then-is_comment-clause-short c =
-    (fields_stand_apart c.args.line.now.text.now no_fields (c.is_comment.ensures.0 c.if-is_comment.true)).short
+    (fields_are_apart c.args.line.now.text.now no_fields (c.is_comment.ensures.0 c.if-is_comment.true)).short
 
 pub returns-then-is_comment-clause-takes : goal.returns-then-is_comment-clause-takes
 returns-then-is_comment-clause-takes c = λ lines is.
@@ -28,7 +28,7 @@ returns-then-is_comment-clause-takes c = λ lines is.
 
 pub assemble_line-requires-clause-parsed : goal.assemble_line-requires-clause-parsed
 assemble_line-requires-clause-parsed c =
-    (is_let_through c.scope-scope.result.symbols.now c.scope-scope.result.at c.args.line.now.text.now (model_of_checked c.in-Ok.checked)
+    (is_accepted c.scope-scope.result.symbols.now c.scope-scope.result.at c.args.line.now.text.now (model_of_checked c.in-Ok.checked)
     c.in-Ok.ensures.checked).parsed
 
 pub keep-requires-clause-room : goal.keep-requires-clause-room
@@ -36,7 +36,7 @@ keep-requires-clause-room c =
     let builder = c.args.self.now in
     let found = model_of_checked c.in-Ok.checked in
     let at = c.scope-scope.ensures.at in
-    let through = is_let_through c.scope-scope.result.symbols.now c.scope-scope.result.at c.args.line.now.text.now found c.in-Ok.ensures.checked in
+    let through = is_accepted c.scope-scope.result.symbols.now c.scope-scope.result.at c.args.line.now.text.now found c.in-Ok.ensures.checked in
     let fits : is_full builder.location found.statement ≡ false = ap (λ (at : Location). is_full at found.statement) (sym at) ∙ through.fits in
     room_of builder found c.in_ok-rest.rest
     (answers_here builder found c.in_ok-rest.rest c.scope-scope.result.symbols.now c.scope-scope.result.at c.scope-scope.ensures.symbols at
@@ -47,7 +47,7 @@ pub keep-requires-clause-fresh : goal.keep-requires-clause-fresh
 keep-requires-clause-fresh c =
     let builder = c.args.self.now in
     let found = model_of_checked c.in-Ok.checked in
-    let through = is_let_through c.scope-scope.result.symbols.now c.scope-scope.result.at c.args.line.now.text.now found c.in-Ok.ensures.checked in
+    let through = is_accepted c.scope-scope.result.symbols.now c.scope-scope.result.at c.args.line.now.text.now found c.in-Ok.ensures.checked in
     label_grows builder.symbols found.label c.label_value-value.result
     (ap (λ (known : Names). is_taken known found.label) (sym c.scope-scope.ensures.symbols) ∙ through.fresh)
 
@@ -63,7 +63,7 @@ returns-clause-takes c = λ lines is.
     let builder = c.args.self.now in
     let at = c.scope-scope.ensures.at in
     let known = c.scope-scope.ensures.symbols in
-    let through = is_let_through c.scope-scope.result.symbols.now c.scope-scope.result.at c.args.line.now.text.now found c.in-Ok.ensures.checked in
+    let through = is_accepted c.scope-scope.result.symbols.now c.scope-scope.result.at c.args.line.now.text.now found c.in-Ok.ensures.checked in
     let here : checked (names lines) (location lines) c.args.line.now.text.now ≡ Ok found =
     ap (λ (known : Names). checked known (location lines) c.args.line.now.text.now) (sym (known ∙ is.names))
     ∙ (ap (λ (at : Location). checked c.scope-scope.result.symbols.now at c.args.line.now.text.now) (sym (at ∙ is.location)) ∙ c.in-Ok.ensures.checked) in

@@ -2,7 +2,7 @@ use Rattle.std.proofs.Common.{◌≡◌, suc, ◌+◌, arith, false, [], ◌∷�
 use Rattle.std.proofs.lemmas.Result.{err_from_is_err_and}
 use Rattle.source_defs.specs.Lines.{LinesLieInside, line_texts}
 use Rattle.expression_defs.specs.Layout.{has_ended}
-use Rattle.expression_defs.proofs.LaidLaws.{IsNumbered, lines_numbered}
+use Rattle.expression_defs.proofs.LayoutLaws.{IsNumbered, lines_numbered}
 use Rattle.gpl_asm.specs.Building.{IsAfter}
 use Rattle.gpl_list.proofs.ReadLaws.{keeps_none}
 use Rattle.gpl_list.proofs.PassLaws.{Passed, passed_none, text_is, has_taken, passed_more, passed_end, read_refused}
@@ -11,7 +11,7 @@ use Rattle.gpl_list.proofs.read.ReadLines.read.Goals as goal
 pub loop-line-init : goal.loop-line-init
 loop-line-init c =
     let none = c.requires.none in
-    let empty : [] ≡ none.taken.lines = cc none.taken.laid in
+    let empty : [] ≡ none.taken.lines = cc none.taken.line_layout in
     let text = c.args.text.now in
     let all = c.into_iter-line-iterator.ensures.into_iter_gives ∙ c.lines-line-items.ensures.all in
     let after_lines = subst (λ lines. IsAfter lines c.args.self.now.builder) (sym empty) none.taken.after_lines in (

@@ -1,6 +1,6 @@
 use Rattle.std.proofs.Common.{◌≡◌, ◌+◌, false, List, length}
 use Rattle.source_defs.specs.Lines.{LinesLieInside, line_texts}
-use Rattle.expression_defs.proofs.LaidLaws.{IsNumbered}
+use Rattle.expression_defs.proofs.LayoutLaws.{IsNumbered}
 use Rattle.gpl_source_defs.specs.Locations.{Line}
 use Rattle.gpl_asm.specs.Building.{IsAfter}
 use Rattle.gpl_list.specs.Reading.{Keeps}

@@ -10,7 +10,7 @@ returns-clause-begins g c =
     let y = c.start_program.new.machine in
     let before = c.args.steps.now in
     let after = c.start_program.new.steps in
-    let stands = c.machines_start.ensures (image_of x) (entry_of x) x c.holds_bounds.ensures c.requires in
-    let begins = subst (λ (s : GplState). StartsProgram s 10 x y before after) stands.2 c.start_program.ensures in
+    let started = c.machines_start.ensures (image_of x) (entry_of x) x c.holds_bounds.ensures c.requires in
+    let begins = subst (λ (s : GplState). StartsProgram s 10 x y before after) started.2 c.start_program.ensures in
     let within = begins.within in
     record { count = begins.count; within = omega arith; counted = begins.counted; boots = begins.boots; matches = begins.matches }

@@ -10,10 +10,10 @@ use Rattle.asm_text.proofs.expressions.symbols.Symbols.define.Goals as goal
 pub returns-then-is_some-clause-duplicate : goal.returns-then-is_some-clause-duplicate
 returns-then-is_some-clause-duplicate c =
     let name = c.args.name in
-    let stands =
+    let found_value =
     register_some c.register_number.result c.self.inside.defined.entries name (rw c.as_bytes.ensures.value at c.register_number.ensures)
     (sym c.is_some.ensures ∙ c.if-is_some.true) in
-    (λ _. subst IsSome (ap (λ (names : Names). get names name) c.self.view_is) stands, λ _. refl)
+    (λ _. subst IsSome (ap (λ (names : Names). get names name) c.self.view_is) found_value, λ _. refl)
 
 pub returns-clause-defined : goal.returns-clause-defined
 returns-clause-defined c =

@@ -1,5 +1,0 @@
-use Rattle.std.proofs.Common.{rules}
-use Rattle.object_tags.proofs.open_module.stands_first.Goals as goal
-
-pub returns-in-Some-Header-2 : goal.returns-in-Some-Header-2
-returns-in-Some-Header-2 c = search rules

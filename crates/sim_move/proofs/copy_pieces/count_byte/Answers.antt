@@ -1,0 +1,5 @@
+use Rattle.sim_move.proofs.CopiedPaths
+use Rattle.sim_move.proofs.copy_pieces.count_byte.Goals as goal
+
+pub returns : goal.returns
+returns g c = Paths.piece c.requires (Paths.count_byte _) c.run_piece.ensures

@@ -1,5 +1,0 @@
-use Rattle.sim_move.proofs.SimCopyPaths
-use Rattle.sim_move.proofs.sim_copy_pieces.copy_cell.Goals as goal
-
-pub returns : goal.returns
-returns g c = Paths.piece c.requires.stands (Paths.copy_cell _ c.requires.may_go) c.run_piece.ensures

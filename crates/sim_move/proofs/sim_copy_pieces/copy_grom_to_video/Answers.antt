@@ -1,5 +1,0 @@
-use Rattle.sim_move.proofs.SimCopyPaths
-use Rattle.sim_move.proofs.sim_copy_pieces.copy_grom_to_video.Goals as goal
-
-pub returns : goal.returns
-returns g c = Paths.piece c.requires (Paths.copy_grom_to_video _) c.run_piece.ensures

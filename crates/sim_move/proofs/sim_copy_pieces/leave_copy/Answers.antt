@@ -1,5 +1,0 @@
-use Rattle.sim_move.proofs.SimCopyPaths
-use Rattle.sim_move.proofs.sim_copy_pieces.leave_copy.Goals as goal
-
-pub returns : goal.returns
-returns g c = Paths.piece c.requires (Paths.leave_copy _) c.run_piece.ensures

@@ -1,5 +1,0 @@
-use Rattle.sim_move.proofs.SimCopyPaths
-use Rattle.sim_move.proofs.sim_copy_pieces.set_target.Goals as goal
-
-pub returns : goal.returns
-returns g c = Paths.piece c.requires (Paths.set_target _) c.run_piece.ensures
