@@ -40,6 +40,14 @@ class Crates(unittest.TestCase):
         self.assertEqual(repository.crates_below(['middle'], found), ['low', 'middle'])
         self.assertEqual(repository.crates_below(['high'], found), ['low', 'middle', 'high'])
 
+    def test_crates_of_this_repository_are_listed_after_those_that_they_use(self):
+        found = repository.crates()
+        places = {name: place for place, name in enumerate(found)}
+        wrong = [(name, used) for name, crate in found.items() for used in crate.uses
+                 if places.get(used, -1) > places[name]]
+        self.assertEqual(wrong, [])
+        self.assertEqual({path.name for path in (repository.TOP / 'crates').iterdir()}, set(found))
+
     def test_a_file_is_written_once_and_only_named_by_a_check(self):
         path, said = self.top / 'made', io.StringIO()
         with contextlib.redirect_stdout(said), contextlib.redirect_stderr(said):

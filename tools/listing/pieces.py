@@ -80,7 +80,7 @@ def functions(listing):
             if not run or path.name == 'run.rt':
                 continue
             function = re.match(r'(?:pub )?fn (\w+)', part).group(1)
-            label = re.search(r'Stands machine\.old (?:address\.)?(\w+)', part).group(1)
+            label = re.search(r'IsAt machine\.old (?:address\.)?(\w+)', part).group(1)
             ends = [it.strip() for it in run.group(1).split(',') if it.strip()]
             if label in found:
                 raise SystemExit(f'tools/interpreter: two pieces from {label}')

@@ -93,7 +93,7 @@ module _ (before : spec.EarlierLines) (text : List ℕ) where
         }) found b.2 in
         ap parsed_in c
 
-  -- what the first checks let through but for its label
+  -- what the first checks accept but for its label
   module _ (found : spec.Checked) (is : checked_as_new before text ≡ Ok found) where
     line : (line : spec.ParsedLine) × (parsed_as_new before text ≡ Ok line) × (spec.moved before line ≡ Ok found)
     line = bound (parsed_as_new before text) (spec.moved before) found is

@@ -16,7 +16,7 @@ use std::alloc::AllocError;
 pub enum Failure {
     /// The line is refused.
     Refused(AsmCause),
-    /// Memory was wanting.
+    /// Memory ran out.
     Memory,
 }
 

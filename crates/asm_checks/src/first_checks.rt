@@ -45,7 +45,7 @@ pub struct EarlierLines<'a> {
 pub struct ParsedLine<'a> {
     /// Its label.
     pub label: Option<Name>,
-    /// What stands in its fields.
+    /// What is in its fields.
     pub statement: Statement<'a>,
     /// The names that DEF or REF lists.
     pub listed: Vec<Name>,

@@ -29,14 +29,14 @@ pub(crate) fn any_known(symbols: &Symbols, names: &[Name]) -> bool
     names.iter().any(|name| symbols.get(name).is_some())
 }
 
-/// Whether a name stands among others.
+/// Whether a name is among others.
 fn is_among(name: &Name, others: &[Name]) -> bool
     ensures { result ≡ spec.is_among name.now others.now }
 {
     others.contains(name)
 }
 
-/// Whether one of some names stands among earlier ones, or twice among them.
+/// Whether one of some names is among earlier ones, or twice among them.
 pub(crate) fn repeats(earlier: &[Name], names: &[Name]) -> bool
     ensures { result ≡ spec.repeats earlier.now names.now }
 {

@@ -131,7 +131,7 @@ impl Scope<'_> {
         Ok(words)
     }
 
-    /// A value of DATA, whose word stands at a place.
+    /// A value of DATA, whose word is at a place.
     fn word_in(&self, place: &Location, text: &[u8]) -> Result<Word, ExprError>
         ensures { Yields model_of_word result
             (spec.word_in (look_up self.now.symbols.now) self.now.at place.now text.now) }

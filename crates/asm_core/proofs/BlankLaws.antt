@@ -108,7 +108,8 @@ no_words = omega (
   count_none (has_word [] part.Absolute) 0 part_words (λ w. refl),
 )
 
-pub still_room : (at : Location) (founds : List AssembledLine) → AreAllResolved [] founds → with_room (onto [] founds) (nothing_placed at) ≡ Ok (nothing_placed at)
+pub still_room : (at : Location) (founds : List AssembledLine) → AreAllResolved [] founds
+    → with_room (onto [] founds) (nothing_placed at) ≡ Ok (nothing_placed at)
 still_room at founds resolved = room_for_nothing at (onto [] founds) (most_words [] founds no_words resolved)
 
 -- no location is after the highest that was reached

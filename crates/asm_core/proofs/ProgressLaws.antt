@@ -21,10 +21,11 @@ use Rattle.asm_core.specs.Building.{IsOf, AreKnown, refusal_at}
 use Rattle.asm_core.specs.Resolving.{IsOutput, IsResolved, answer_to}
 use Rattle.asm_core.specs.Finishing.{RefusesAt, AreResolved}
 use Rattle.asm_core.proofs.KnownLaws.{NextHeld, next_held, none_held}
-use Rattle.asm_core.proofs.ResolveLaws.{assembled_more, assembled_stops, assembled_stopped, answer_is, assemble_by, assemble_filled, fills_place, fills_held, refuses_by}
+use Rattle.asm_core.proofs.ResolveLaws.{assembled_more, assembled_stops, assembled_stopped, answer_is, assemble_by, assemble_filled, fills_place, fills_held}
+use Rattle.asm_core.proofs.ResolveLaws.{refuses_by}
 use Rattle.asm_core.proofs.ResolveLaws.{real}
 
--- lines are assembled up to some that wait, and what is known of the others stands after them
+-- lines are assembled up to some that wait, and what is known of the others comes after them
 pub record IsSoFar (unused : List Reference) (names : Names) (order : List Line) (founds : List AssembledLine) (waiting : List Pending)
     (old new : Output) : Type 0 where
   pub before : List Line
@@ -86,7 +87,8 @@ module _ (unused : List Reference) (names : Names) (order : List Line) (founds :
       let line = real names unused next.lines next.line pending waits old new by in
       let held = held_place (place next.lines next.line) next.line.statement in
       let fills : FillsPlace held line = fills_place names unused next.lines next.line pending waits old new by in
-      let resolved : AreAllResolved next.earlier (held ∷ next.later) = subst (λ found. AreAllResolved next.earlier (found ∷ next.later)) next.is.held next.resolved in
+      let resolved : AreAllResolved next.earlier (held ∷ next.later) =
+      subst (λ found. AreAllResolved next.earlier (found ∷ next.later)) next.is.held next.resolved in
       let places : SamePlaces (held ∷ next.earlier) (line ∷ next.earlier) = places_same unused next.earlier held line fills in
       let founds_are : onto so_far.done so_far.left ≡ onto (held ∷ next.earlier) next.later =
       next.founds ∙ ap (λ (found : AssembledLine). onto (found ∷ next.earlier) next.later) next.is.held in

@@ -34,7 +34,7 @@ use Rattle.module_image.proofs.HoldingLaws.{content_some}
 use Rattle.base_defs.specs.Counts.{one_if}
 use Rattle.source_defs.specs.Names.{same_text}
 
--- words stand at even places
+-- words are at even places
 all_append : {A : Type 0} (P : A → Type 0) (first second : List A) → AllByRecursion P first → AllByRecursion P second → AllByRecursion P (first ++ second)
 all_append P [] second all others = others
 all_append P (item ∷ first) second all others = (all.0, all_append P first second all.1 others)

@@ -109,7 +109,7 @@ pub takes_none : (lines : List Line) (text : List ℕ) (result : Result TakenLin
 takes_none lines text (Ok value) new wants is = absurd wants
 takes_none lines text (Err error) new wants is = subst (λ (error : AsmError). Takes lines text (Err error) new) (sym wants) is
 
--- a line whose label stands for something already, or memory was wanting
+-- a line whose label stands for something already, or memory ran out
 pub takes_failed : (lines : List Line) (text : List ℕ) (names : Names) (label : Option (List ℕ)) (failure : Failure) (new : AsmLines)
     → KnowsLabel names label failure → (any_known names (label_in label) ≡ true → check lines (length lines + 1) text ≡ Err DuplicateLabel)
     → new.taken ≡ length lines → IsAfter lines new → Takes lines text (Err (refusal_at (new.taken + 1) failure)) new

@@ -33,7 +33,7 @@ use Rattle.asm_core.specs.Emitting.{AreContents, Stops, ByRoom, Emits}
 use Rattle.asm_core.proofs.BlankLaws.{nothing_placed, nothing_comes, still_room}
 use Rattle.asm_core.proofs.KnownLaws.{onto_more, resolved_more, known_more, held_more, known_still, refuses_still, comes_still}
 
--- a line without room is refused for a cause that is no want of memory
+-- a line without room is refused for a cause other than lack of memory
 room_causes : (earlier : List AssembledLine) (line : AssembledLine) (cause : AsmCause) → with_room earlier line ≡ Err cause → Causes cause (with_room earlier line)
 room_causes earlier line cause e = by (no_room earlier line cause e)
   where

@@ -97,7 +97,7 @@ abbrev pub IsWorked : List Line → Names → Option Image → List Pending → 
 IsWorked lines known image waiting None = IsGoing lines known image waiting
 IsWorked lines known image waiting (Some refused) = IsStopped refused lines known waiting
 
--- the builder after lines, of which the nearest stands first
+-- the builder after lines, of which the nearest comes first
 pub record IsAfter (lines : List Line) (builder : AsmLines) : Type 0 where
   pub names : builder.symbols ≡ names lines
   pub location : builder.location ≡ location lines

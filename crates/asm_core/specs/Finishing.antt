@@ -70,7 +70,7 @@ pub record SameEnd (old new : AsmLines) : Type 0 where
   pub waiting : new.waiting ≡ old.waiting
   pub refused : new.refused ≡ old.refused
 
--- the module that is defined, or the refused line; if memory ran out, nothing is said
+-- the module that is defined, or the refused line; if memory ran out, nothing is stated
 abbrev pub GivesModule : Result Module AsmError → Result object.Module (Refusal AsmCause) → Type 0
 GivesModule (Ok found) defined = defined ≡ Ok (model_of_module found)
 GivesModule (Err error) defined = RefusesAt error defined

@@ -31,7 +31,7 @@ names_with names checked =
     with_names (with_names names (label_entry checked.parsed.label (model_of_value checked.moved.label)))
     (external_entries (refs_in (model_of_statement checked.parsed.statement)))
 
--- a label stands for something already, or memory was wanting
+-- a label stands for something already, or memory ran out
 abbrev pub KnowsLabel : Names → Option (List ℕ) → Failure → Type 0
 KnowsLabel names label Memory = ⊤
 KnowsLabel names label (Refused cause) = (cause ≡ DuplicateLabel) × IsTrue (any_known names (label_in label))

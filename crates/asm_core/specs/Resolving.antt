@@ -19,7 +19,7 @@ use Rattle.module_image.specs.ResolvedLines.{AreAllResolved, FillsPlace}
 use Rattle.asm_core.specs.declared.second_pass.Output.{Output}
 use Rattle.asm_core.specs.declared.pending.Pending.{Pending}
 
--- the bytes of lines, of which some are done and others stand after them; and the last uses in those that are done
+-- the bytes of lines, of which some are done and others come after them; and the last uses in those that are done
 pub record HoldsBytes (unused : List Reference) (done others : List AssembledLine) (output : Output) : Type 0 where
   pub image : IsImage unused (onto done others) output.image
   pub references : map model_of_ref output.references.items ≡ references_of unused done

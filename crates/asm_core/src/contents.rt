@@ -54,7 +54,7 @@ fn byte_contents(alloc: Global, bytes: &[u8]) -> Result<Vec<Content>, AllocError
     Ok(contents)
 }
 
-/// The bytes of words, of which the first stands at a place.
+/// The bytes of words, of which the first is at a place.
 fn word_contents(
     alloc: Global,
     references: &mut Vec<Ref>,
@@ -80,7 +80,7 @@ fn word_contents(
     Ok(contents)
 }
 
-/// What stands in a word at a place.
+/// What is in a word at a place.
 fn spot_of(references: &mut Vec<Ref>, at: Spot, word: &Word) -> Spot
     ensures spot { result ≡ spec.word_of (map model_of_ref references.old.items) (model_of_word word.now) }
     ensures uses { map model_of_ref references.new.items

@@ -16,7 +16,7 @@ pub enum AsmError {
         /// What is wrong with it.
         cause: AsmCause,
     },
-    /// Memory was wanting.
+    /// Memory ran out.
     Memory,
 }
 

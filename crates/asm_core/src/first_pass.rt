@@ -34,7 +34,7 @@ pub(crate) struct Assembled {
     pub(crate) emitted: Emitted,
 }
 
-/// The first pass at a line that the first checks let through, with its number and its place.
+/// The first pass at a line that the first checks accept, with its number and its place.
 #[derive(Clone, Copy)]
 pub(crate) struct FirstPass<'a> {
     pub(crate) alloc: Global,

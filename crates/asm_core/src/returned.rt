@@ -12,7 +12,7 @@ use asm_defs::Location;
 use asm_text::Name;
 use std::alloc::Global;
 
-/// What is returned of a line that the first checks let through, at its place.
+/// What is returned of a line that the first checks accept, at its place.
 pub(crate) fn taken_line(
     alloc: Global,
     at: Location,

@@ -1,4 +1,4 @@
--- What the first checks know of a line that they let through.
+-- What the first checks know of a line that they accept.
 use Rattle.std.proofs.Common.{◌≡◌, ℕ, ◌+◌, ◌≤◌, Bool, true, false, not, ◌||◌, List, Some, None, Ok, Err, refl, ap, subst, ◌∙◌, arith}
 use Rattle.std.specs.Prelude.{Option, Result, nat_le, ◌⊎◌, ◌&&◌, ⊤}
 use Rattle.std.proofs.Common.{inl, inr}
@@ -27,7 +27,7 @@ pub bound : {A B E : Type 0} (answer : Result A E) (make : A → Result B E) (ma
 bound (Ok value) make made e = (value, refl, e)
 bound (Err error) make made e = cc e
 
--- nothing speaks against what is let through
+-- nothing speaks against what is accepted
 accepted : {A : Type 0} (b : Bool) (cause : AsmCause) (value found : A) → unless b cause value ≡ Ok found → (b ≡ false) × (value ≡ found)
 accepted true cause value found e = cc e
 accepted false cause value found e = (refl, cc e)
@@ -92,7 +92,7 @@ module _ (before : EarlierLines) where
   titled_by (Some name) (Idt text) fine = both (is_quoted text) (is_title text) fine
   titled_by label _ fine = tt
 
-  -- what the first checks let through is what the line says
+  -- what the first checks accept is what the line says
   statement_is : (text : List ℕ) (found : ParsedLine) → parsed before text ≡ Ok found → parse_line text ≡ Ok found.statement
   unfolding parsed
   statement_is text found e =
@@ -157,7 +157,7 @@ module _ (before : EarlierLines) where
   room_by location statement move here (inr (nothing, gap)) there =
       grind (arith, nat_tests, here, limit_le location.part, nothing, gap)
 
-  -- a line has room at its place where what it says is let through
+  -- a line has room at its place if its statement is accepted
   pub moved_room : (line : ParsedLine) (found : Checked) → is_in_part before.location ≡ true → moved before line ≡ Ok found
       → before.location.number + found.move.gap + declared_size found.statement ≤ 65536
   moved_room line found here e =

@@ -8,7 +8,7 @@ use Rattle.asm_defs.specs.declared.content.Content.TheVariants.{First, Second}
 use Rattle.asm_defs.specs.declared.location.Part.{Part}
 use Rattle.asm_defs.specs.Memory.{after_word, spot_by, word_of, words_at}
 
--- the bytes of words, of which the first stands at a place
+-- the bytes of words, of which the first is at a place
 abbrev pub word_contents : Part → List Reference → ℕ → List Value → List Content
 word_contents part references at words = flat_map (λ word. First word ∷ Second ∷ []) (words_at part references at words).0
 

@@ -1,6 +1,6 @@
 -- The first checks of a line, by the lines before it.
 --
--- Profile: they stand in this order. The line's length and its label; a label that stands for something already; the
+-- Profile: they are in this order. The line's length and its label; a label that stands for something already; the
 -- operation, the number of its operands and their forms; a name of REF that stands for something already; the values
 -- that move locations; a location past the end of its part, and too many names; a bad directive.
 use Rattle.std.specs.Prelude.{ℕ, ◌+◌, ◌*◌, Bool, true, false, not, ◌&&◌, ◌||◌, nat_le, List, [], ◌∷◌, ◌++◌}
@@ -44,7 +44,7 @@ any_known known names = list_any (is_known known) names
 abbrev pub is_among : List ℕ → List (List ℕ) → Bool
 is_among name others = list_any (λ other. same_text other name) others
 
--- one of some names stands among earlier ones, or twice among them
+-- one of some names is among earlier ones, or twice among them
 abbrev pub repeats : List (List ℕ) → List (List ℕ) → Bool
 repeats earlier [] = false
 repeats earlier (name ∷ names) = is_among name earlier || is_among name names || repeats earlier names
@@ -88,7 +88,7 @@ pub record LocationChange : Type 0 where
 abbrev pub stays_at : Location → ℕ → LocationChange
 stays_at here size = record { origin = None; gap = 0; size = size; label = value_of here }
 
--- Editor/Assembler manual, "Word Boundary": an instruction and DATA stand at an even place, and so does their label.
+-- Editor/Assembler manual, "Word Boundary": an instruction and DATA are at an even place, and so does their label.
 abbrev pub stays_even : Location → ℕ → LocationChange
 stays_even here size =
     record { origin = None; gap = to_even here; size = size; label = value_of (after here (to_even here)) }

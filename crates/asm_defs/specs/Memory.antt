@@ -107,7 +107,7 @@ abbrev pub after_word : List Reference → Spot → Value → List Reference
 after_word references at (External name) = with_use references name at
 after_word references at _ = references
 
--- what words hold, of which the first stands at a place, and the last uses after them
+-- what words hold, of which the first is at a place, and the last uses after them
 abbrev pub words_at : Part → List Reference → ℕ → List Value → List Spot × List Reference
 words_at part uses at [] = ([], uses)
 words_at part uses at (word ∷ words) =
@@ -134,7 +134,7 @@ references_of references (line ∷ before) = after_by line.at (references_of ref
 abbrev pub contents : List Reference → List AssembledLine → AssembledLine → List Content
 contents references before line = contents_by line.at (references_of references before) line.outcome
 
--- what stands at a place
+-- what is at a place
 abbrev pub content_at : List Reference → List AssembledLine → Part → ℕ → Option Content
 content_at references [] part p = None
 content_at references (line ∷ before) part p =

@@ -61,11 +61,11 @@ module _ (look : List ℕ → Option Value) (at : Location) where
   abbrev pub value : List ℕ → Result Value ExprError
   value text = expression look (value_of at) text
 
-  -- a value of DATA, whose word stands at a place
+  -- a value of DATA, whose word is at a place
   abbrev pub word_in : Location → List ℕ → Result Value ExprError
   word_in place text = value text >>= used_at place
 
-  -- the values of DATA, of which the first stands at a place
+  -- the values of DATA, of which the first is at a place
   abbrev pub data_values : Location → List (List ℕ) → Result (List Value) ExprError
   data_values place [] = Ok []
   data_values place (text ∷ texts) = do

@@ -65,7 +65,7 @@ as_operands (Ok value) = Ok value
 as_operands (Err Count) = Err OperandCount
 as_operands (Err Form) = Err BadOperand
 
--- A directive with its operands. Profile: EVEN, PAGE, LIST and UNL ignore what stands after them in the line.
+-- A directive with its operands. Profile: EVEN, PAGE, LIST and UNL ignore what comes after them in the line.
 abbrev pub directive_statement : Directive → List (List ℕ) → Result Statement OperandError
 directive_statement named.Aorg texts = one_operand texts >>= λ text. Ok (Aorg text)
 directive_statement named.Rorg texts = optional_operand texts >>= λ text. Ok (Rorg text)

@@ -1,4 +1,4 @@
-//! What stands at a place.
+//! What is at a place.
 
 use object_defs::Spot;
 

@@ -1,5 +1,5 @@
 //! The module that an assembler source stands for: its directives, where its lines are placed, and the words that they
-//! place. The definitions stand in `specs/`.
+//! place. The definitions are in `specs/`.
 #![tactic(auto)]
 
 mod causes;

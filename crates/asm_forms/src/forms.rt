@@ -19,7 +19,7 @@ pub enum Mode {
     Increment,
     /// `@e`.
     Symbolic,
-    /// `@e(R)`, by how many bytes stand between the sign and the parenthesis that opens.
+    /// `@e(R)`, by how many bytes are between the sign and the parenthesis that opens.
     Indexed(u16),
 }
 

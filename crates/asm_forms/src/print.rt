@@ -15,7 +15,7 @@ use asm_text::push_word;
 use tms_defs::Instr;
 use tms_words::decode;
 
-/// The text of the instruction at the front of some words, of which the first stands at the address `at`, and how many
+/// The text of the instruction at the front of some words, of which the first is at the address `at`, and how many
 /// of the words it has (1 to 3). Where the front is no whole instruction, the text is DATA with the first word, and the
 /// count is 1. A jump's target is shown by its address, with 16 bits. Editor/Assembler manual, "Assembly Language
 /// Instructions".
@@ -29,7 +29,7 @@ pub fn print_instr(words: &[u16], at: u16) -> (ArrayString<64>, u8)
     (text, count)
 }
 
-/// Writes what stands at the front of some words into an empty text, and says how many of the words that is.
+/// Writes what is at the front of some words into an empty text, and says how many of the words that is.
 #[tactic(auto, unfolding(instruction_defs::specs::Printed::printed))]
 fn push_front(text: &mut Text, words: &[u16], at: u16) -> u8
     requires empty { text.old.bytes ≡ [] }

@@ -41,7 +41,7 @@ named_rows known kept names = names_of_line known (model_of_kept kept, names)
 abbrev pub rows_of_names : Names → List KeptLine → List (List ℕ)
 rows_of_names known lines = map name_row (flat_map (names_of_line known) (map named_line lines))
 
--- all rows, by what stands after the kept lines
+-- all rows, by what comes after the kept lines
 abbrev pub all_rows : List KeptLine → ListedEnding → List (List ℕ)
 all_rows lines (Whole known) = rows_by_names (Some known) lines ++ rows_of_names known lines
 all_rows lines (After known number error) = rows_by_names (Some known) (take (number - 1) lines)

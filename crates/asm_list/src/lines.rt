@@ -60,7 +60,7 @@ fn put_shown(
     Ok(())
 }
 
-/// Appends the row of a file, where the line before stands in another.
+/// Appends the row of a file, where the line before is in another.
 fn put_file(
     alloc: Global,
     before: &Option<FileName>,
@@ -113,7 +113,7 @@ fn eight_on(at: Location) -> Location
     }
 }
 
-/// What stands in one row.
+/// What is in one row.
 fn first_part(text: &[u8]) -> &[u8]
     ensures text { result.now ≡ take 24 text.now }
     ensures few { length result.now ≤ 24 }
@@ -124,7 +124,7 @@ fn first_part(text: &[u8]) -> &[u8]
     text
 }
 
-/// What stands in further rows.
+/// What is in further rows.
 fn further_part(text: &[u8]) -> &[u8]
     ensures { result.now ≡ drop 24 text.now }
 {

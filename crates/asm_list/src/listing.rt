@@ -54,7 +54,7 @@ pub fn list_source<F: Shelf>(
     }
 }
 
-/// All rows of kept lines, by what stands after them.
+/// All rows of kept lines, by what comes after them.
 fn all_rows(
     alloc: Global,
     lines: &[KeptLine],
@@ -98,7 +98,7 @@ fn lines_before(lines: &[KeptLine], number: u32) -> &[KeptLine]
     lines
 }
 
-/// What is refused, by what stands after the lines.
+/// What is refused, by what comes after the lines.
 fn refused_by(ending: &ListedEnding) -> Option<CopyError>
     ensures { result ≡ refused_in ending.now }
 {

@@ -24,7 +24,7 @@ shown_in_order [] others = []
 shown_in_order (line ∷ before) [] = []
 shown_in_order (line ∷ before) (found ∷ others) = shown_in_order before others ++ shown_assembled line found ∷ []
 
--- The bytes of each line stand in the module's parts at the line's places: no line after it covers one of them.
+-- The bytes of each line are in the module's parts at the line's places: no line after it covers one of them.
 abbrev pub AreAtTheirPlaces : List Reference → List AssembledLine → Type 0
 AreAtTheirPlaces references found =
     (later before : List AssembledLine) (line : AssembledLine) (k : ℕ) → found ≡ later ++ line ∷ before

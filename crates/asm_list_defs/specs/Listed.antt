@@ -43,7 +43,7 @@ pub record Listing : Type 0 where
 abbrev pub placed_at : Location → Outcome → Outcome
 placed_at at found = if is_placed_in at.part then found else Nothing
 
--- what stands for itself where the second checks let it through
+-- what stands for itself if the second checks accept it
 abbrev pub found_or : Location → Result Outcome AsmCause → Outcome
 found_or at (Ok found) = placed_at at found
 found_or at (Err cause) = Nothing
@@ -79,7 +79,7 @@ names_of_line known line =
 abbrev pub listed_names : List PlacedLine → List Line → List ListedName
 listed_names all lines = flat_map (names_of_line (names lines)) (paired all (defined lines))
 
--- how many lines the checks let through
+-- how many lines the checks accept
 abbrev pub accepted_count : {A C : Type 0} → Result (List A) (Refusal C) → ℕ
 accepted_count (Ok lines) = length lines
 accepted_count (Err refusal) = refusal.line - 1
@@ -87,7 +87,7 @@ accepted_count (Err refusal) = refusal.line - 1
 abbrev pub first_answer : List PlacedLine → Result (List Line) (Refusal AsmCause)
 first_answer all = line_layout check (numbered 1 (texts all))
 
--- the copied lines that the first checks let through
+-- the copied lines that the first checks accept
 abbrev pub accepted_lines : List PlacedLine → List PlacedLine
 accepted_lines all = take (accepted_count (first_answer all)) all
 

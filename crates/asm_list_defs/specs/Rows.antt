@@ -2,7 +2,7 @@
 --
 -- Profile: a line of a source is shown by its number, right in seven columns; a blank; its place and one column for the
 -- part that it belongs to; a blank; what it places, in 24 columns; and the line. What does not fit in 24 columns stands
--- in rows below it, each with its own place and without a number. Where a line stands in another file than the line
+-- in rows below it, each with its own place and without a number. Where a line is in another file than the line
 -- before it, a row says so. The rows of the names come last.
 use Rattle.std.specs.Prelude.{ℕ, zero, suc, ◌+◌, if◌then◌else◌, Bool, true, false, List, [], ◌∷◌, ◌++◌}
 use Rattle.std.specs.Prelude.{length, take, drop, map, codes, Option, Some, None}
@@ -28,14 +28,14 @@ part_mark part.Dummy = 0x2D
 unfoldable pub place_text : Location → List ℕ
 place_text at = hex_word (to_word at.number) ++ part_mark at.part ∷ 0x20 ∷ []
 
--- Profile: a word stands in six columns by its four digits. The mark `'` follows where the loader adds the module's
+-- Profile: a word is in six columns by its four digits. The mark `'` follows where the loader adds the module's
 -- address to it, and `*` where the loader puts the value of a name that another module defines: its digits are 0.
 unfoldable pub word_text : Value → List ℕ
 word_text (Absolute number) = word_digits number ++ codes "  "
 word_text (Relocatable number) = word_digits number ++ codes "' "
 word_text (External name) = codes "0000* "
 
--- a byte stands in three columns
+-- a byte is in three columns
 unfoldable pub byte_text : ℕ → List ℕ
 byte_text byte = byte_digits byte ++ 0x20 ∷ []
 
@@ -99,7 +99,7 @@ lines_rows before (line ∷ lines) =
     file_rows before line.0.place.file ++ (line_rows line ++ lines_rows line.0.place.file lines)
 
 -- Profile: a name is shown by its value with its kind, the number of the line that defines it, and itself; and by the
--- file, where the line stands in one that is copied.
+-- file, where the line is in one that is copied.
 abbrev pub value_text : Option Value → List ℕ
 value_text (Some (Absolute number)) = hex_word number ++ codes "  absolute   "
 value_text (Some (Relocatable number)) = hex_word number ++ codes "' relocatable"

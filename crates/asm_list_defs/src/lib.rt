@@ -1,5 +1,5 @@
 //! The listing of an assembler source with the files that it copies: its lines with their places and what they place,
-//! and its names. The definitions stand in `specs/`.
+//! and its names. The definitions are in `specs/`.
 #![tactic(auto)]
 
 mod laws;

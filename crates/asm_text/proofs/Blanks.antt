@@ -1,4 +1,4 @@
--- Bytes that stand above the blanks, and above the quote: a word or an operand field goes on there.
+-- Bytes that are above the blanks, and above the quote: a word or an operand field goes on there.
 use Rattle.std.proofs.Common.{◌≡◌, ℕ, ◌+◌, ◌<◌, ◌≤◌, false, cond, not, ◌&&◌, List, length, get_or, ap, ◌∙◌, arith}
 use Rattle.std.proofs.lemmas.Bool.Decides.{nat_tests}
 use Rattle.source_defs.specs.Characters.{is_blank, is_quote}

@@ -5,7 +5,7 @@ use Rattle.std.specs.List.{list_all}
 use Rattle.std.specs.Option.{option_map}
 use Rattle.source_defs.specs.Characters.{upper_case}
 
--- a word as a number: its first letter is the lowest digit to base 256, and 1 stands above its last
+-- a word as a number: its first letter is the lowest digit to base 256, and 1 is above its last
 abbrev pub key_of : List ℕ → ℕ
 key_of [] = 1
 key_of (letter ∷ letters) = letter + 256 * key_of letters

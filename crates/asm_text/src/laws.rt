@@ -14,8 +14,8 @@ pub fn lines_of_a_text()
     ensures { LinesAreLines }
 {}
 
-/// The fields of a line stand apart in it: the label is the name from column 1 up to the first blank, in upper case;
-/// blanks alone stand between it, the operation and the operand field, and none in them but in quotes. A comment has
+/// The fields of a line are apart in it: the label is the name from column 1 up to the first blank, in upper case;
+/// blanks alone are between it, the operation and the operand field, and none in them but in quotes. A comment has
 /// no fields.
 pub fn fields_of_a_line()
     ensures { FieldsAreApart }

@@ -58,7 +58,7 @@ impl Name {
         Some(Name::of_padded(padded(bytes), bytes.len()))
     }
 
-    /// A name of the given length, which stands before zeros.
+    /// A name of the given length, which is before zeros.
     pub(crate) fn of_padded(bytes: [u8; KEPT_BYTES], len: usize) -> Name
         requires within { len ≤ 6 }
         requires padded { bytes ≡ take len bytes ++ replicate (8 - len) 0 }

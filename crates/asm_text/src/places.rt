@@ -85,7 +85,7 @@ pub(crate) fn word_end(line: &[u8], from: usize) -> usize
 {
     for at in from..line.len() {
         let byte = line[at];
-        // Most bytes stand above the blanks.
+        // Most bytes are above the blanks.
         if byte > b' ' {
             continue;
         }
@@ -104,7 +104,7 @@ pub(crate) fn operand_end(line: &[u8], start: usize) -> usize
 {
     for at in start..line.len() {
         let byte = line[at];
-        // Most bytes stand above the blanks and the quote.
+        // Most bytes are above the blanks and the quote.
         if byte > b'\'' {
             continue;
         }
@@ -118,7 +118,7 @@ pub(crate) fn operand_end(line: &[u8], start: usize) -> usize
     line.len()
 }
 
-/// The same from a place on that stands outside quotes, where no end stands before it.
+/// The same from a place on that is outside quotes, where no end is before it.
 #[tactic(auto, using(source_defs::proofs::LeastLaws::leasts, source_defs::proofs::Quotes::quoting))]
 fn quoting_end(line: &[u8], start: usize, from: usize) -> usize
     requires order { start ≤ from }

@@ -84,7 +84,7 @@ fn all_letters_or_digits(text: &[u8]) -> bool
     text.iter().all(|&byte| is_letter_or_digit(byte))
 }
 
-/// The first of some things in a table that stands after a number, as after the number of its name.
+/// The first of some things in a table that comes after a number, as after the number of its name.
 pub fn named_in<T: Copy>(table: &[(u64, T)], key: u64) -> Option<T>
     ensures { result ≡ keys.with_key (Some key) table.now }
 {

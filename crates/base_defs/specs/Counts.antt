@@ -8,7 +8,7 @@ use Rattle.std.specs.Prelude.{◌≢◌, ℕ, ◌+◌, ◌-◌, ◌^◌, ◌<◌
 abbrev pub saturating_sum : ℕ → ℕ → ℕ
 saturating_sum count by = max count (min (count + by) (2 ^ 64 - 1))
 
--- a count rose: it is greater, or stands at its last value
+-- a count rose: it is greater, or is at its last value
 abbrev pub Rose : ℕ → ℕ → Type 0
 Rose old new = new ≢ 2 ^ 64 - 1 → old < new
 

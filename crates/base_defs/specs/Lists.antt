@@ -4,11 +4,11 @@ use Rattle.std.specs.Prelude.{Option, Some, None, slice_get}
 use Rattle.std.specs.List.{zip, prefix_len, count_by, sum}
 use Rattle.std.specs.Str.{bytes_eq}
 
--- A place of two lists, by what stands there in each: the two are the same.
+-- A place of two lists, by what is there in each: the two are the same.
 abbrev pub is_same : ℕ × ℕ → Bool
 is_same place = place.0 == place.1
 
--- A place of two lists, by what stands there in each: the two differ.
+-- A place of two lists, by what is there in each: the two differ.
 abbrev pub is_different : ℕ × ℕ → Bool
 is_different place = not (is_same place)
 

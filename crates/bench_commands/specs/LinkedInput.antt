@@ -13,7 +13,7 @@ use Rattle.reports.specs.Answers.{WantsMemory, Reported, error_answer}
 abbrev pub RejectsAs : Result LinkedMemory (List ℕ) → Report → Type 0
 RejectsAs defined report = (line : List ℕ) × (defined ≡ Err line) × (report ≡ Rejected line)
 
--- what is given is what is defined; if memory ran out, nothing is said
+-- what is given is what is defined; if memory ran out, nothing is stated
 abbrev pub LinksInput : Result Linked CommandError → Result LinkedMemory (List ℕ) → Type 0
 LinksInput (Ok linked) defined = defined ≡ Ok (model_of_linked linked)
 LinksInput (Err command_error) defined = Reported (RejectsAs defined) WantsMemory (error_answer command_error)

@@ -28,7 +28,7 @@ use Rattle.reports.specs.Answers.{WantsMemory, Reported, error_answer}
 use Rattle.bench_commands.specs.Loaded.{LoadsProgram, RunsNone}
 use Rattle.reports.specs.Outputs.{Outputs, EndsWith}
 
--- The interpreter has booted on a machine, and stands before the first step of the program.
+-- The interpreter has booted on a machine, and is before the first step of the program.
 pub record Started (new : MachineState) (session : SessionState) : Type 0 where
   pub machine : IsMachine new
   pub boot : ℕ

@@ -16,7 +16,7 @@ use std::sync::ledger::{Blank, Ledger};
 use tms_step::Steps;
 use trace_dump::{Seen, StepLine, play};
 
-/// A GPL program that stands before its first step, what is seen of it, and how many steps are to be made at most.
+/// A GPL program that is before its first step, what is seen of it, and how many steps are to be made at most.
 #[derive(Drop)]
 pub struct Trace {
     pub(crate) session: Session,

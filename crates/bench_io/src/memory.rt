@@ -40,7 +40,7 @@ impl Model for MemSource {
 }
 
 impl MemSource {
-    /// A source of `bytes`, of which the calls whose numbers from 0 stand in `fails` fail.
+    /// A source of `bytes`, of which the calls whose numbers from 0 are in `fails` fail.
     pub fn new(bytes: Vec<u8>, fails: Vec<u64>) -> Self
         ensures { result
             ≡ record { left = bytes.items; calls = 0; taken = 0; empty = 0; fails = fails.items; faults = 0 } }
@@ -140,7 +140,7 @@ impl Model for MemSink {
 }
 
 impl MemSink {
-    /// An empty sink with room for `room` bytes, of which the calls whose numbers from 0 stand in `fails` fail. It
+    /// An empty sink with room for `room` bytes, of which the calls whose numbers from 0 are in `fails` fail. It
     /// takes the memory for all its room here, and none later.
     ///
     /// # Errors

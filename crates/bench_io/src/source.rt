@@ -19,7 +19,7 @@ pub trait Source {
     /// What no call of `take` changes, as the other files of a shelf.
     ghost kept: { Self → Kept };
 
-    /// Puts the next bytes into the front of `buffer` and says how many these are. 0 is the end. What stands in
+    /// Puts the next bytes into the front of `buffer` and says how many these are. 0 is the end. What is in
     /// `buffer` after them, and after a failure in all of it, is left open.
     ///
     /// # Errors

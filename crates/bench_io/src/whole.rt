@@ -19,7 +19,7 @@ pub enum ReadError {
     /// More bytes came than were asked for.
     #[error("too large")]
     TooLarge,
-    /// Memory was wanting.
+    /// Memory ran out.
     #[error("out of memory")]
     Memory,
 }

@@ -1,4 +1,4 @@
--- What opening a file of the current folder tells, as of any shelf.
+-- What the opening of a file in the current folder shows, as of any shelf.
 use Rattle.std.proofs.Common.{◌≡◌, ◌≤◌, ℕ, List, Result, Ok, Err, refl, ap, arith}
 use Rattle.std.specs.Prelude.{⊤, IfErr, OnErr, OnOk}
 use Rattle.bench_shelf.specs.declared.error.OpenError.{OpenError}

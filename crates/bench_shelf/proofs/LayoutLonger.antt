@@ -11,7 +11,7 @@ use Rattle.asm_defs.specs.FirstChecks.{check}
 abbrev pub Answer : Type 0
 Answer = Result (List Line) (Refusal AsmCause)
 
--- the refused line is one of so many from a number on, and more lines change nothing
+-- the refused line is among the lines from a number on, and more lines change nothing
 pub record Stays (number count : ℕ) (refusal : Refusal AsmCause) (longer : Answer) : Type 0 where
   pub from : number ≤ refusal.line
   pub below : refusal.line < number + count

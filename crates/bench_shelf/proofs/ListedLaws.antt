@@ -1,5 +1,6 @@
 -- The lines of a source as a listing needs them.
-use Rattle.std.proofs.Common.{◌≡◌, ℕ, ◌-◌, ◌≤◌, List, [], ◌∷◌, ◌++◌, Some, None, Ok, Err, length, map, take, refl, sym, ap, ◌∙◌, subst, arith, append_assoc, inl, inr}
+use Rattle.std.proofs.Common.{◌≡◌, ℕ, ◌-◌, ◌≤◌, List, [], ◌∷◌, ◌++◌, Some, None, Ok, Err, length, map, take, refl, sym, ap, ◌∙◌, subst, arith, append_assoc}
+use Rattle.std.proofs.Common.{inl, inr}
 use Rattle.std.specs.Prelude.{Option, Result, IfOk, IfErr}
 use Rattle.std.specs.List.{flat_map}
 use Rattle.std.proofs.Math.Seq.{take-length, take-append_seam}
@@ -146,7 +147,7 @@ is_refused Fault answer refuses reported = absurd reported
 is_refused Memory answer refuses reported = absurd reported
 
 module _ (source : List ℕ) (old new : Copying) (before after : ShelfState) (none : Holds [] old) (first : old.copies ≡ 0) (most : new.copies ≤ most_copies) where
-  -- all lines were taken, and what stands after them is the answer of the second checks
+  -- all lines were taken, and what comes after them is the answer of the second checks
   all_listed : (listed : ListedSource) (asked : ℕ) (found : Copied) (goes : GoesOn [] found new)
       → Finishes found.lines goes.holds.taken.lines (Ok listed) → asked ≡ found.copies → Lists asked listed found
   all_listed listed asked found goes (kept, finishes) number =
@@ -233,7 +234,7 @@ module _ (source : List ℕ) (old new : Copying) (before after : ShelfState) (no
           before_listed error whole listed (length found.questions) (reported_out _ error reported refused.1) kept ending reported
           (is_refused error (layout_copied whole) refused.0 reported)
 
--- an error that the definitions do not tell, and the causes of all
+-- an error without a definition, and the causes of all
 pub no_report_all : (done : List PlacedLine) (lines : List Line) (result : Result ListedSource CopyError) → Finishes done lines result → IfErr result GivesNoReport
 no_report_all done lines (Ok listed) finishes = tt
 no_report_all done lines (Err error) finishes = subst GivesNoReport (sym finishes) tt

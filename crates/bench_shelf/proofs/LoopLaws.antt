@@ -153,7 +153,7 @@ module _ {levels : ℕ} {file : Option (List ℕ)} {old now : Copying} {all left
           ends (Some error) one (ends_then error follows.questions one.questions one.ends)
           (λ contents. leads_refused now mid (line contents) (next contents) error)
 
--- the text of the first of some lines, and those of the others
+-- the text of the first of some lines, and of the others
 pub first_text : (text : List ℕ) {left rest : List TextLine} {line : TextLine} {own : List ℕ} → left ≡ line ∷ rest → own ≡ part text line.span
     → texts_of text left ≡ (line.number, own) ∷ texts_of text rest
 first_text text steps is = rw (steps, is) refl

@@ -1,5 +1,6 @@
 -- Copied lines hold no line feeds.
-use Rattle.std.proofs.Common.{◌≡◌, ℕ, zero, suc, ◌+◌, ◌-◌, ◌<◌, Bool, true, false, List, [], ◌∷◌, ◌++◌, Some, None, length, get_or, drop, length-take, refl, ap, ◌∙◌, arith}
+use Rattle.std.proofs.Common.{◌≡◌, ℕ, zero, suc, ◌+◌, ◌-◌, ◌<◌, Bool, true, false, List, [], ◌∷◌, ◌++◌, Some, None, length, get_or, drop, length-take, refl, ap}
+use Rattle.std.proofs.Common.{◌∙◌, arith}
 use Rattle.std.proofs.lemmas.List.{get_or-take, get_or-drop}
 use Rattle.std.specs.Prelude.{Option, Ok, map, nat_lt, nat_le}
 use Rattle.std.specs.Option.{ok_or}
@@ -12,7 +13,8 @@ use Rattle.source_defs.proofs.LineLaws.{lines_are_lines}
 use Rattle.source_defs.specs.EndedLines.{IsOneLine}
 use Rattle.shelf_defs.specs.CopyLines.{LineKind, Itself, File, Bad, asked}
 use Rattle.shelf_defs.specs.Files.{Contents}
-use Rattle.shelf_defs.specs.Copied.{Place, copy_line, copied_by, PlacedLine, Ending, Open, Ended, Refused, Copied, then_by, lines_in, asked_line, At, TooMany, Missing, TooLarge, either, refused, most_bytes, most_copies}
+use Rattle.shelf_defs.specs.Copied.{Place, copy_line, copied_by, PlacedLine, Ending, Open, Ended, Refused, Copied, then_by, lines_in, asked_line, At, TooMany}
+use Rattle.shelf_defs.specs.Copied.{Missing, TooLarge, either, refused, most_bytes, most_copies}
 use Rattle.bench_shelf.proofs.FileLaws.{copied_file}
 use Rattle.source_defs.specs.Refusals.{◌>>=◌, unless}
 use Rattle.shelf_defs.specs.Assembly.{texts}

@@ -1,5 +1,6 @@
 -- Places that are kept by runs.
-use Rattle.std.proofs.Common.{◌≡◌, ℕ, zero, suc, ◌+◌, ◌-◌, ◌<◌, ◌≤◌, List, [], ◌∷◌, ◌++◌, Some, length, take, drop, set, get_or, refl, sym, ap, ◌∙◌, arith, append_assoc, append-nil}
+use Rattle.std.proofs.Common.{◌≡◌, ℕ, zero, suc, ◌+◌, ◌-◌, ◌<◌, ◌≤◌, List, [], ◌∷◌, ◌++◌, Some, length, take, drop, set, get_or, refl, sym, ap, ◌∙◌, arith}
+use Rattle.std.proofs.Common.{append_assoc, append-nil}
 use Rattle.std.specs.Prelude.{Option, slice_get}
 use Rattle.std.specs.Option.{unwrap_or}
 use Rattle.std.proofs.Math.Seq.{split_at}
@@ -68,7 +69,7 @@ get_after file line (suc count) (suc left) others le =
     let next : left - count ≡ suc left - suc count = omega arith in
     get_after file (line + 1) count left others (omega (arith, le)) ∙ ap (slice_get others) next
 
--- the place that so many others of the runs stand before
+-- the place after a number of others of the runs
 abbrev pub place_at : spec.Place → List Run → ℕ → spec.Place
 place_at none runs left = unwrap_or (slice_get (places_of runs) left) none
 

@@ -1,4 +1,4 @@
--- What an answer tells of a shelf holds of an earlier shelf too.
+-- What an answer shows of a shelf holds of an earlier shelf too.
 use Rattle.std.proofs.Common.{◌≡◌, Ok, Err, arith}
 use Rattle.std.specs.Prelude.{Result, IfErr}
 use Rattle.bench_io.proofs.TakeCalls.{rose_since}

@@ -50,7 +50,7 @@ refusal_is line (cause.Form form.Memory) defined refuses = absurd refuses
 refusal_is line (cause.Form (form.Expr expr.Memory)) defined refuses = absurd refuses
 refusal_is line _ defined refuses = (refl, refuses)
 
--- what the first checks let through ends the source where it says so
+-- what the first checks accept ends the source where it says so
 last_is : (before : List Line) (number : ℕ) (text : List ℕ) (line : Line) → check before number text ≡ Ok line → line.last ≡ ends_source text
 unfolding ends_source
 last_is before number text line e =

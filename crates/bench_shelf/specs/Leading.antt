@@ -53,7 +53,7 @@ abbrev pub error_at : {A : Type 0} → Place → Result A Failure → Option Cop
 error_at place (Ok value) = None
 error_at place (Err failure) = Some (failed_at place failure)
 
--- what stands after lines is refused
+-- what comes after lines is refused
 abbrev pub IsRefusal : Ending → Type 0
 IsRefusal (Refused refusal) = ⊤
 IsRefusal other = ⊥
@@ -67,7 +67,7 @@ pub record RefusesNext (all taken : List PlacedLine) : Type 0 where
   pub number : refusal.line ≡ 1 + length taken
   pub is : line_layout check (numbered 1 (texts (taken ++ line ∷ []))) ≡ Err refusal
 
--- the lines that were taken are all up to the refusal: of what stands after them, or of the next line
+-- the lines that were taken are all up to the refusal: of what comes after them, or of the next line
 abbrev pub Halts : List PlacedLine → Ending → List PlacedLine → Type 0
 Halts all ending taken = ((all ≡ taken) × IsRefusal ending) ⊎ RefusesNext all taken
 

@@ -79,7 +79,7 @@ listed_line known kept = (model_of_kept kept, shown_of known kept)
 abbrev pub named_line : KeptLine → PlacedLine × List (List ℕ)
 named_line kept = (model_of_kept kept, names_of kept)
 
--- the lines of a listing, by what stands after the kept lines
+-- the lines of a listing, by what comes after the kept lines
 abbrev pub lines_by : List KeptLine → ListedEnding → List (PlacedLine × Shown)
 lines_by kept (Whole known) = map (listed_line (Some known)) kept
 lines_by kept (After known number error) = map (listed_line (Some known)) (take (number - 1) kept)
@@ -90,7 +90,7 @@ abbrev pub names_by : List KeptLine → ListedEnding → List ListedName
 names_by kept (Whole known) = flat_map (names_of_line known) (map named_line kept)
 names_by kept other = []
 
--- what is refused, by what stands after the kept lines
+-- what is refused, by what comes after the kept lines
 abbrev pub refused_in : ListedEnding → Option CopyError
 refused_in (Whole known) = None
 refused_in (After known number error) = Some error
@@ -106,7 +106,7 @@ abbrev pub RefusedAs : Option CopyError → Option CopyRefusal → Type 0
 RefusedAs None defined = defined ≡ None
 RefusedAs (Some error) defined = CopyRefuses error (as_result defined) × GivesReport error
 
--- The kept lines and what stands after them are the listing of copied lines. Where no line is refused by the first
+-- The kept lines and what comes after them are the listing of copied lines. Where no line is refused by the first
 -- checks, as many files were copied as were asked for.
 pub record Lists (asked : ℕ) (listed : ListedSource) (found : Copied) : Type 0 where
   pub lines : lines_by listed.lines.items listed.ending ≡ (listing_of found).lines

@@ -7,7 +7,7 @@ use Rattle.bench_shelf.specs.States.{Shelved, by_name}
 use Rattle.bench_shelf.specs.declared.error.OpenError.{OpenError}
 use Rattle.bench_shelf.specs.declared.error.OpenError.TheVariants.{Failed, Missing}
 
--- names with what stands under each, whose bytes are seen
+-- names with what is under each, whose bytes are seen
 abbrev pub named : {B : Type 0} → (B → List ℕ) → List (List ℕ × B) → List (List ℕ × List ℕ)
 named see files = map (λ file. (file.0, see file.1)) files
 

@@ -1,4 +1,4 @@
--- The places of lines that stand one after the other.
+-- The places of lines that come one after the other.
 use Rattle.std.specs.Prelude.{◌≡◌, ℕ, zero, suc, ◌+◌, ◌-◌, ◌^◌, ◌<◌, List, [], ◌∷◌, Option}
 use Rattle.std.specs.List.{flat_map}
 use Rattle.shelf_defs.specs.Copied as spec

@@ -10,7 +10,7 @@ pub enum CopyCause {
     Asm(AsmCause),
     /// A COPY line has a label, or its operand is no name of a file in quotes.
     BadCopy,
-    /// A COPY line stands in a file that is copied four deep.
+    /// A COPY line is in a file that is copied four deep.
     TooDeep,
     /// It is the 65th COPY line.
     TooMany,
@@ -24,7 +24,7 @@ pub enum CopyError {
     /// A line is refused: the first that cannot be copied or that the first checks refuse, else the first that the
     /// second checks refuse.
     At {
-        /// The file that it stands in, or `None` for the source itself.
+        /// The file that it is in, or `None` for the source itself.
         file: Option<FileName>,
         /// The number of the line there, from 1.
         line: u32,
@@ -35,6 +35,6 @@ pub enum CopyError {
     TooLarge,
     /// The shelf failed.
     Fault,
-    /// Memory was wanting.
+    /// Memory ran out.
     Memory,
 }

@@ -45,7 +45,7 @@ fn asked_for(label: Option<Name>, name: Option<FileName>) -> LineKind
     }
 }
 
-/// The name of a file that stands in quotes.
+/// The name of a file that is in quotes.
 fn quoted_name(operand: &[u8]) -> Option<FileName>
     ensures { result ≡ spec.quoted_name operand.now }
 {
@@ -56,7 +56,7 @@ fn quoted_name(operand: &[u8]) -> Option<FileName>
     }
 }
 
-/// Whether a quote stands at both ends of a text, the same at each.
+/// Whether a quote is at both ends of a text, the same at each.
 fn stands_in_quotes(text: &[u8]) -> bool
     ensures { result ≡ spec.stands_in_quotes text.now }
 {

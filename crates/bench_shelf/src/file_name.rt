@@ -111,14 +111,14 @@ fn is_file_name(bytes: &[u8]) -> bool
         && all_file_characters(bytes)
 }
 
-/// Whether each of the bytes may stand in the name of a file.
+/// Whether each of the bytes may be in the name of a file.
 fn all_file_characters(bytes: &[u8]) -> bool
     ensures { result ≡ all_file_characters bytes.now }
 {
     bytes.iter().all(|&byte| is_file_character(byte))
 }
 
-/// Whether a byte may stand in the name of a file: a letter, a digit, `.`, `_` or `-`.
+/// Whether a byte may be in the name of a file: a letter, a digit, `.`, `_` or `-`.
 fn is_file_character(byte: u8) -> bool
     ensures { result ≡ is_file_character byte }
 {

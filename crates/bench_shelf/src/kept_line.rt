@@ -3,10 +3,10 @@
 use crate::file_name::FileName;
 use asm_core::TakenLine;
 
-/// A line that the first checks let through, as a listing needs it.
+/// A line that the first checks accept, as a listing needs it.
 #[derive(Drop)]
 pub struct KeptLine {
-    /// The file that it stands in, or `None` for the source itself.
+    /// The file that it is in, or `None` for the source itself.
     pub file: Option<FileName>,
     /// The number of the line there, from 1.
     pub line: u32,

@@ -18,7 +18,7 @@ use asm_core::{AsmError, Finished};
 use asm_text::Symbols;
 use std::alloc::Global;
 
-/// What stands after the lines of a source that the first checks let through.
+/// What comes after the lines of a source that the first checks accept.
 #[derive(Drop)]
 pub enum ListedEnding {
     /// Nothing: no line is refused. The names are what each name stands for.
@@ -39,9 +39,9 @@ pub enum ListedEnding {
 /// A source with the files that it copies, as far as it is listed.
 #[derive(Drop)]
 pub struct ListedSource {
-    /// The lines that the first checks let through, in the order in which they are copied.
+    /// The lines that the first checks accept, in the order in which they are copied.
     pub lines: Vec<KeptLine>,
-    /// What stands after them.
+    /// What comes after them.
     pub ending: ListedEnding,
 }
 

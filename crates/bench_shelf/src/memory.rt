@@ -63,7 +63,7 @@ impl Model for MemShelf {
 
 impl MemShelf {
     /// A shelf of these files, of which none is open. Its calls of `open_file` and `take` are numbered together from 0,
-    /// and those whose numbers stand in `fails` fail.
+    /// and those whose numbers are in `fails` fail.
     pub fn new(files: Vec<(FileName, Vec<u8>)>, fails: Vec<u64>) -> MemShelf
         ensures { result ≡ record {
           files = named (λ bytes. bytes.items) files.items;

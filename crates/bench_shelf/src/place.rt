@@ -18,7 +18,7 @@ pub(crate) struct Place {
 }
 
 impl Place {
-    /// The error of a line that stands here.
+    /// The error of a line that is here.
     pub(crate) fn refused(self, cause: CopyCause) -> CopyError
         ensures { result ≡ refused_at self cause }
     {
@@ -29,7 +29,7 @@ impl Place {
         }
     }
 
-    /// The error of a line that stands here and was not taken.
+    /// The error of a line that is here and was not taken.
     pub(crate) fn failed(self, failure: Failure) -> CopyError
         ensures { result ≡ failed_at self failure }
     {
@@ -39,7 +39,7 @@ impl Place {
         }
     }
 
-    /// The error of a COPY line that stands here and whose file was not read.
+    /// The error of a COPY line that is here and whose file was not read.
     pub(crate) fn unread(self, error: FileError) -> CopyError
         ensures { result ≡ unread_at self error }
     {

@@ -1,4 +1,4 @@
-//! The places of lines. Those that stand one after the other are kept as one run.
+//! The places of lines. Those that come one after the other are kept as one run.
 
 ghost use Rattle.std.specs.Prelude.{◌≡◌, ◌++◌, ◌∷◌, [], OnOk, IsTrue};
 ghost use Rattle.shelf_defs.specs.Assembly.{place_of};

@@ -1,6 +1,7 @@
 //! The console's memory map, as one memory that the processor reads and writes.
 
-ghost use Rattle.std.specs.Prelude.{◌≡◌, ◌<◌, ◌≤◌, ℕ, ◌+◌, ◌-◌, ◌*◌, ◌/◌, ◌%◌, length, slice_index, slice_set, IfOk, OnErr};
+ghost use Rattle.std.specs.Prelude.{◌≡◌, ◌<◌, ◌≤◌, ℕ, ◌+◌, ◌-◌, ◌*◌, ◌/◌, ◌%◌, length, slice_index, slice_set, IfOk};
+ghost use Rattle.std.specs.Prelude.{OnErr};
 ghost use Rattle.tms_defs.specs.Words.{high, low, join, even};
 ghost use Rattle.tms_defs.specs.Bytes.{HoldsBytes, HoldsZeros, word_in, with_word_in};
 ghost use Rattle.tms_defs.specs.Accesses.{answer_of, written_by};
@@ -11,9 +12,9 @@ ghost use Rattle.console_defs.specs.Memory.{word_read, word_written};
 ghost use Rattle.console_defs.specs.Memory.{word_placed, cell_set};
 
 use crate::expansion::Expansion;
-use memory_basics::{holds_bytes, zeros};
 use byteorder::{BigEndian, ByteOrder};
 use grom_counter::Grom;
+use memory_basics::{holds_bytes, zeros};
 use std::alloc::{AllocError, Global};
 use std::marker::Model;
 use tms_defs::PortStop;
@@ -104,7 +105,7 @@ impl Bus {
         }
     }
 
-    /// The word that holds an address, as `word_at` gives it. It is for the words of instructions, which stand in the
+    /// The word that holds an address, as `word_at` gives it. It is for the words of instructions, which are in the
     /// expansion memory: its two parts are tested before all else, and first the one that is named. Which one that is
     /// has no effect but on the time.
     #[inline(always)]
@@ -299,8 +300,8 @@ impl Bus {
     }
 }
 
-/// One of the eight ports stands at the address (Editor/Assembler manual, on VDP and GROM access).
-/// Profile: each stands at one address only, and none at an odd one.
+/// One of the eight ports is at the address (Editor/Assembler manual, on VDP and GROM access).
+/// Profile: each is at one address only, and none at an odd one.
 #[inline]
 pub fn is_port(at: u16) -> bool
     ensures { result ≡ is_port_address at }

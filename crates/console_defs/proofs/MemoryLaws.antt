@@ -32,7 +32,7 @@ word_written_in (Scratchpad at) m address word = Gives (record m { scratchpad = 
 word_written_in (PortOf port) m address word = AtPort address
 word_written_in Unmapped m address word = Gives m
 
--- Where the odd address after an even one leads: no port stands there.
+-- Where the odd address after an even one leads: no port is there.
 abbrev beside : Region → Region
 beside (Rom at) = Rom (at + 1)
 beside (LowExpansion at) = LowExpansion (at + 1)
@@ -79,7 +79,7 @@ region_ports address from below =
 pub region_high : (address : ℕ) → 0xA000 ≤ address → region address ≡ HighExpansion (address - 0xA000)
 region_high address from = grind arith
 
--- No port stands at an odd address.
+-- No port is at an odd address.
 pub odd_is_no_port : (address : ℕ) → port_at (even address + 1) ≡ None
 odd_is_no_port address = grind arith
 

@@ -34,7 +34,7 @@ use Rattle.tms_defs.specs.declared.instruction.Instr.{Instr}
 use Rattle.tms_defs.specs.declared.instruction.Instr.TheVariants.{Two, Reg, Shift, One, Jump, Imm, Bare}
 use Rattle.tms_defs.specs.declared.step_end.StepEnd.{StepEnd}
 
--- An access, an operand or an instruction that is executed: it gives a value, or a port stands where it stops.
+-- An access, an operand or an instruction that is executed: it gives a value, or a port is where it stops.
 pub data Executes {X : Type 0} : Answer X → Type 0 where
   GivesValue : (x : X) → Executes (Gives x)
   MeetsPortAt : (address : ℕ) → is_port_address address ≡ true → Executes (AtPort address)
@@ -107,7 +107,7 @@ stored_executes width address number flags x = search (accesses, with_value_exec
 
 ruleset operands = (accesses, operand_executes, value_executes, stored_executes, with_words_executes)
 
--- The operations, by form; of those that are not executed nothing is said.
+-- The operations, by form; those that are not executed are left out.
 two_executes : (op : TwoOp) (width : Width) (source address : ℕ) (x : Cpu Memory) →
     Executes (two Memory console op width source address x)
 two_executes SZC width source address x = search operands

@@ -27,7 +27,7 @@ refusal x =
       | NoInstruction ↦ None
     ]
 
--- Where a step ended at a port, one of the eight ports stands at its address.
+-- Where a step ended at a port, one of the eight ports is at its address.
 abbrev pub MeetsPort : StepEnd → Type 0
 MeetsPort (Done word) = Unit {0}
 MeetsPort (Refused address) = Unit {0}

@@ -19,7 +19,7 @@ pub record IsGrom (grom : GromState) : Type 0 where
   pub counter : grom.counter < 65536
   pub fetched : grom.fetched < 256
 
--- Profile: new GROMs stand at address 0, with 0 as the fetched byte.
+-- Profile: new GROMs are at address 0, with 0 as the fetched byte.
 abbrev pub new_grom : List ℕ → GromState
 new_grom image = record { image = image; counter = 0; fetched = 0; half_written = false }
 

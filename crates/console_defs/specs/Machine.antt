@@ -57,7 +57,7 @@ abbrev pub steps : ℕ → MachineState → Answer MachineState
 steps zero x = Gives x
 steps (suc count) x = done_step x >>= steps count
 
--- What is said where a step executed no instruction.
+-- The answer of a step that executed no instruction.
 abbrev pub WhereStopped : StepEnd → Type 0 → Type 0
 WhereStopped (Done word) parsed = Unit {0}
 WhereStopped (Refused address) parsed = parsed

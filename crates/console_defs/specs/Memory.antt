@@ -36,7 +36,7 @@ pub record IsNewMemory (memory : Memory) (vdp : VdpState) (grom : GromState) : T
   pub vdp_given : memory.vdp ≡ vdp
   pub grom_given : memory.grom ≡ grom
 
--- The eight ports that stand in the memory map.
+-- The eight ports that are in the memory map.
 -- Editor/Assembler manual, on VDP and GROM access.
 pub data Port : Type 0 where
   VdpDataRead : Port
@@ -50,7 +50,7 @@ pub data Port : Type 0 where
 
 -- The ports and their addresses.
 -- Editor/Assembler manual, on VDP and GROM access.
--- Profile: each port stands at one address only, and none at an odd one.
+-- Profile: each port is at one address only, and none at an odd one.
 abbrev pub ports : List (ℕ × Port)
 ports =
     (0x8800, VdpDataRead)
@@ -63,7 +63,7 @@ ports =
     ∷ (0x9C02, GromAddressWrite)
     ∷ []
 
--- The first of some ports that stands at an address.
+-- The first of some ports that is at an address.
 abbrev pub port_among : List (ℕ × Port) → ℕ → Option Port
 port_among [] address = None
 port_among (port ∷ others) address = if address == port.0 then Some port.1 else port_among others address
@@ -98,7 +98,7 @@ region address =
     else if nat_lt address 0xA000 then port_region (port_at address)
     else HighExpansion (address - 0xA000)
 
--- A port stands at the address.
+-- A port is at the address.
 abbrev pub is_port_region : Region → Bool
 is_port_region (PortOf port) = true
 is_port_region _ = false

@@ -1,5 +1,5 @@
 -- Where a run of steps ends.
--- Profile: a run has five ends: its program counter stands at the address that ends it; as many instructions were
+-- Profile: a run has five ends: its program counter is at the address that ends it; as many instructions were
 -- executed as its limit says; a step is refused; a step meets a port; a jump to itself was executed.
 use Rattle.std.specs.Prelude.{◌≡◌, ◌<◌, ℕ, zero, suc, ◌==◌, Bool, false, if◌then◌else◌, Option, Some, None}
 use Rattle.console_defs.specs.Machine.{MachineState, machine_step}
@@ -8,7 +8,7 @@ use Rattle.tms_defs.specs.declared.step_end.StepEnd.TheVariants.{Done, Refused, 
 use Rattle.console_defs.specs.declared.run_end.RunEnd.{RunEnd}
 use Rattle.console_defs.specs.declared.run_end.RunEnd.TheVariants as run
 
--- The program counter stands at the address that ends the run, where there is one.
+-- The program counter is at the address that ends the run, where there is one.
 abbrev pub is_reached : Option ℕ → ℕ → Bool
 is_reached None pc = false
 is_reached (Some stop) pc = pc == stop

@@ -3,7 +3,7 @@
 /// How a run of steps ends.
 #[derive(Clone, Copy, Debug, PartialEq, Eq)]
 pub enum RunEnd {
-    /// The program counter stands at the address that ends the run.
+    /// The program counter is at the address that ends the run.
     Reached,
     /// As many instructions were executed as the limit says.
     Limit,

@@ -35,7 +35,7 @@ pub by_refusal : (limit : ℕ) (input : List ℕ) (o : Outputs) (answer : Result
 by_refusal limit input o (Ok report) end is ends = inl (Ok report, rejects limit (linked_input input) report is, ends)
 by_refusal limit input o (Err own) end is ends = inl (Err own, is, ends)
 
--- memory was wanting
+-- memory ran out
 pub by_memory : (limit : ℕ) (input : List ℕ) (o : Outputs) (end : Status) → Ends o (Err status.Memory) end → EndsInstructions limit input o end
 by_memory limit input o end ends = inl (Err status.Memory, refl, ends)
 

@@ -8,7 +8,7 @@ use Rattle.machine_change_defs.specs.Reports.{StepsReport, StepsFront}
 use Rattle.reports.specs.Outputs.{Outputs, MissedReport}
 use Rattle.reports.specs.Answers.{WantsMemory, Reported, Ends}
 
--- there is a report, or memory was wanting, and the run ended as its writing
+-- there is a report, or memory ran out, and the run ended as its writing
 abbrev pub EndsWhole : ℕ → List ℕ → Outputs → Status → Type 0
 EndsWhole limit input o end =
     (answer : Result Report Status) × Reported (StepsReport limit (linked_input input)) WantsMemory answer

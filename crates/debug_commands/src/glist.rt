@@ -11,7 +11,7 @@ use bench_io::Sink;
 use gpl_list::{GplListing, list_source};
 use report_defs::Status;
 use report_lines::gpl_line;
-use reports::{finish, end_with_line};
+use reports::{end_with_line, finish};
 use std::alloc::Global;
 
 /// Lists a GPL source. Of one that is refused the lines before the refused one are written, and then its fault line.

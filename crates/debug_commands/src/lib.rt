@@ -6,9 +6,9 @@ mod glist;
 mod grun;
 mod gsteps;
 mod list;
+mod processor_steps;
 mod running;
 mod shown;
-mod processor_steps;
 mod streams;
 mod words;
 

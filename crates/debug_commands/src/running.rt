@@ -12,15 +12,15 @@ use crate::glist::glist;
 use crate::grun::grun;
 use crate::gsteps::gsteps;
 use crate::list::list;
+use crate::steps;
 use crate::words::{read_debug_command, usage};
 use bench_io::{Sink, Source, read_all};
 use bench_shelf::Shelf;
 use command_words::Words;
 use debug_report_defs::DebugCommand;
 use report_defs::{LARGEST_INPUT, Status};
-use reports::{finish, end_with_line};
+use reports::{end_with_line, finish};
 use std::alloc::Global;
-use crate::steps;
 
 /// Runs the command that the words say. It reads all of `input` before it writes, and `list` reads the files that the
 /// source copies from `shelf` then. It writes the report to `out`, or a fault line or the usage line to `err`, and

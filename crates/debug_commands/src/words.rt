@@ -64,7 +64,7 @@ fn gcounts_command(word: &[u8]) -> Option<DebugCommand>
     Some(DebugCommand::Gcounts { limit })
 }
 
-/// The number of steps that a word spells, of which the interpreter may make so many.
+/// The number of steps that a word spells, within what the interpreter may make.
 fn shown_steps(word: &[u8]) -> Option<u32>
     ensures number { result ≡ words.number_word most_shown_steps word.now }
     ensures limit { IfSome result (λ limit. limit ≤ most_shown_steps) }

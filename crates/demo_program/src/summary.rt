@@ -88,7 +88,7 @@ fn ended_line(ended: Option<Reason>) -> Line
     line_of(ended_text(ended))
 }
 
-/// What is said of why a program ended, with its line feed.
+/// The text of why a program ended, with its line feed.
 fn ended_text(ended: Option<Reason>) -> &'static [u8]
     ensures text { result.now ≡ spec.ended_line ended }
     ensures short { length result.now ≤ 8 }

@@ -6,7 +6,7 @@ ghost use Rattle.report_defs.specs.DemoText as spec;
 use crate::block::{block_line, next_number};
 use std::alloc::{AllocError, Global};
 
-/// What stands after the blocks: the program leaves, and its subroutine follows.
+/// What comes after the blocks: the program leaves, and its subroutine follows.
 const LAST_LINES: &[u8] = b"       EXIT\nSUB    XOR @>8340,>5A\n       RTN\n       END >6000\n";
 
 /// The GPL source that is made from a number: as many blocks of one line, and then the end of the program and its

@@ -6,7 +6,7 @@ use Rattle.source_defs.specs.Characters.{is_quote}
 use Rattle.expression_defs.specs.Expression.{Absolute, characters_after, characters_value}
 use Rattle.expression_defs.specs.declared.causes.ExprError.TheVariants.{BadToken}
 
--- the first character, where two quotes are one, and what stands after it
+-- the first character, where two quotes are one, and what comes after it
 abbrev pub first_character : List ℕ → Option (ℕ × List ℕ)
 first_character text =
     if length text == 0 then None

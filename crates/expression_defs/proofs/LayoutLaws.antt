@@ -1,4 +1,4 @@
--- Lines that are laid one after the other, for any assembler.
+-- Lines that are placed one after the other, for any assembler.
 use Rattle.std.proofs.Common.{◌≡◌, ℕ, ◌+◌, Bool, true, false, ◌||◌, List, [], ◌∷◌, ◌++◌, Ok, Err, length, refl, sym, ap, ◌∙◌, arith}
 use Rattle.std.specs.Prelude.{Result, if◌then◌else◌, map, ⊤}
 use Rattle.source_defs.specs.declared.text.Line.{Line as TextLine}
@@ -54,7 +54,8 @@ module _ {P S C : Type 0} (check : List (LayoutLine P S) → ℕ → List ℕ �
     end_by before (Ok found) = either found.last (found ∷ before)
     end_by before (Err refusal) = refl
 
-    step_by : (before : List (LayoutLine P S)) (rest more : List (ℕ × List ℕ)) (whole : Answer) (lines : List (LayoutLine P S)) (found : LayoutLine P S) (b : Bool)
+    step_by : (before : List (LayoutLine P S)) (rest more : List (ℕ × List ℕ)) (whole : Answer) (lines : List (LayoutLine P S)) (found : LayoutLine P S)
+        (b : Bool)
         → found.last ≡ b → answers (if b then Ok (found ∷ before) else layout_after check (found ∷ before) rest) (Ok lines) → has_ended lines ≡ false
         → (layout_after check (found ∷ before) rest ≡ Ok lines → layout_after check (found ∷ before) more ≡ whole)
         → answers (if b then Ok (found ∷ before) else layout_after check (found ∷ before) more) whole
@@ -64,7 +65,8 @@ module _ {P S C : Type 0} (check : List (LayoutLine P S) → ℕ → List ℕ �
         cc (ended, going)
     step_by before rest more whole lines found false last is going next = next is
 
-    step : (before : List (LayoutLine P S)) (rest more : List (ℕ × List ℕ)) (whole : Answer) (lines : List (LayoutLine P S)) (answer : Result (LayoutLine P S) (Refusal C))
+    step : (before : List (LayoutLine P S)) (rest more : List (ℕ × List ℕ)) (whole : Answer) (lines : List (LayoutLine P S))
+        (answer : Result (LayoutLine P S) (Refusal C))
         → answers (answer >>= after_line before rest) (Ok lines) → has_ended lines ≡ false
         → ((found : LayoutLine P S) → layout_after check (found ∷ before) rest ≡ Ok lines → layout_after check (found ∷ before) more ≡ whole)
         → answers (answer >>= after_line before more) whole
@@ -95,7 +97,8 @@ module _ {P S C : Type 0} (check : List (LayoutLine P S) → ℕ → List ℕ �
     pub refused_there : (cause : C) → check before (length before + 1) (part text line.span) ≡ Err cause → left ≡ Err (record { line = length before + 1; cause = cause })
     refused_there cause e = rw (there (Err cause) e) (ap (λ number. Err (record { line = number; cause = cause })) is)
 
-    pub ends_there : (found : LayoutLine P S) → check before (length before + 1) (part text line.span) ≡ Ok found → found.last ≡ true → left ≡ Ok (found ∷ before)
+    pub ends_there : (found : LayoutLine P S) → check before (length before + 1) (part text line.span) ≡ Ok found → found.last ≡ true
+        → left ≡ Ok (found ∷ before)
     ends_there found e last = rw (there (Ok found) e) (rw last refl)
 
     pub goes_on : (found : LayoutLine P S) → check before (length before + 1) (part text line.span) ≡ Ok found → found.last ≡ false

@@ -12,7 +12,8 @@ use Rattle.source_defs.specs.Names.{is_letter_or_digit}
 use Rattle.source_defs.specs.Numbers.{hexadecimal_number}
 use Rattle.source_defs.specs.Fields.{in_quotes}
 use Rattle.source_defs.specs.Least.{least_place}
-use Rattle.expression_defs.specs.Tokens.{Kind, Name, Here, Text, Sign, Token, token_to, number_token, digits_end, hexadecimal_end, name_end, ends_text, text_end}
+use Rattle.expression_defs.specs.Tokens.{Kind, Name, Here, Text, Sign, Token, token_to, number_token, digits_end, hexadecimal_end, name_end, ends_text}
+use Rattle.expression_defs.specs.Tokens.{text_end}
 use Rattle.expression_defs.specs.Tokens.{decimal_token, hexadecimal_token, name_token, text_token, is_location_sign, is_operator, token_at, tokens, tokens_from}
 use Rattle.expression_defs.specs.TokenLaw.{Follow}
 use Rattle.source_defs.proofs.LeastLaws.{least_places_are_least, least_place-ge, least_place-le}

@@ -2,7 +2,7 @@
 --
 -- Editor/Assembler manual, "Expressions": an optional minus sign and a term, then operators with terms, which are taken
 -- from left to right without precedence.
--- Profile: the first refusal from the left is the expression's, and a term's own refusal stands before the refusal of
+-- Profile: the first refusal from the left is the expression's, and a term's own refusal is before the refusal of
 -- joining it.
 use Rattle.std.specs.Prelude.{ℕ, ◌+◌, ◌-◌, ◌*◌, ◌/◌, ◌%◌, ◌==◌, Bool, false, not, ◌&&◌, nat_le, if◌then◌else◌, List}
 use Rattle.std.specs.Prelude.{[], ◌∷◌, length, slice_range, Option, Some, None, Result, Ok, Err}
@@ -94,7 +94,7 @@ characters_after quote (byte ∷ bytes) =
     let others = characters_after (is_quote byte && not quote) bytes in
     if is_quote byte && quote then others else byte ∷ others
 
--- what stands between the quotes of a text
+-- what is between the quotes of a text
 abbrev pub between_quotes : List ℕ → List ℕ
 between_quotes quoted = slice_range quoted 1 (length quoted - 1)
 
@@ -102,7 +102,7 @@ between_quotes quoted = slice_range quoted 1 (length quoted - 1)
 abbrev pub characters : List ℕ → List ℕ
 characters quoted = characters_after false (between_quotes quoted)
 
--- Editor/Assembler manual, "Constants": one or two characters; one character stands in the low byte.
+-- Editor/Assembler manual, "Constants": one or two characters; one character is in the low byte.
 abbrev pub characters_value : List ℕ → Result Value ExprError
 characters_value (low ∷ []) = Ok (Absolute low)
 characters_value (high ∷ low ∷ []) = Ok (Absolute (high * 256 + low))
@@ -146,7 +146,7 @@ module _ (look : List ℕ → Option Value) (here : Value) (text : List ℕ) whe
     total ← joined by total next
     value_with total others
 
-  -- a minus sign, and what stands after it
+  -- a minus sign, and what comes after it
   abbrev pub minus_value : List Token → Result Value ExprError
   minus_value [] = Err BadToken
   minus_value (term ∷ others) = do

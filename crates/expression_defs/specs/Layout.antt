@@ -1,6 +1,6 @@
 -- Where the lines of a source are placed, for any assembler.
 --
--- Profile: the first checks judge a line by the lines before it, of which the nearest stands first. The second
+-- Profile: the first checks judge a line by the lines before it, of which the nearest comes first. The second
 -- checks are made only where the first refuse no line, and see the names of all lines.
 use Rattle.std.specs.Prelude.{ℕ, ◌+◌, if◌then◌else◌, Bool, false, ◌||◌, List, [], ◌∷◌, Option, Some, None, Result}
 use Rattle.std.specs.Prelude.{Ok, is_some}
@@ -10,7 +10,7 @@ use Rattle.expression_defs.specs.Expression.{Value}
 use Rattle.expression_defs.specs.Symbols.{Names}
 
 -- What a line comes to by its first checks: its number; the location that it sets, if it sets one; the bytes that are
--- left free before it, so that it stands at an even place; its size; the names that it defines; what it says; and
+-- left free before it, so that it is at an even place; its size; the names that it defines; what it says; and
 -- whether the source ends with it.
 pub record LayoutLine (P S : Type 0) : Type 0 where
   pub number : ℕ

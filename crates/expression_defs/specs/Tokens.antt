@@ -1,7 +1,7 @@
 -- The tokens of an expression.
 --
 -- Profile: the tokens of the whole expression are read first, from the left, and the first bad place is refused before
--- any term is valued. No blank stands between tokens.
+-- any term is valued. No blank is between tokens.
 use Rattle.std.specs.Prelude.{
   ℕ,
   zero,
@@ -46,7 +46,7 @@ pub data Kind : Type 0 where
   Text : Kind
   Sign : ℕ → Kind
 
--- a token and where it stands; a quoted text stands there with its quotes
+-- a token and where it stands; a quoted text is there with its quotes
 pub record Token : Type 0 where
   pub kind : Kind
   pub span : Span

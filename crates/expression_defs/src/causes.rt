@@ -13,6 +13,6 @@ pub enum ExprError {
     TooLarge,
     /// A division by zero.
     DivideByZero,
-    /// Memory was wanting.
+    /// Memory ran out.
     Memory,
 }

@@ -11,7 +11,7 @@ abbrev pub ReportsRefused : {B : Type 0} → Result B FilesRefusal → Report �
 ReportsRefused defined report =
     (refusal : FilesRefusal) × (defined ≡ Err refusal) × (report ≡ files_report (Err refusal))
 
--- what is found is what is defined, or the reason why there is none; if memory ran out, nothing is said
+-- what is found is what is defined, or the reason why there is none; if memory ran out, nothing is stated
 abbrev pub GivesModules : {A B : Type 0} → (A → B) → Result A CommandError → Result B FilesRefusal → Type 0
 GivesModules see (Ok value) defined = defined ≡ Ok (see value)
 GivesModules see (Err command_error) defined =

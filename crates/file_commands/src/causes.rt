@@ -37,7 +37,7 @@ pub fn copy_line(file: Option<FileName>, line: u32, cause: CopyCause) -> Line
     in_file(file, cause_line(line, cause).as_slice())
 }
 
-/// What is said of a refused line, by its number.
+/// The text of a refused line, by its number.
 fn cause_line(number: u32, cause: CopyCause) -> Line
     ensures line { result.items ≡ faults.refusal_line number (spec.copy_cause_text (model_of_cause cause)) }
     ensures short { array_vec_len result ≤ 128 }
@@ -51,7 +51,7 @@ fn cause_line(number: u32, cause: CopyCause) -> Line
     }
 }
 
-/// What is said of a COPY line that names no file.
+/// The text of a COPY line that names no file.
 #[tactic(auto, using(std::proofs::Common::append_assoc), unfolding(report_defs::specs::FaultLine::refusal_line))]
 fn missing_copy_line(number: u32, name: &FileName) -> Line
     ensures line { result.items ≡ faults.refusal_line number (spec.missing_text name.now) }

@@ -43,7 +43,8 @@ module _ (lines : List Line) (builder new : GplLines) (is : IsAfter lines builde
       let there : is_full (location lines) Nothing ≡ false = ap (λ (at : Location). is_full at Nothing) (sym is.location) ∙ fits in
       let here : builder.location.number + 0 ≡ builder.location.number = omega arith in (
         line_of (location lines) (length lines + 1) nothing_checked,
-        ap (λ answer. answer >>= λ found. Ok (line_of (location lines) (length lines + 1) found)) (nothing_parsed (names lines) (location lines) text none there),
+        ap (λ answer. answer >>= λ found. Ok (line_of (location lines) (length lines + 1) found))
+            (nothing_parsed (names lines) (location lines) text none there),
         is_after lines builder is nothing_checked None new nothing_comes refl (record {
           waiting = counts.lists.waiting ∙ sym (append-nil builder.waiting.items);
           names = counts.lists.names;

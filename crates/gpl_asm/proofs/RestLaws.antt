@@ -10,7 +10,7 @@ use Rattle.gpl_source_defs.specs.SecondChecks.{outcome}
 use Rattle.gpl_source_defs.specs.Growing.{is_unresolved}
 use Rattle.gpl_source_defs.proofs.GrowingLaws.{outcome_stays, parse_stays}
 
--- a line that is read again says what it said, and comes to what it comes to
+-- a line that is read again has the same statement and the same outcome
 pub open_again : (known later : Names) (at : Location) (text : List ℕ) (statement : Statement) → Grows known later → parsed known at text ≡ Ok statement
     → (parsed later at text >>= λ statement. outcome (look_up later) at statement) ≡ outcome (look_up later) at statement
 open_again known later at text statement grows e =

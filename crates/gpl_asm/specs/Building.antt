@@ -23,7 +23,7 @@ built_of found = record { image = image found; entry = entry found }
 abbrev pub whole : Names → List Line → Result Built (Refusal GplCause)
 whole later lines = assembled_lines (assembled_line later) lines >>= λ found. Ok (built_of found)
 
--- the builder after lines, of which the nearest stands first
+-- the builder after lines, of which the nearest comes first
 pub record IsAfter (lines : List Line) (builder : GplLines) : Type 0 where
   pub names : builder.symbols ≡ names lines
   pub location : builder.location ≡ location lines

@@ -15,7 +15,7 @@ use Rattle.gpl_asm.specs.Building.{HasAccepted}
 abbrev pub model_of_program : GplProgram → Program
 model_of_program program = record { image = program.image; entry = program.entry; names = program.names }
 
--- the program that is defined, or the refused line; if memory ran out, nothing is said
+-- the program that is defined, or the refused line; if memory ran out, nothing is stated
 abbrev pub GivesProgram : Result GplProgram GplError → Result Program (Refusal GplCause) → Type 0
 GivesProgram (Ok found) defined = defined ≡ Ok (model_of_program found)
 GivesProgram (Err error) defined = RefusesAt error defined

@@ -18,7 +18,7 @@ pub enum GplError {
         /// What is wrong with it.
         cause: GplCause,
     },
-    /// Memory was wanting.
+    /// Memory ran out.
     Memory,
 }
 

@@ -21,7 +21,7 @@ use gpl_lines::{Failure, Outcome, Scope, Statement};
 use gpl_source_defs::GplCause;
 use std::alloc::AllocError;
 
-/// Assembles a line that the first checks let through by the names that are known: what is left of it for the second
+/// Assembles a line that the first checks accept by the names that are known: what is left of it for the second
 /// pass; none where it comes to nothing.
 #[tactic(auto, using(crate::proofs::RestLaws::open_again, crate::proofs::RestLaws::closed_again))]
 pub(crate) fn assemble_line(

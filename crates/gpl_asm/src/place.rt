@@ -15,7 +15,7 @@ use gpl_source_defs::{GplCause, Location};
 /// byte of it was placed before.
 ///
 /// # Errors
-/// `Overlap` comes exactly where a byte of the line stands at an address at which one was placed; then the image is as
+/// `Overlap` comes exactly where a byte of the line is at an address at which one was placed; then the image is as
 /// before.
 pub fn put(
     image: &mut GromImage,
@@ -38,7 +38,7 @@ pub fn put(
     }
 }
 
-/// Whether one of some bytes from an address on stands where one was placed.
+/// Whether one of some bytes from an address on is where one was placed.
 fn overlaps(image: &GromImage, at: u32, bytes: &[u8]) -> bool
     requires { at + length bytes.now ≤ 65536 }
     ensures { result ≡ overlaps image.now at bytes.now }

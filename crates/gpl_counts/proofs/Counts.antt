@@ -34,7 +34,7 @@ run_made (suc limit) s (suc i) within = by (λ next below. run_made limit next i
     by go (Ok next) is within = let r = go next (omega (arith, within)) in (omega (arith, r.0), r.1)
     by go (Err reason) is within = absurd (omega (arith, within))
 
--- so many turns were made, or one more
+-- the turns that were made, or one more
 pub turns_least : (stop : Option Reason) (done : ℕ) → done ≤ turns_made stop done
 turns_least None done = omega arith
 turns_least (Some reason) done = omega arith

@@ -3,7 +3,7 @@
 ghost use Rattle.gpl_counts.specs.Laws.{CountsAreBounded, CountsAreInstructions, OneReportOfCounts};
 
 /// The count of the machine after any number of steps is the number of instructions that lead to it from boot, and the
-/// machine is the one that is left of a run of so many steps.
+/// machine is the one that a run of as many steps leaves.
 #[tactic(auto, using(crate::proofs::Bounds::counts_are_instructions))]
 pub fn counts_are_instructions()
     ensures { CountsAreInstructions }

@@ -1,4 +1,4 @@
--- Bytes that stand after one another in a GROM.
+-- Bytes that come after one another in a GROM.
 use Rattle.std.proofs.Common.{ℕ, List, [], ◌∷◌, ◌++◌, refl}
 use Rattle.base_defs.specs.Addresses.{next_in_grom}
 use Rattle.gpl_defs.specs.Spellings.{AreBytesAt, Holds, Joined}

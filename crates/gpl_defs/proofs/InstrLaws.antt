@@ -199,7 +199,7 @@ instr_back image (Move count to source) at next valid holds fits =
     word_bit (is_counted count) _ (let few = one_if_few (is_counted count) in grind (arith, nat_tests, fits)) in
     rw bit (move_back image count to source at next valid holds)
 
--- what stands there means the instruction alone
+-- what is there means the instruction alone
 pub means_back : (image : List ℕ) (at : ℕ) (instr : GplInstr) (next : ℕ) → Means image at instr next →
     reading image at ≡ Instr instr next
 unfolding reading

@@ -38,7 +38,7 @@ reads image at operation bytes row =
       };
     }
 
--- what is read at an address is what stands there
+-- what is read at an address is what is there
 pub reading_means : (image : List ℕ) (at : ℕ) → ((k : ℕ) → slice_index image k < 256) →
     IsReadAt image at (reading image at)
 unfolding reading

@@ -39,7 +39,7 @@ abbrev pub form_bits : GplOperand → ℕ
 form_bits operand =
     0x80 + one_if (is_some operand.index) * 0x40 + one_if (is_vdp operand.space) * 0x20 + one_if operand.indirect * 0x10
 
--- Profile: the index byte stands at the end of its operand.
+-- Profile: the index byte is at the end of its operand.
 abbrev pub index_bytes : Option ℕ → List ℕ
 index_bytes None = []
 index_bytes (Some index) = index ∷ []
@@ -144,7 +144,7 @@ variant_of _ = 0
 abbrev pub code_of : GplInstr → ℕ
 code_of instr = (row_of (operation_of instr)).code + variant_of instr
 
--- The bytes after the code byte. GPL Programmer's Guide, the statements: the destination stands first.
+-- The bytes after the code byte. GPL Programmer's Guide, the statements: the destination comes first.
 -- Profile: MOVE has its length, then its target, then its source.
 abbrev pub rest_of : GplInstr → List ℕ
 rest_of (Plain op) = []

@@ -1,4 +1,4 @@
--- What stands at an address of GROM.
+-- What is at an address of GROM.
 use Rattle.std.specs.Prelude.{◌≡◌, ℕ, ◌/◌, ◌%◌, ◌==◌, ◌&&◌, Bool, true, false, nat_lt, if◌then◌else◌, List, [], ◌∷◌}
 use Rattle.std.specs.Prelude.{slice_index, Option, Some, None}
 use Rattle.tms_defs.specs.Words.{join}
@@ -16,7 +16,8 @@ use Rattle.gpl_defs.specs.declared.instruction.MoveTarget.TheVariants as target
 use Rattle.gpl_defs.specs.declared.instruction.MoveSource.{MoveSource}
 use Rattle.gpl_defs.specs.declared.instruction.MoveSource.TheVariants as from
 use Rattle.gpl_defs.specs.declared.instruction.MoveKind.{MoveKind}
-use Rattle.gpl_defs.specs.declared.instruction.MoveKind.TheVariants.{GromIndexedToMemory, MemoryToMemory, GromToRegisters}
+use Rattle.gpl_defs.specs.declared.instruction.MoveKind.TheVariants.{GromIndexedToMemory, MemoryToMemory}
+use Rattle.gpl_defs.specs.declared.instruction.MoveKind.TheVariants.{GromToRegisters}
 use Rattle.gpl_defs.specs.declared.instruction.GplInstr.{GplInstr}
 use Rattle.gpl_defs.specs.declared.instruction.GplInstr.TheVariants.{Plain, Byte, Jump, Branch, One, Two, Move}
 use Rattle.gpl_defs.specs.declared.instruction.GplOperation.{GplOperation}
@@ -69,7 +70,7 @@ abbrev pub plain_operand : ℕ → GplOperand
 plain_operand address = record { space = Cpu; indirect = false; address = address; index = None }
 
 -- An operand: a byte below >80 is an offset of the scratchpad; of another, the bits >40, >20 and >10 are an index,
--- video memory and an indirect address. The index stands last.
+-- video memory and an indirect address. The index comes last.
 -- Profile: the bits of an operand's first byte, as `Bytes` writes them.
 unfoldable pub operand_at : Read GplOperand
 operand_at = do
@@ -142,7 +143,7 @@ unfoldable pub reading : List ℕ → ℕ → GplRead
 reading image at =
     read_by (operation_at (slice_index image at)) (slice_index image at) image (next_in_grom at)
 
--- whether these bytes stand from an address on, one after the other in one GROM
+-- whether these bytes begin at an address, one after the other in one GROM
 abbrev pub are_bytes_at : List ℕ → List ℕ → ℕ → Bool
 are_bytes_at image [] at = true
 are_bytes_at image (byte ∷ bytes) at = (slice_index image at == byte) && are_bytes_at image bytes (next_in_grom at)
@@ -151,7 +152,7 @@ abbrev pub is_shortest_by : List ℕ → ℕ → GplRead → Bool
 is_shortest_by image at (Instr instr next) = are_bytes_at image (bytes_of instr) at
 is_shortest_by image at (Refused code) = false
 
--- whether an instruction stands at an address in its shortest spelling
+-- whether an instruction is at an address in its shortest spelling
 abbrev pub is_shortest : List ℕ → ℕ → Bool
 is_shortest image at = is_shortest_by image at (reading image at)
 

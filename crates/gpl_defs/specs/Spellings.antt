@@ -73,7 +73,7 @@ SpellsFrom (from.At operand) bytes = SpellsOperand operand bytes
 SpellsFrom (from.Grom address) bytes = bytes ≡ from_bytes (from.Grom address)
 SpellsFrom (from.GromIndexed address index) bytes = bytes ≡ from_bytes (from.GromIndexed address index)
 
--- The bytes after the code byte. GPL Programmer's Guide, the statements: the destination stands first.
+-- The bytes after the code byte. GPL Programmer's Guide, the statements: the destination comes first.
 -- Profile: MOVE has its length, then its target, then its source.
 abbrev pub SpellsRest : GplInstr → List ℕ → Type 0
 SpellsRest (Plain op) bytes = bytes ≡ []
@@ -114,7 +114,7 @@ pub record IsShortest (instr : GplInstr) (bytes : List ℕ) : Type 0 where
   pub fewest : (other : List ℕ) → Spells instr other → length bytes ≤ length other
   pub alone : (other : List ℕ) → Spells instr other → length other ≡ length bytes → other ≡ bytes
 
--- The law, which is proved: what stands at an address means one instruction at most.
+-- The law, which is proved: what is at an address means one instruction at most.
 abbrev pub OneMeaning : Type 0
 OneMeaning =
     (image : List ℕ) (at : ℕ) (instr other : GplInstr) (next after : ℕ) → Means image at instr next →

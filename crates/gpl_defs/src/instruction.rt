@@ -25,7 +25,7 @@ pub struct GplOperand {
 /// The second operand of an instruction that has two.
 #[derive(Clone, Copy, Debug, PartialEq, Eq)]
 pub enum GplSource {
-    /// What stands in memory.
+    /// What is in memory.
     At(GplOperand),
     /// The value itself: up to 255 where the instruction is one of bytes.
     Immediate(u16),
@@ -197,7 +197,7 @@ pub enum GplInstr {
     },
 }
 
-/// What stands at an address of GROM.
+/// What is at an address of GROM.
 #[derive(Clone, Copy, Debug, PartialEq, Eq)]
 pub enum GplRead {
     /// An instruction, and the address after its bytes in the same GROM.

@@ -10,7 +10,7 @@ use Rattle.gpl_forms.specs.Sizes.{size_between}
 use Rattle.gpl_forms.proofs.SizeLaws.{are_bytes_by_size}
 use Rattle.gpl_listing_defs.specs.Listing.{boundary, byte_listed, instr_listed, listed_at}
 
--- whether so many bytes are a whole instruction in its shortest spelling
+-- whether a number of bytes are a whole instruction in its shortest spelling
 abbrev pub is_whole_by : ℕ → ℕ → ℕ → ℕ → Bool
 is_whole_by at next end size = (size == size_between at next) && nat_le (at + size) (min end (boundary at))
 

@@ -9,8 +9,8 @@ ghost use Rattle.gpl_listing_defs.specs.Listing as spec;
 
 use crate::text::{push_byte_text, push_instr};
 use arrayvec::ArrayString;
-use gpl_forms::{GplInstr, GplRead, read_instr, size_between, size_of};
 use base_defs::GROM_SIZE;
+use gpl_forms::{GplInstr, GplRead, read_instr, size_between, size_of};
 
 /// A line, with room for its line feed.
 pub(crate) type Line = ArrayString<80>;
@@ -19,7 +19,7 @@ pub(crate) type Line = ArrayString<80>;
 pub(crate) const MARGIN: &str = "       ";
 
 /// The line of the byte at the address `at` of 65,536 bytes, and the address after the bytes that it stands for. That
-/// is an instruction where a whole one stands there in its shortest spelling and ends in its GROM and at or before
+/// is an instruction where a whole one is there in its shortest spelling and ends in its GROM and at or before
 /// the address `end`; where that is not so, it is BYTE with the byte. The line has no line feed.
 pub fn list_line(image: &[u8], at: u16, end: u32) -> (ArrayString<80>, u32)
     requires size { length image.now ≡ 65536 }
@@ -56,7 +56,7 @@ fn push_listed(line: &mut Line, image: &[u8], at: u16, end: u32) -> u32
 }
 
 /// Appends what is listed at an address where an instruction was read, which ends before the address `next`, and says
-/// how many bytes it stands for. The instruction stands in its shortest spelling where it was read from so few bytes.
+/// how many bytes it stands for. The instruction is in its shortest spelling where it was read from so few bytes.
 fn push_read(line: &mut Line, image: &[u8], at: u16, end: u32, instr: &GplInstr, next: u16) -> u32
     requires room { array_string_len line.old ≤ 7 }
     requires size { length image.now ≡ 65536 }

@@ -9,12 +9,12 @@ ghost use Rattle.gpl_listing_defs.specs.Listing as spec;
 
 use crate::line::{Line, MARGIN, list_line};
 use asm_text::push_word;
+use base_defs::GROM_SIZE;
 use bench_io::{Failed, Sink, put_chunk};
 use gpl_forms::GromImage;
-use base_defs::GROM_SIZE;
 
 /// Writes the listing of an image from its lowest to its highest written address, each line by one call. A line for
-/// GROM and one for AORG stand before the first byte, and again where a byte begins a GROM; the last line is END. An
+/// GROM and one for AORG are before the first byte, and again where a byte begins a GROM; the last line is END. An
 /// image in which nothing is written is listed as if it began at 0.
 ///
 /// # Errors

@@ -12,12 +12,12 @@ ghost use Rattle.gpl_listing_defs.specs.Texts as spec;
 use crate::operands::{push_from, push_length, push_operand, push_source, push_target};
 use arrayvec::ArrayString;
 use asm_text::{push_byte, push_word};
+use base_defs::GROM_SIZE;
 use gpl_forms::{
     GplInstr, GplOperation, GplRead, MoveLength, MoveSource, MoveTarget, name_of, read_instr,
 };
-use base_defs::GROM_SIZE;
 
-/// The text of a valid instruction that stands at the address `at`: the operation, and its operands after a blank. The
+/// The text of a valid instruction that is at the address `at`: the operation, and its operands after a blank. The
 /// GROM of `at` completes the target of a BR or BS. GPL Programmer's Guide, the statements.
 pub fn instr_text(instr: &GplInstr, at: u16) -> ArrayString<52>
     requires { IsTrue (is_valid instr.now) }
@@ -28,7 +28,7 @@ pub fn instr_text(instr: &GplInstr, at: u16) -> ArrayString<52>
     text
 }
 
-/// Appends the text of what stands at the address `at` of 65,536 bytes: of the instruction there, in whatever spelling
+/// Appends the text of what is at the address `at` of 65,536 bytes: of the instruction there, in whatever spelling
 /// it stands, or `BYTE` and the code byte where that is no instruction's.
 pub fn push_standing<const N: usize>(text: &mut ArrayString<N>, image: &[u8], at: u16)
     requires size { length image.now ≡ 65536 }
@@ -53,7 +53,7 @@ pub(crate) fn push_byte_text<const N: usize>(text: &mut ArrayString<N>, byte: u8
     push_byte(text, byte);
 }
 
-/// Appends the text of a valid instruction that stands at an address.
+/// Appends the text of a valid instruction that is at an address.
 #[tactic(auto, using(std::proofs::Common::append_assoc), unfolding(gpl_listing_defs::specs::Texts::instr_text))]
 pub(crate) fn push_instr<const N: usize>(text: &mut ArrayString<N>, instr: &GplInstr, at: u16)
     requires valid { IsTrue (is_valid instr.now) }

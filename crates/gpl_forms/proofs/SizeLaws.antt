@@ -82,7 +82,7 @@ spelled_in_13 instr bytes spells = rw spells.is (omega (arith, rest_few instr sp
 
 -- ---- the address after bytes
 
--- the address so many bytes after another in one GROM
+-- the address a number of bytes after another in one GROM
 abbrev pub after : ℕ → ℕ → ℕ
 after at count = at / 8192 * 8192 + (at + count) % 8192
 
@@ -128,7 +128,7 @@ bytes_test image (byte ∷ bytes) at next holds_bytes_at =
 size-after : (at count : ℕ) → at < 65536 → count ≤ 13 → size_between at (after at count) ≡ count
 size-after at count lt few = omega arith
 
--- an instruction stands in its shortest spelling where that has as many bytes as those from which it was read
+-- an instruction is in its shortest spelling where that has as many bytes as those from which it was read
 pub are_bytes_by_size : (image : List ℕ) (at next : ℕ) (instr : GplInstr) → at < 65536 →
     ReadsInstr image at instr next → reading image at ≡ Instr instr next →
     are_bytes_at image (bytes_of instr) at ≡ (length (bytes_of instr) == size_between at next)

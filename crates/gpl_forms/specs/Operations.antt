@@ -5,7 +5,7 @@ use Rattle.gpl_defs.specs.declared.instruction.GplOperation.{GplOperation}
 use Rattle.gpl_defs.specs.declared.operations.TheConstants.{OPERATIONS}
 use Rattle.gpl_defs.specs.Codes.{row_of}
 
--- the operation of the first of some rows that has a code byte; of a row stand here its first code byte, how many it
+-- the operation of the first of some rows that has a code byte; of a row are here its first code byte, how many it
 -- has, and its operation
 abbrev pub operation_in : List (ℕ × ℕ × GplOperation) → ℕ → Option GplOperation
 operation_in [] code = None

@@ -1,7 +1,7 @@
 //! Laws of the bytes of GPL. Each function does nothing, and its contract is the law.
 ghost use Rattle.gpl_defs.specs.Spellings as spec;
 
-/// What stands at an address means one instruction at most, and one address after it.
+/// What is at an address means one instruction at most, and one address after it.
 pub fn bytes_mean_one_instruction()
     ensures { spec.OneMeaning }
 {}

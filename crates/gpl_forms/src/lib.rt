@@ -16,7 +16,7 @@ pub use gpl_defs::{
 pub use image::GromImage;
 pub use laws::bytes_mean_one_instruction;
 pub use operations::{name_of, operation_at};
-pub use read::{is_shortest, read_instr, holds_bytes_at};
+pub use read::{holds_bytes_at, is_shortest, read_instr};
 pub use size::{size_between, size_of};
 pub use valid::{has_immediate, is_valid};
 pub use write::write_instr;

@@ -7,12 +7,11 @@ ghost use Rattle.gpl_defs.specs.Reading as spec;
 
 use crate::operations::operation_at;
 use crate::write::write_instr;
-use memory_basics::holds_bytes;
 use gpl_defs::{
     GplInstr, GplOperand, GplOperation, GplRead, GplSource, MoveKind, MoveLength, MoveSource,
     MoveTarget, Space,
 };
-use memory_basics::next_in_grom;
+use memory_basics::{holds_bytes, next_in_grom};
 
 /// The instruction at an address of 65,536 bytes, in any of its spellings, with the address after it; or the code
 /// byte there, exactly where it is no instruction's. After the last address of a GROM comes its first.
@@ -27,7 +26,7 @@ pub fn read_instr(image: &[u8], at: u16) -> GplRead
     read_at(image, at)
 }
 
-/// Whether the instruction at an address of 65,536 bytes, whose code byte is one, stands there in its shortest
+/// Whether the instruction at an address of 65,536 bytes, whose code byte is one, is there in its shortest
 /// spelling.
 /// GPL Programmer's Guide, the statements.
 pub fn is_shortest(image: &[u8], at: u16) -> bool
@@ -73,7 +72,7 @@ fn read_at(image: &[u8], at: u16) -> GplRead
     }
 }
 
-/// The instruction with a code byte whose operands stand from an address on.
+/// The instruction with a code byte whose operands begin at an address.
 fn read_operands(operation: GplOperation, code: u8, image: &[u8], at: u16) -> (GplInstr, u16)
     requires { length image.now ≡ 65536 }
     ensures { result ≡ spec.instr_at operation code image.now at }

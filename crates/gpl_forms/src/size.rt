@@ -4,8 +4,8 @@ ghost use Rattle.gpl_defs.specs.Bytes as spec;
 ghost use Rattle.gpl_forms.specs.Sizes as sizes;
 
 use crate::write::{fits_one_byte, fits_twelve_bits};
-use gpl_defs::{GplInstr, GplOperand, GplSource, MoveLength, MoveSource, MoveTarget};
 use base_defs::GROM_SIZE;
+use gpl_defs::{GplInstr, GplOperand, GplSource, MoveLength, MoveSource, MoveTarget};
 
 /// How many bytes an instruction has in its shortest spelling.
 /// GPL Programmer's Guide, the statements.

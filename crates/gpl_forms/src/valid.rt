@@ -2,8 +2,8 @@
 ghost use Rattle.std.specs.Prelude.{◌≡◌};
 ghost use Rattle.gpl_defs.specs.Valid as spec;
 
-use gpl_defs::{GplInstr, GplSource, MoveSource, MoveTarget, OneName, TwoName};
 use base_defs::GROM_SIZE;
+use gpl_defs::{GplInstr, GplSource, MoveSource, MoveTarget, OneName, TwoName};
 
 /// Whether an instruction has bytes: the offset of a BR or BS is below `>2000`, FETCH and PUSH are no words, an
 /// immediate source of a form of bytes is below 256, EX has no immediate source, and MOVE loads registers of the

@@ -15,7 +15,7 @@ by_key text bytes = words_found name_of text mnemonics bytes refl
 pub by_number : (text : List ℕ) (key : Option ℕ) → AreBytes text → key ≡ word_key text → with_key key named ≡ mnemonic text
 by_number text key bytes is = ap (λ (key : Option ℕ). with_key key named) is ∙ sym (by_key text bytes)
 
--- a number in a table that stands in two parts: in the first of them, or in the other
+-- a number in a table that is in two parts: in the first of them, or in the other
 module _ {A : Type 0} (key : ℕ) (others : List (ℕ × A)) where
   abbrev found_by : Bool → ℕ × A → List (ℕ × A) → Option A
   found_by here row rows = option_map (λ (row : ℕ × A). row.1) (cond here (Some row) (find (λ (row : ℕ × A). key == row.0) rows))

@@ -15,7 +15,7 @@ use std::alloc::AllocError;
 pub enum Failure {
     /// The line is refused.
     Refused(GplCause),
-    /// Memory was wanting.
+    /// Memory ran out.
     Memory,
 }
 

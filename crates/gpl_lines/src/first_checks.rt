@@ -13,8 +13,8 @@ use crate::failure::Failure;
 use crate::statement::Statement;
 use crate::values::{Scope, address_of};
 use asm_text::{Name, SplitLine, Symbols, fields};
-use gpl_source_defs::{GplCause, Location};
 use base_defs::GROM_SIZE;
+use gpl_source_defs::{GplCause, Location};
 
 /// What the first checks leave of a line.
 #[derive(Clone, Copy)]
@@ -31,7 +31,7 @@ impl Scope<'_> {
     /// A line by the first checks, where the scope has the names and the location of the lines before it.
     ///
     /// # Errors
-    /// `Refused` carries what the first checks refuse first, and comes exactly where they do. `Memory` is want of
+    /// `Refused` carries what the first checks refuse first, and comes exactly where they do. `Memory` is lack of
     /// memory.
     #[tactic(auto, unfolding(gpl_source_defs::specs::FirstChecks::checked))]
     pub fn checked<'b>(&self, line: &SplitLine<'b>) -> Result<Checked<'b>, Failure>
@@ -65,7 +65,7 @@ impl Scope<'_> {
         })
     }
 
-    /// What a line says, of which the first checks let through what it said with fewer names.
+    /// The statement of a line that the first checks accepted with fewer names.
     pub fn parsed<'b>(&self, text: &'b [u8]) -> Result<Statement<'b>, Failure>
         ensures parsed { Gives model_of_statement result (spec.parsed self.now.symbols.now self.now.at text.now) }
         ensures valid { IfOk result IsValid }

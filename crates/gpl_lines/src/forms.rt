@@ -70,7 +70,7 @@ fn signed_form<'a>(text: &'a [u8], letter: u8, sign: u8, rest: &'a [u8]) -> Form
     }
 }
 
-/// An operand in memory, by what stands after its sign.
+/// An operand in memory, by what comes after its sign.
 fn in_memory(space: Space, indirect: bool, text: &[u8]) -> Form<'_>
     ensures { model_of_form result ≡ spec.in_memory space indirect text.now }
 {

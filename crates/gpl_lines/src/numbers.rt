@@ -6,9 +6,9 @@ ghost use Rattle.gpl_source_defs.specs.Locations as places;
 ghost use Rattle.gpl_source_defs.specs.SecondChecks as checks;
 ghost use Rattle.gpl_source_defs.specs.declared.causes.GplCause.TheVariants.{BadOperand, OtherGrom};
 
+use base_defs::GROM_SIZE;
 use gpl_defs::Space;
 use gpl_source_defs::{GplCause, Location};
-use base_defs::GROM_SIZE;
 
 /// The first address of the scratchpad.
 const SCRATCHPAD: u16 = 0x8300;

@@ -33,7 +33,7 @@ pub enum Outcome {
 }
 
 impl Scope<'_> {
-    /// What a line comes to that the first checks let through.
+    /// What a line comes to that the first checks accepted.
     ///
     /// # Errors
     /// `Refused` carries what its values or their ranges are refused for first, and comes exactly where they are.

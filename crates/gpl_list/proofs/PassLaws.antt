@@ -80,7 +80,12 @@ module _ (text : List ℕ) (before : List Line) (line : TextLine) (next : List T
   abbrev pub has_taken : (found : Line) (builder : GplLines) → check before (length before + 1) (part text line.span) ≡ Ok found → has_ended before ≡ false
       → IsAfter (found ∷ before) builder → HasAccepted (passed.front ++ part text line.span ∷ []) builder
   has_taken found builder e going after_lines =
-      record { lines = found ∷ before; line_layout = layout_more_is found e going; all = let longer = one_longer in omega (arith, longer); after_lines = after_lines }
+      record {
+        lines = found ∷ before;
+        line_layout = layout_more_is found e going;
+        all = let longer = one_longer in omega (arith, longer);
+        after_lines = after_lines;
+      }
 
   pub passed_more : (found : Line) → check before (length before + 1) (part text line.span) ≡ Ok found → has_ended before ≡ false
       → (found.last || has_ended before) ≡ false → Passed text (found ∷ before) next

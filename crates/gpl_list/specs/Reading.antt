@@ -59,7 +59,7 @@ Describes texts later before (line ∷ rest) (row ∷ rows) =
 Describes texts later before [] (row ∷ rows) = ⊥
 Describes texts later before (line ∷ rest) [] = ⊥
 
--- lines in their order, put after others, of which the nearest stands first
+-- lines in their order, put after others, of which the nearest comes first
 abbrev pub onto : List Line → List Line → List Line
 onto [] before = before
 onto (line ∷ rest) before = onto rest (line ∷ before)

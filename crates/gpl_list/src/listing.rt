@@ -58,7 +58,7 @@ pub fn list_source(alloc: Global, text: &[u8]) -> Result<GplListing, AllocError>
     }
 }
 
-/// The listing of lines that the first checks let through.
+/// The listing of lines that the first checks accept.
 fn assembled_listing(read: ReadLines) -> Result<GplListing, AllocError>
     requires { (texts : List (ℕ × List ℕ)) × (lines : List Line) × Keeps texts lines read }
     ensures { (texts : List (ℕ × List ℕ)) → (lines : List Line) → Keeps texts lines read →

@@ -15,7 +15,7 @@ use gpl_asm::{GplError, GplLines, TakenLine};
 use gpl_source_defs::Location;
 use std::alloc::{AllocError, Global};
 
-/// The lines of a source that the first checks let through.
+/// The lines of a source that the first checks accept.
 #[derive(Drop)]
 pub(crate) struct ReadLines {
     pub(crate) alloc: Global,
@@ -40,7 +40,7 @@ impl ReadLines {
         })
     }
 
-    /// Reads the lines of a source up to its end, or up to the first that is refused. Those that were let through are
+    /// Reads the lines of a source up to its end, or up to the first that is refused. Those that were accepted are
     /// kept.
     pub(crate) fn read(&mut self, text: &[u8]) -> Result<(), GplError>
         requires none { KeepsNone self.old }

@@ -10,7 +10,7 @@ use crate::rows::{NameRow, Row};
 use arrayvec::ArrayVec;
 use report_lines::{Line, append, append_right, append_spaced, append_word};
 
-/// How many bytes stand in a row.
+/// How many bytes are in a row.
 const ROW_BYTES: usize = 8;
 
 /// In how many columns the number of a line stands.
@@ -35,7 +35,7 @@ pub(crate) fn line_text(row: &Row) -> RowLine
     line
 }
 
-/// What stands before the text.
+/// What is before the text.
 #[tactic(auto, using(std::proofs::Common::append_assoc), unfolding(gpl_list_defs::specs::Text::line_front))]
 fn line_front(row: &Row) -> Line
     ensures text { result.items ≡ spec.line_front (model_of_row row.now) }
@@ -94,7 +94,7 @@ fn append_bytes(line: &mut Line, bytes: &[u8])
     append(line, &BYTE_BLANKS[3 * bytes.len()..]);
 }
 
-/// A row of further bytes, of which the first stands at an address.
+/// A row of further bytes, of which the first is at an address.
 #[tactic(auto, using(std::proofs::Common::append_assoc), unfolding(gpl_list_defs::specs::Text::further_line))]
 pub(crate) fn further_line(at: u16, bytes: &[u8]) -> Line
     requires { length bytes.now ≤ 8 }

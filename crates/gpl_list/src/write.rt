@@ -33,7 +33,7 @@ impl InLines for NameRow {
     }
 }
 
-/// Writes rows of bytes, of which the first stands at an address.
+/// Writes rows of bytes, of which the first is at an address.
 fn put_further<O: Sink>(at: u16, bytes: &[u8], out: &mut O) -> Result<(), Failed>
     ensures { Written result (O.state out.old) (O.state out.new) (spec.further_lines at bytes.now) }
 {

@@ -43,7 +43,7 @@ names_give (line ∷ before) =
     with_names_append predefined (name_rows before) (names_in line)
     ∙ rw (names_give before) (entries_in (names before) line.number line.names)
 
--- ---- the bytes of a line stand at its address
+-- ---- the bytes of a line are at its address
 
 at_address : (look : List ℕ → Option Value) (at : Location) (statement : Statement) (to : Image) (found : Outcome) → outcome look at statement ≡ Ok found
     → placed to (address at statement) (bytes_in found) ≡ placed to at.number (bytes_in found)

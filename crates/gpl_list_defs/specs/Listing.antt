@@ -19,7 +19,7 @@ pub record Listing : Type 0 where
   pub names : List NameRow
   pub refused : Result Unit (Refusal GplCause)
 
--- Of lines that the first checks let through. Profile: each has a row, and the names stand after them; of a source that
+-- Of lines that the first checks accept. Profile: each has a row, and the names come after them; of a source that
 -- the second checks refuse the lines before the refused one have rows, and no names stand.
 abbrev pub assembled_listing : List (ℕ × List ℕ) → List Line → Result (List AssembledLine) (Refusal GplCause) → Listing
 assembled_listing texts lines (Ok found) =
@@ -31,7 +31,7 @@ assembled_listing texts lines (Err refused) =
       refused = Err refused;
     }
 
--- the lines that the first checks let through
+-- the lines that the first checks accept
 abbrev pub accepted : Result (List Line) (Refusal GplCause) → List Line
 accepted (Ok lines) = lines
 accepted (Err refused) = []

@@ -23,7 +23,7 @@ pub record NameRow : Type 0 where
   pub value : Value
   pub line : ℕ
 
--- The address of a line at a place. Profile: GROM and AORG stand at the address that they set.
+-- The address of a line at a place. Profile: GROM and AORG are at the address that they set.
 abbrev pub address : Location → Statement → ℕ
 address at statement = (set_or (origin_of at statement) at).number
 
@@ -59,7 +59,7 @@ row_of listed texts before line =
       text = text_of texts line.number;
     }
 
--- The rows of lines, of which the nearest stands first, in their order.
+-- The rows of lines, of which the nearest comes first, in their order.
 abbrev pub rows : ListsBytes → List (ℕ × List ℕ) → List Line → List Row
 rows listed texts [] = []
 rows listed texts (line ∷ before) = rows listed texts before ++ row_of listed texts before line ∷ []
@@ -68,7 +68,7 @@ rows listed texts (line ∷ before) = rows listed texts before ++ row_of listed 
 abbrev pub names_in : Line → List NameRow
 names_in line = map (λ entry. record { name = entry.0; value = entry.1; line = line.number }) line.names
 
--- Profile: names stand in the order in which they are defined.
+-- Profile: names are in the order in which they are defined.
 abbrev pub name_rows : List Line → List NameRow
 name_rows [] = []
 name_rows (line ∷ before) = name_rows before ++ names_in line

@@ -7,7 +7,7 @@ use Rattle.expression_defs.specs.Expression.{Value, Absolute, Relocatable, Exter
 use Rattle.report_defs.specs.Rows.{spaced_bytes, row_line}
 use Rattle.gpl_list_defs.specs.Rows.{Row, NameRow}
 
--- Profile: bytes are shown by two digits, each after a blank, and blanks stand where there are fewer than eight.
+-- Profile: bytes are shown by two digits, each after a blank, and blanks are where there are fewer than eight.
 unfoldable pub bytes_text : List ℕ → List ℕ
 bytes_text bytes = spaced_bytes bytes ++ replicate (24 - 3 * length bytes) 0x20
 
@@ -23,7 +23,7 @@ line_text row = line_front row ++ (row.text ++ codes "\n")
 unfoldable pub further_line : ℕ → List ℕ → List ℕ
 further_line at bytes = codes "        " ++ row_line at bytes
 
--- a number of rows of bytes, of which the first stands at an address
+-- a number of rows of bytes, of which the first is at an address
 abbrev pub further_rows : ℕ → ℕ → List ℕ → List (List ℕ)
 further_rows zero at bytes = []
 further_rows (suc count) at bytes = further_line at (take 8 bytes) ∷ further_rows count (at + 8) (drop 8 bytes)

@@ -140,7 +140,7 @@ no_overlap image at [] free = refl
 no_overlap image at (byte ∷ bytes) free =
     rw (free at (omega arith), no_overlap image (at + 1) bytes (λ k le. free k (omega arith))) refl
 
--- bytes that stand in one GROM are those of the image from there on
+-- bytes that are in one GROM are those of the image from there on
 pub bytes_taken_at : (image bytes : List ℕ) (at : ℕ) → are_bytes_at image bytes at ≡ true →
     at + length bytes ≤ at / 0x2000 * 0x2000 + 0x2000 → at + length bytes ≤ length image →
     take (length bytes) (drop at image) ≡ bytes

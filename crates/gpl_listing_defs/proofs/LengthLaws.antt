@@ -129,7 +129,7 @@ module _ (image : List ℕ) (low high : ℕ) (holds : HoldsBytes 65536 image) (t
   fits at before_end line (Whole found valid room same ends) = record { some = omega arith; within = omega arith; short = instr_short found at valid }
   fits at before_end line Single = record { some = omega arith; within = omega arith; short = omega arith }
 
-  -- GROM and AORG are said again at most once for each GROM that begins
+  -- GROM and AORG are written again at most once for each GROM that begins
   origin_few : (at : ℕ) → lines_size (origin_texts_at low at) + 36 * ((at + 8191) / 8192) ≤ 36 * ((at + 8192) / 8192)
   origin_few at = by ((at % GROM_SIZE == 0) && not (at == low)) refl
     where
@@ -165,7 +165,7 @@ module _ (image : List ℕ) (low high : ℕ) (holds : HoldsBytes 65536 image) (t
           let same = next_texts image low high most at inside in
           rw same (omega arith)
 
--- the first address is said by the first two lines alone
+-- the first address is set by the first two lines alone
 first_step : (image : List ℕ) (low high left : ℕ) → HoldsBytes 65536 image → low + left ≡ high → high ≤ 65536 →
     lines_size (texts_from image low high left low) ≤ 16 * left + 252
 first_step image low high zero holds ends le = omega arith

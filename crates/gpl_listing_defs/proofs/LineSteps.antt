@@ -27,7 +27,7 @@ module _ (image : List ℕ) (low end : ℕ) where
   no_texts zero at le = refl
   no_texts (suc most) at le = let past : nat_le end at ≡ true = grind (arith, nat_tests, le) in rw past refl
 
-  -- the lines from an address on: that of the byte there, and those of the bytes after it
+  -- the lines from an address on: that of the byte there, and of the bytes after it
   pub next_texts : (most at : ℕ) → at < end →
       texts_from image low end (suc most) at
       ≡ origin_texts_at low at ++ ((listed_at image at end).text ∷ texts_from image low end most (at + (listed_at image at end).size))

@@ -1,4 +1,4 @@
--- The lines of a listing: each is let through after others, and placed.
+-- The lines of a listing: each is accepted after others, and placed.
 use Rattle.std.proofs.Common.{◌≡◌, ◌⊎◌, inl, inr, ℕ, ◌+◌, ◌%◌, ◌<◌, ◌≤◌, Bool, true, false, List, [], ◌∷◌, ◌++◌}
 use Rattle.std.proofs.Common.{length, refl, ap, sym, subst, ◌∙◌, Ok, Option, Some, None, arith, rules}
 use Rattle.std.specs.Prelude.{◌==◌, codes, IsTrue, nat_lt, nat_le, if◌then◌else◌}
@@ -40,7 +40,7 @@ pub record IsAt (before : List Line) (earlier : List AssembledLine) (at : Locati
 pub at_first : IsAt [] [] start (image [])
 at_first = search rules
 
--- a line after others that is let through, with what they then come to
+-- a line after others that is accepted, with what they then come to
 pub record Taken (before : List Line) (number : ℕ) (text : List ℕ) (last : Bool) (next : Location) (bytes : Image) :
     Type 0 where
   pub line : Line
@@ -94,7 +94,7 @@ instr_in_line found at valid =
     subst (λ operands. list_all in_line (listed (with_operands (name_of (mnemonic_of found)) operands)) ≡ true) (sym (tokens_are found at))
     (listed_in_line (name_of (mnemonic_of found)) (shown (tokens_of found at)) (instr_fit found at valid))
 
--- a line whose statement nothing speaks against is let through by the first checks
+-- a line whose statement nothing speaks against is accepted by the first checks
 pub checked_as : (known : Names) (here : Location) (line name field : List ℕ) (parsed_statement : Statement) → Cut line name field →
     operation_statement (look_up known) (address_of here) name field ≡ Ok parsed_statement → is_full here parsed_statement ≡ false →
     is_bad None parsed_statement ≡ false → checked known here line ≡ Ok (record { label = None; statement = parsed_statement })
@@ -205,7 +205,7 @@ module _ {before : List Line} {earlier : List AssembledLine} {at : Location} {he
       taken (codes "END") None (End None) [] _ (number_fit _ _ (omega arith) (omega arith) refl (omega arith) refl) (inl refl)
       refl refl refl refl (omega arith) refl
 
--- lines after others that are let through to the last, with the image that all come to
+-- lines after others that are accepted to the last, with the image that all come to
 pub record Ends (before : List Line) (number : ℕ) (texts : List (List ℕ)) (bytes : Image) : Type 0 where
   pub all : List Line
   pub found : List AssembledLine

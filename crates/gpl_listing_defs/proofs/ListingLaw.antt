@@ -56,7 +56,7 @@ module _ (image : List ℕ) (low high : ℕ) (bytes : (k : ℕ) → slice_index 
       let free = placed_free empty low (between image low at) (empty_free low) in
       no_overlap (held at) at more (λ k ge. free k (omega arith))
 
-  -- the line at a place is let through, and its bytes are placed
+  -- the line at a place is accepted, and its bytes are placed
   record Entered (grom at : ℕ) (before : List Line) (number : ℕ) (line : Listed) : Type 0 where
     taken : Taken before number (listed line.text) false (here grom (at + line.size)) (held (at + line.size))
     some : 0 < line.size
@@ -114,7 +114,7 @@ module _ (image : List ℕ) (low high : ℕ) (bytes : (k : ℕ) → slice_index 
       (λ first. absurd (omega arith)) in
       ends_more before number _ _ _ _ (held high) e.taken (go (e.taken.line ∷ before) e.taken.earlier (number + 1) e.taken.place_is)
 
-  -- GROM and AORG, and what stands after them
+  -- GROM and AORG, and what comes after them
   origin_from : (loc : Location) (at : ℕ) (texts : List (List ℕ)) → at < 65536 → loc.number ≤ loc.grom + 0x2000 →
       Goes (at / GROM_SIZE * GROM_SIZE) at texts → (before : List Line) (earlier : List AssembledLine) (number : ℕ) →
       IsAt before earlier loc (held at) → Ends before number (map listed (origin_texts at ++ texts)) (held high)
@@ -201,7 +201,7 @@ module _ (image : List ℕ) (low high : ℕ) (bytes : (k : ℕ) → slice_index 
       all_both (λ text. list_all in_line (listed text)) (origin_texts low) (left_from (high - low) low) (clean_origin true low)
       (all_both (λ text. list_all in_line (listed text)) (texts_between image low high low) (codes "END" ∷ []) (clean_from (high - low) low) refl)
 
--- a source whose lines are let through to the last
+-- a source whose lines are accepted to the last
 program_is : (texts : List (List ℕ)) (bytes : Image) → Ends [] 1 (map listed texts) bytes →
     list_all (λ line. list_all in_line line) (map listed texts) ≡ true →
     program_of_source (joined (map listed texts)) ≡ Ok (record { image = bytes; entry = None; names = predefined })

@@ -26,7 +26,7 @@ byte_listed image at = record { text = codes "BYTE " ++ hex_byte (slice_index im
 abbrev pub instr_listed : GplInstr → ℕ → Listed
 instr_listed instr at = record { text = instr_text instr at; size = length (bytes_of instr) }
 
--- a whole instruction stands there in its shortest spelling, and ends at or before the end and in its GROM
+-- a whole instruction is there in its shortest spelling, and ends at or before the end and in its GROM
 abbrev pub is_whole : List ℕ → ℕ → ℕ → GplInstr → Bool
 is_whole image at end instr =
     are_bytes_at image (bytes_of instr) at && nat_le (at + length (bytes_of instr)) (min end (boundary at))
@@ -36,7 +36,7 @@ listed_by image at end (Instr instr next) =
     if is_whole image at end instr then instr_listed instr at else byte_listed image at
 listed_by image at end (Refused code) = byte_listed image at
 
--- Profile: a line is an instruction where a whole one stands in its shortest spelling and ends in its GROM and at
+-- Profile: a line is an instruction where a whole one is in its shortest spelling and ends in its GROM and at
 -- or before the end; where that is not so, it is BYTE and the first byte there.
 unfoldable pub listed_at : List ℕ → ℕ → ℕ → Listed
 listed_at image at end = listed_by image at end (reading image at)

@@ -80,7 +80,7 @@ mnemonic_of (Two op word dst src) = named.Two op word
 mnemonic_of (Move length target source) = named.Move
 
 -- The operands of an instruction at an address. None where it has none.
--- GPL Programmer's Guide, the statements: the destination stands first.
+-- GPL Programmer's Guide, the statements: the destination comes first.
 -- Profile: MOVE has its length, then its target, then its source.
 abbrev pub operands_text : GplInstr → ℕ → Option (List ℕ)
 operands_text (Plain op) at = None
@@ -95,7 +95,7 @@ operands_text (Move length to source) at =
 unfoldable pub instr_text : GplInstr → ℕ → List ℕ
 instr_text instr at = with_operands (name_of (mnemonic_of instr)) (operands_text instr at)
 
--- The text of what is read at an address, in whatever spelling it stands there. Profile: where that is no instruction
+-- The text of what is read at an address, in whatever spelling it is there. Profile: where that is no instruction
 -- it is BYTE and the byte.
 abbrev pub read_text : GplRead → ℕ → List ℕ
 read_text (Instr instr next) at = instr_text instr at

@@ -1,4 +1,4 @@
--- What more lines change of those that were laid.
+-- What more lines change of the lines that were placed.
 use Rattle.std.proofs.Common.{◌≡◌, ℕ, ◌+◌, Bool, true, false, List, [], ◌∷◌, ◌++◌, Ok, Err, sym, ap, ◌∙◌, subst, arith}
 use Rattle.std.proofs.Common.{append_assoc, append-nil, length-append, refl, lit<}
 use Rattle.std.specs.Prelude.{⊤, Result, if◌then◌else◌}

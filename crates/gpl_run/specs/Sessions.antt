@@ -34,7 +34,7 @@ abbrev pub ended_by : Turn → Option Reason
 ended_by Stepped = None
 ended_by (Stopped reason) = Some reason
 
--- The address of the next code byte, or of the one that ended the program, which then stands in register 1.
+-- The address of the next code byte, or of the one that ended the program, which then is in register 1.
 abbrev pub address_in : Option Reason → MachineState → ℕ
 address_in None x = (shown_by x.cpu.memory).pc
 address_in (Some reason) x = word_in x.cpu.memory.scratchpad (entry_cell + 2)

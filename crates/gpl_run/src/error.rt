@@ -8,7 +8,7 @@ use std::alloc::{AllocError, AllocFailed};
 /// Why the interpreter is not built.
 #[derive(Clone, Copy, Debug, PartialEq, Eq)]
 pub enum BuildError {
-    /// Memory was wanting.
+    /// Memory ran out.
     Memory,
 }
 

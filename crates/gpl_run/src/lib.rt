@@ -11,5 +11,5 @@ mod session;
 pub use build::build_interp;
 pub use error::BuildError;
 pub use load::load_interpreter;
-pub use session::Session;
 pub use loading::load_machine;
+pub use session::Session;

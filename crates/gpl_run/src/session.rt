@@ -10,8 +10,8 @@ ghost use Rattle.sim_steps.specs.Starting.{StartsProgram};
 ghost use Rattle.gpl_run.specs.Sessions.{IsSession, IsNew, image_of, entry_of, ended_by, address_in};
 
 use gpl_step_defs::Reason;
-use memory_basics::previous_in_grom;
 use interp_defs::Turn;
+use memory_basics::previous_in_grom;
 use sim_steps::{gpl_turn, machines_start, run_turns, start_program};
 use sim_view::register;
 use std::marker::Model;
@@ -39,7 +39,7 @@ impl Model for Session {
 }
 
 impl Session {
-    /// Boots the interpreter on a machine that holds it, an image and the entry of a program. The session stands before
+    /// Boots the interpreter on a machine that holds it, an image and the entry of a program. The session is before
     /// the program's first step. It takes no memory.
     pub fn new<L: Ledger>(machine: Machine, steps: &mut Steps<L>) -> Session
         requires { IsNew machine }

@@ -1,4 +1,4 @@
--- What the first checks let through.
+-- What the first checks accept.
 use Rattle.std.proofs.Common.{◌≡◌, ℕ, ◌+◌, ◌%◌, ◌≤◌, Bool, true, false, List, Some, None, Ok, refl, ap, subst, ◌∙◌, arith}
 use Rattle.std.specs.Prelude.{Option, IfSome, not, nat_lt, ◌==◌}
 use Rattle.std.proofs.lemmas.Bool.Decides.{nat_tests}
@@ -19,7 +19,7 @@ accepted : {A : Type 0} (against : Bool) (cause : GplCause) (value found : A) �
 accepted true cause value found e = cc e
 accepted false cause value found e = (refl, cc e)
 
--- what is known of a line that was let through
+-- what is known of a line that was accepted
 pub record IsAccepted (known : Names) (here : Location) (text : List ℕ) (found : Checked) : Type 0 where
   pub parsed : parsed known here text ≡ Ok found.statement
   pub fresh : is_taken known found.label ≡ false

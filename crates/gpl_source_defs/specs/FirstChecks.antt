@@ -1,6 +1,6 @@
 -- The first checks of a line, by the lines before it.
 --
--- Profile: they stand in this order. The line's length and its label; a label that stands for something already; the
+-- Profile: they are in this order. The line's length and its label; a label that stands for something already; the
 -- operation, the number of its operands and their forms; the values that move locations, which are the values of EQU,
 -- GROM, AORG and BSS and the addresses and indexes of operands in memory; a location past the end of the GROM; a bad
 -- directive.

@@ -34,7 +34,7 @@ abbrev pub register_letter : ℕ
 register_letter = 0x52
 
 -- The text ends with an index in parentheses, which begins with @.
--- Profile: it is cut at the first parenthesis that opens outside quotes; one that stands elsewhere belongs to an
+-- Profile: it is cut at the first parenthesis that opens outside quotes; one that is elsewhere belongs to an
 -- expression, which is refused for it.
 abbrev pub has_index : List ℕ → Bool
 has_index text = has_parentheses text && is_at_sign (slice_index text (opening text + 1))

@@ -28,7 +28,7 @@ abbrev pub entry_by : Option ℕ → Outcome → Option ℕ
 entry_by entry (Bytes bytes) = entry
 entry_by entry (Entry address) = Some address
 
--- The image of lines: the bytes of each stand from its address on.
+-- The image of lines: the bytes of each begin at its address.
 abbrev pub image : List AssembledLine → Image
 image [] = empty
 image (line ∷ before) = placed (image before) line.at (bytes_in line.outcome)
@@ -38,7 +38,7 @@ abbrev pub entry : List AssembledLine → Option ℕ
 entry [] = None
 entry (line ∷ before) = entry_by (entry before) line.outcome
 
--- one of some bytes from an address on stands where one was placed
+-- one of some bytes from an address on is where one was placed
 abbrev pub overlaps : Image → ℕ → List ℕ → Bool
 overlaps image at [] = false
 overlaps image at (byte ∷ bytes) = contains_key image at || overlaps image (at + 1) bytes
@@ -68,7 +68,7 @@ abbrev pub program_by : List Line → List AssembledLine → Program
 program_by lines assembled_lines =
     record { image = image assembled_lines; entry = entry assembled_lines; names = names lines }
 
--- the program of lines that the first checks let through
+-- the program of lines that the first checks accept
 abbrev pub program_after : List Line → Result Program (Refusal GplCause)
 program_after lines = assembled_lines (assembled_line (names lines)) lines >>= λ found. Ok (program_by lines found)
 

@@ -143,7 +143,7 @@ module _ (look : List ℕ → Option Value) (here : ℕ) where
       route ← route_in forms.to forms.from
       Ok (Move length route))
 
-  -- The operands of an instruction. GPL Programmer's Guide, the statements: the destination stands first.
+  -- The operands of an instruction. GPL Programmer's Guide, the statements: the destination comes first.
   -- Profile: how many there are is asked first, then their forms, then the addresses of those in memory, from the left.
   -- MOVE has its length, its target and its source; an operation without operands ignores the rest of its line.
   abbrev pub skeleton : Mnemonic → List ℕ → Result Skeleton GplCause

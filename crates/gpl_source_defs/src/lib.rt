@@ -1,5 +1,5 @@
 //! The program that a GPL source stands for: its instructions and directives by their names, where its lines are
-//! placed, and the image that they make. The definitions stand in `specs/`.
+//! placed, and the image that they make. The definitions are in `specs/`.
 #![tactic(auto)]
 
 mod causes;

@@ -107,7 +107,7 @@ shifted_left width number count = number * 2 ^ count % modulus width
 abbrev pub count_of : ℕ → ℕ
 count_of source = source % 16
 
--- The second operand: its value, and where that stands if it stands in memory.
+-- The second operand: its value, and where that stands if it is in memory.
 pub record Source : Type 0 where
   pub number : ℕ
   pub place : Option Place

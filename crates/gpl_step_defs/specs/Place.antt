@@ -1,4 +1,4 @@
--- Where the operands of an instruction lie, and what stands there.
+-- Where the operands of an instruction lie, and what is there.
 --
 -- GPL Programmer's Guide, on the addressing of operands.
 use Rattle.std.specs.Prelude.{ℕ, ◌+◌, ◌%◌, ◌==◌, Bool, true, false, not, ◌&&◌, nat_le, if◌then◌else◌, slice_index}

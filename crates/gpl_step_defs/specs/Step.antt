@@ -35,7 +35,8 @@ use Rattle.gpl_defs.specs.declared.instruction.TwoName.TheVariants.{MUL, DIV}
 use Rattle.gpl_defs.specs.declared.instruction.GplSource.{GplSource}
 use Rattle.gpl_defs.specs.declared.instruction.GplSource.TheVariants as source
 use Rattle.gpl_defs.specs.declared.instruction.GplInstr.{GplInstr}
-use Rattle.gpl_defs.specs.declared.instruction.GplInstr.TheVariants.{Plain, Byte as OfByte, Jump, Branch, One, Two, Move}
+use Rattle.gpl_defs.specs.declared.instruction.GplInstr.TheVariants.{Plain, Byte as OfByte, Jump, Branch, One, Two}
+use Rattle.gpl_defs.specs.declared.instruction.GplInstr.TheVariants.{Move}
 use Rattle.gpl_defs.specs.declared.instruction.GplRead.{GplRead}
 use Rattle.gpl_defs.specs.declared.instruction.GplRead.TheVariants.{Instr, Refused}
 use Rattle.gpl_defs.specs.Reading.{reading}
@@ -44,7 +45,8 @@ use Rattle.gpl_step_defs.specs.declared.reason.Reason.{Reason}
 use Rattle.gpl_step_defs.specs.declared.reason.Reason.TheVariants.{Exit, Opcode}
 use Rattle.gpl_step_defs.specs.State.{GplState}
 use Rattle.gpl_step_defs.specs.Place.{Place, place_of, value_at}
-use Rattle.gpl_step_defs.specs.Changes.{Changes, unchanged, with_pc, with_register, with_value, with_condition, status_of}
+use Rattle.gpl_step_defs.specs.Changes.{Changes, unchanged, with_pc, with_register, with_value, with_condition}
+use Rattle.gpl_step_defs.specs.Changes.{status_of}
 use Rattle.gpl_step_defs.specs.Changes.{finished}
 use Rattle.gpl_step_defs.specs.Arithmetic.{Source, added, subtracted, negated, made_absolute, two}
 use Rattle.gpl_step_defs.specs.Flow.{branched, selected, called, returned, pushed, fetched, drawn}
@@ -114,13 +116,13 @@ source_of s width (source.At operand) =
     place_of s (size_of width) operand >>= λ p. Ok (record { number = value_at s width p; place = Some p })
 source_of s width (source.Immediate value) = Ok (record { number = value; place = None })
 
--- One operand: its place, and what stands there.
+-- One operand: its place, and what is there.
 abbrev pub one_operand : OneName → Width → GplOperand → Changes → Result Changes Reason
 one_operand op width operand c = do
   p ← place_of c.state (size_of width) operand
   one op width p (value_at c.state width p) c
 
--- Two operands: the destination's place, the source, and what stands at that place.
+-- Two operands: the destination's place, the source, and what is at that place.
 abbrev pub two_operands : TwoName → Width → GplOperand → GplSource → Changes → Result Changes Reason
 two_operands op width dst src c = do
   p ← place_of c.state (destination_size op width) dst
@@ -137,7 +139,7 @@ changes_of (One op word operand) at c = one_operand op (word_or_byte word) opera
 changes_of (Two op word dst src) at c = two_operands op (word_or_byte word) dst src c
 changes_of (Move length target source) at c = moved length target source c
 
--- the state after an instruction that stands at the state's pc, or why it stops
+-- the state after an instruction that is at the state's pc, or why it stops
 unfoldable pub after : GplInstr → ℕ → GplState → Result GplState Reason
 after instr next s = changes_of instr s.pc (unchanged (record s { pc = next })) >>= λ c. Ok (finished c)
 

@@ -87,7 +87,7 @@ halted_by items z w u v reason (Ok next) t = absurd (let a = t.0 in cc)
 halted_by items z w u v reason (Err other) t =
     same_watching items (shown_by z.cpu.memory) (shown_by w.cpu.memory) (sym t.2.cells) (sym t.2.vdp)
 
--- the first that holds, where the address that a session stands at is known
+-- the first that holds, where the address that a session is at is known
 pub first_reported : (z : SessionState) (watched : List WatchedItem) {pc : ℕ} {o : Option ℕ}
     → pc ≡ address_in z.ended z.machine → o ≡ first_kept (at_address pc (gpl_state_of z)) watched
     → first_kept (gpl_state_of z) watched ≡ o

@@ -5,8 +5,7 @@ ghost use Rattle.tms_defs.specs.Bytes.{HoldsBytes};
 ghost use Rattle.console_defs.specs.Grom.{IsGrom, new_grom, is_grom_idle, grom_fetched_ahead, grom_address_written};
 ghost use Rattle.console_defs.specs.Grom.{grom_address_read, grom_data_read};
 
-use memory_basics::holds_bytes;
-use memory_basics::next_in_grom;
+use memory_basics::{holds_bytes, next_in_grom};
 use std::alloc::{AllocError, Global};
 use std::marker::Model;
 

@@ -19,13 +19,13 @@ is_plus byte = byte == 0x2B
 abbrev pub without_last : List ℕ → List ℕ
 without_last text = take (last_place text) text
 
--- After *: a register, which grows where + stands at the end.
+-- After *: a register, which grows where + is at the end.
 abbrev pub starred_form : List ℕ → Form
 starred_form text =
     if is_plus (slice_index text (last_place text)) then Increment (without_last text) else Indirect text
 
 -- After @: an address, with an index register where the text ends in parentheses.
--- Profile: it is cut at the first parenthesis that opens outside quotes; one that stands elsewhere belongs to an
+-- Profile: it is cut at the first parenthesis that opens outside quotes; one that is elsewhere belongs to an
 -- expression, which is refused for it.
 abbrev pub symbolic_form : List ℕ → Form
 symbolic_form text =

@@ -1,4 +1,4 @@
--- The operands of each operation, in the order of the operand field, and the words that stand after its first.
+-- The operands of each operation, in the order of the operand field, and the words that come after its first.
 use Rattle.std.specs.Prelude.{ℕ, ◌+◌, ◌==◌, Bool, true, false, if◌then◌else◌, List, [], ◌∷◌}
 use Rattle.tms_defs.specs.declared.instruction.Place.{Place}
 use Rattle.tms_defs.specs.declared.instruction.RegOp.{RegOp}
@@ -14,7 +14,8 @@ use Rattle.tms_defs.specs.declared.instruction.Operation.TheVariants as operatio
 use Rattle.tms_defs.specs.declared.instruction.Instr.{Instr}
 use Rattle.tms_defs.specs.declared.instruction.Instr.TheVariants.{Two, Reg, Shift, One, Jump, Imm, Bare}
 use Rattle.instruction_defs.specs.declared.operand_kind.OperandKind.{OperandKind}
-use Rattle.instruction_defs.specs.declared.operand_kind.OperandKind.TheVariants.{General, Register, Count, Immediate, Target, Displacement}
+use Rattle.instruction_defs.specs.declared.operand_kind.OperandKind.TheVariants.{General, Register, Count, Immediate}
+use Rattle.instruction_defs.specs.declared.operand_kind.OperandKind.TheVariants.{Target, Displacement}
 use Rattle.base_defs.specs.Counts.{one_if}
 
 -- The operation on a register takes a word that follows.

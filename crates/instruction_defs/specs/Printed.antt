@@ -50,14 +50,14 @@ number_text LDCR number = decimal number
 number_text STCR number = decimal number
 number_text op number = register_text number
 
--- The target of a jump whose next instruction stands at an address; or the displacement of a bit.
+-- The target of a jump whose next instruction is at an address; or the displacement of a bit.
 abbrev pub target_text : JumpOp → ℕ → ℤ → List ℕ
 target_text SBO next disp = signed_text disp
 target_text SBZ next disp = signed_text disp
 target_text TB next disp = signed_text disp
 target_text op next disp = hex_word (jump_target next disp)
 
--- The operands of an instruction at an address, with the words from its first on; the words that follow stand in the
+-- The operands of an instruction at an address, with the words from its first on; the words that follow are in the
 -- order of the operands. None where it has no operand.
 abbrev pub operands_text : Instr → ℕ → List ℕ → Option (List ℕ)
 operands_text (Two op byte dst src) at words =
@@ -93,7 +93,7 @@ printed_where (Some instr) at words =
     then record { text = instr_text instr at words; count = size_in_words instr }
     else printed_word (slice_index words 0)
 
--- Profile: the text of the whole instruction at the front of some words, of which the first stands at an address; or
+-- Profile: the text of the whole instruction at the front of some words, of which the first is at an address; or
 -- DATA with the first word.
 unfoldable pub printed : List ℕ → ℕ → Printed
 printed words at = printed_where (instr_at (slice_index words 0)) at words

@@ -187,7 +187,7 @@ abbrev pub second_of : List EncodedOperand → EncodedOperand
 second_of [] = Counted 0
 second_of (ready ∷ readies) = first_of readies
 
--- Editor/Assembler manual, "Assembly Language Instructions": a source stands before its destination, and a register
+-- Editor/Assembler manual, "Assembly Language Instructions": a source is before its destination, and a register
 -- before a count.
 abbrev pub instruction_of : Operation → List EncodedOperand → Instr
 instruction_of (Two op byte) readies = instr.Two op byte (place_in (second_of readies)) (place_in (first_of readies))

@@ -15,6 +15,6 @@ pub enum FormError {
     JumpTooFar,
     /// An expression is refused. It never carries `ExprError::Memory`.
     Expr(ExprError),
-    /// Memory was wanting.
+    /// Memory ran out.
     Memory,
 }

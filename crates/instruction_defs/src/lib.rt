@@ -1,5 +1,5 @@
 //! The TMS9900's assembler source: its operations by name, the operands of each, the words of an instruction line and
-//! the text of an instruction. The definitions stand in `specs/`.
+//! the text of an instruction. The definitions are in `specs/`.
 #![tactic(auto)]
 
 mod causes;

@@ -69,7 +69,7 @@ loaded_words shipped image linked entry memory few has loaded =
     (all_placed shipped (entries linked.words) (with_first_word entry loaded.empty) few fresh.low_expansion.size
     (all_belong shipped linked has)))
 
--- the words, with nothing else said of them
+-- the words alone
 opaque_words : (shipped : List ℕ) × (shipped ≡ INTERP) × (length shipped ≤ 4096)
 opaque_words = (INTERP, refl, omega arith)
 

@@ -30,7 +30,7 @@ same_word bytes at word inside =
     get_or-set_same marked (at + 1) (low word) 0 long in
     ap₂ join first second ∙ join-high-low word
 
--- and a word that stands apart from it
+-- and a word that is apart from it
 pub other_word : (bytes : List ℕ) (at word place : ℕ) → place ≢ at → place ≢ at + 1 → place + 1 ≢ at
     → word_in (with_word_in bytes at word) place ≡ word_in bytes place
 other_word bytes at word place one two three =

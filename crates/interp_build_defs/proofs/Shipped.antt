@@ -64,13 +64,13 @@ module _ (shipped : List ℕ) (memory : LinkedMemory) (has : HasShipped shipped 
       belongs : (pair : ℕ × ℕ) → find nat_cmp pair.0 (entries memory.words) ≡ Some pair.1 → IsWord shipped pair
       belongs pair found = is_word shipped pair.0 pair.1 (sym (has pair.0) ∙ (get-entries memory.words pair.0 ∙ found))
 
-  -- and each of the words stands there
+  -- and each of the words is there
   pub all_occur : (number : ℕ) → number < length shipped → Occurs (ORIGIN + 2 * number) (entries memory.words)
   all_occur number inside =
       occurs (ORIGIN + 2 * number) (slice_index shipped number) (entries memory.words)
       (sym (get-entries memory.words (ORIGIN + 2 * number))
       ∙ (has (ORIGIN + 2 * number) ∙ shipped_word shipped number inside))
 
--- the interpreter's linked memory has the interpreter's words, of which nothing else is said here
+-- the interpreter's linked memory has the interpreter's words, without its other fields
 pub has_words : (shipped : List ℕ) (memory : LinkedMemory) → shipped ≡ INTERP → IsInterpreter memory → HasShipped shipped memory
 has_words shipped memory same is = subst (λ (list : List ℕ). HasShipped list memory) (sym same) is.words

@@ -13,7 +13,7 @@ pub record Links (source : List ℕ) (memory : LinkedMemory) : Type 0 where
   pub assembled : module_of_source source ≡ Ok unit
   pub linked : linked (unit ∷ []) ≡ Ok memory
 
--- the word that is shipped at an address, of words that stand one after the other
+-- the word that is shipped at an address, of words that come one after the other
 abbrev pub shipped_at : List ℕ → ℕ → Option ℕ
 shipped_at shipped address =
     if nat_le origin address && (address % 2 == 0) then slice_get shipped ((address - origin) / 2) else None

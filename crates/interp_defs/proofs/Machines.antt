@@ -222,7 +222,7 @@ runs_program {image} {entry} {limit} {count} {made} {boot} {first} {left} is_mac
       ends = r.ends;
     }
 
--- The law that the numbers of instructions are those from boot: so many lead from there to the machine after each turn.
+-- The law that the numbers of instructions are those from boot: that number leads from there to the machine after each turn.
 pub machines_follow : {image : List ℕ} {entry limit : ℕ} {left : MachineState} (p : RunsProgram image entry limit left)
     (i : ℕ) → i ≤ turns limit (start image entry) → steps (p.instructions i) p.boot ≡ Gives (p.machine i)
 machines_follow p zero within = p.first.leads
@@ -236,7 +236,7 @@ machines_follow {image} {entry} {limit} p (suc i) within =
     ∙ t.is_turn.runs.leads in
     subst (λ k. steps (p.instructions k) p.boot ≡ Gives (p.machine k)) more on
 
--- The law that the states are those of the steps: each is the one after so many steps in a row.
+-- The law that the states are those of the steps: each is the one after that number of steps in a row.
 pub states_follow : (limit : ℕ) (s : GplState) (i : ℕ) → i ≤ (run limit s).done → gpl.steps i s ≡ Ok (run i s).last
 states_follow limit s i within =
     subst (λ n. gpl.steps n s ≡ Ok (run i s).last) (run_made limit s i within).0 (runs_are_steps i s).steps

@@ -56,7 +56,7 @@ module _ (xs ys : List ℕ) (fits : (at : ℕ) → slice_index xs at < 256) (fit
       by false f true i = bytes_of_word place at same (grind (arith, nat_tests)) (grind (arith, nat_tests))
       by false f false i = let le : place + 2 ≤ at = grind (arith, nat_tests) in beyond at le ∙ sym (after_too at le)
 
-  -- Lists with so many words from their beginning on, and zeros after them, agree.
+  -- Lists with a number of words from their beginning on, and zeros after them, agree.
   one_words : (count at : ℕ) → ((number : ℕ) → number < count → word_in xs (2 * number) ≡ word_in ys (2 * number)) →
       ((k : ℕ) → 2 * count ≤ k → slice_index xs k ≡ 0) → ((k : ℕ) → 2 * count ≤ k → slice_index ys k ≡ 0) →
       slice_index xs at ≡ slice_index ys at

@@ -30,7 +30,7 @@ one_given m n x y z same first second = ap (given_or y) (sym first ∙ ap (λ ma
 both : (test : Bool) → test ≡ true → test ≡ false → ⊥
 both test holds fails = absurd (cc)
 
--- The program counter stands where the first step begins.
+-- The program counter is where the first step begins.
 at_step : (pc : ℕ) → pc ≡ GSTEP → eqb pc GSTEP ≡ true
 at_step pc there = ap (λ n. eqb n GSTEP) there
 

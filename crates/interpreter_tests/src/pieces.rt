@@ -67,7 +67,7 @@ pub(crate) fn is_idle(machine: &Machine) -> bool
     machine.bus().vdp().is_idle() && machine.bus().grom().is_idle()
 }
 
-/// Runs the piece where the machine stands; none where it stands at no piece.
+/// Runs the piece where the machine is; none where it is at no piece.
 fn run_piece<L: Ledger>(machine: &mut Machine, steps: &mut Steps<L>) {
     let at = machine.pc();
     if !is_ready(machine, at) {
@@ -104,7 +104,7 @@ fn after(alloc: Global, program: Program) -> Result<Machine, AllocError> {
     Ok(machine)
 }
 
-/// The machine stands at an end with these words in registers 0 and 1.
+/// The machine is at an end with these words in registers 0 and 1.
 fn has_ended(machine: &Machine, end: u16, registers: [u16; 2]) -> bool {
     let [zero, one] = registers;
     is_ready(machine, end) && register(machine, 0) == zero && register(machine, 1) == one

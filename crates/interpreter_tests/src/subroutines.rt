@@ -1,4 +1,4 @@
-//! SEEK, and FETCH after it, on a machine that stands at SEEK.
+//! SEEK, and FETCH after it, on a machine that is at SEEK.
 
 ghost use Rattle.std.specs.Prelude.{◌≡◌, ◌<◌};
 
@@ -13,7 +13,7 @@ use std::sync::ledger::{Blank, Ledger};
 use std::test::Fail;
 use tms_step::{Machine, Steps};
 
-/// What stands in the GROMs.
+/// What is in the GROMs.
 const BYTES: Program = &[
     (0x6000, &[0x12, 0x34]),
     (0x7FFF, &[0x56]),

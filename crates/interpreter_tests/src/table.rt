@@ -14,7 +14,7 @@ const LINES: &[(usize, u16, u8, u16)] = &[
     (42, ORIGIN + 6, 1, GEXIT),
 ];
 
-/// The last two lines, by how many lines stand after them: B and END.
+/// The last two lines, by how many lines come after them: B and END.
 const LAST_LINES: &[(usize, u16, u8, u16)] = &[(1, BEHIND - 4, 2, 0x0460), (0, BEHIND, 0, 0)];
 
 /// Names by their numbers from 0, and what they stand for: the first EQU, and the first place.

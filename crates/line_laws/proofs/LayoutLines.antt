@@ -1,4 +1,4 @@
--- Lines that are known by themselves are laid one after the other.
+-- Lines that are known by themselves are placed one after the other.
 use Rattle.std.proofs.Common.{◌≡◌, ℕ, ◌+◌, Bool, true, false, List, [], ◌∷◌, ◌++◌, Some, None, Ok, refl, sym, ap}
 use Rattle.std.proofs.Common.{subst, ◌∙◌, arith}
 use Rattle.std.specs.Prelude.{Option, Result, ◌&&◌, ◌||◌, not, is_some, if◌then◌else◌}
@@ -62,7 +62,7 @@ accepted : {A : Type 0} (b : Bool) (cause : AsmCause) (value found : A) → unle
 accepted true cause value found e = cc e
 accepted false cause value found e = cc e
 
--- the first checks keep the label and what is said
+-- the first checks keep the label and the statement
 pub statement_kept : (at : Location) (line : ParsedLine) (found : Checked) → moved (nothing_before at) line ≡ Ok found → (line.label ≡ found.label) × (line.statement ≡ found.statement)
 unfolding moved
 statement_kept at line found e =
@@ -154,7 +154,7 @@ plain_free (Equ text) plain = record { free = refl; refs = refl; defs = refl; go
 plain_free (Data texts) plain = record { free = refl; refs = refl; defs = refl; going_on = refl }
 plain_free _ plain = cc plain
 
--- the lines as they are laid after others
+-- the lines as they are placed after others
 abbrev pub layout_list : List Line → ℕ → List KnownLine → List Line
 layout_list before number [] = before
 layout_list before number (line ∷ lines) = layout_list (line_of number line.found ∷ before) (number + 1) lines

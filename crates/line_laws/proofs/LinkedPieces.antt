@@ -1,4 +1,4 @@
--- The pieces of words that stand one after the other, and their linked memory.
+-- The pieces of words that come one after the other, and their linked memory.
 use Rattle.std.proofs.Common.{◌≡◌, ℕ, zero, suc, ◌+◌, ◌-◌, ◌*◌, ◌/◌, ◌%◌, ◌<◌, ◌≤◌, Bool, true, false, cond, List, []}
 use Rattle.std.proofs.Common.{◌∷◌, ◌++◌, Some, None, Ok, length, refl, sym, ap, ◌∙◌, arith, nat_cmp, eqb-true}
 use Rattle.std.specs.Prelude.{Option, ◌&&◌, not, ◌==◌, nat_le, if◌then◌else◌, map, slice_get}
@@ -49,7 +49,7 @@ module _ (f : ℕ → Option Content) where
       rw (none (2 * first) (omega arith) (omega arith), none (2 * first + 1) (omega arith) (omega arith))
       (none_from found (first + 1) n (λ p le lt. none p (omega (arith, le)) (omega (arith, lt))))
 
--- what stands after the first word
+-- what comes after the first word
 content_after : (a : ℕ) (word : ℕ) (words : List ℕ) (p : ℕ) → 2 * (a + 1) ≤ p → content_of (2 * a) (word ∷ words) p ≡ content_of (2 * (a + 1)) words p
 content_after a word words p le =
     let here : nat_le (2 * a) p ≡ true = grind (arith, nat_tests, le) in

@@ -1,4 +1,4 @@
--- Each line that is known by itself stands where it is known to stand.
+-- Each line that is known by itself is where it is known to stand.
 use Rattle.std.proofs.Common.{◌≡◌, ℕ, zero, suc, ◌+◌, ◌*◌, ◌<◌, ◌≤◌, Bool, true, false, List, [], ◌∷◌, ◌++◌, Ok}
 use Rattle.std.proofs.Common.{length, length-append, refl, sym, ap, subst, ◌∙◌, arith}
 use Rattle.std.specs.Prelude.{Option, not, is_some, nat_lt, slice_index_or, take}
@@ -113,7 +113,7 @@ module _ (half : ℕ) (texts : List (List ℕ)) (last : List ℕ) (defined : Lis
   abbrev every : List Line
   every = final half texts last defined lines end spot is ∷ front half texts last defined lines end spot is
 
-  -- a line after lines that are laid
+  -- a line after lines that are placed
   is_at_by : (index : ℕ) (some : List (List ℕ)) (text : List ℕ) (before : List Line) (line : KnownLine)
       → take index (texts ++ last ∷ []) ≡ some → slice_index_or (texts ++ last ∷ []) index [] ≡ text
       → line_layout check (numbered 1 some) ≡ Ok before → known_line look (location before) text ≡ Ok line

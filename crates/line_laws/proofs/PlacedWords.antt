@@ -73,7 +73,7 @@ placed_contents references at (Words values) words e absolute =
     rw (absolute, are_numbers values words e) (contents_of_numbers references at.number words)
 placed_contents references at _ words e absolute = cc e
 
--- what stands at a place of memory that holds words from a place on
+-- what is at a place of memory that holds words from a place on
 abbrev pub content_of : ℕ → List ℕ → ℕ → Option Content
 content_of from words p = if nat_le from p then slice_get (cells words) (p - from) else None
 
@@ -133,7 +133,7 @@ pub record ComesNext (line : AssembledLine) (at : ℕ) (more : List ℕ) : Type 
   pub words : outcome_words line.outcome ≡ Some more
   pub place : (is_empty more || is_at at line.at) ≡ true
 
--- it has no words, or stands there
+-- it has no words, or is there
 abbrev pub IsAt : Location → ℕ → List ℕ → Type 0
 IsAt place at more = (length more ≡ 0) ⊎ ((place.part ≡ part.Absolute) × (place.number ≡ at))
 
@@ -256,7 +256,7 @@ none_counted lines none =
 few : (relocatable absolute most : ℕ) → relocatable ≡ 0 → absolute ≤ most → relocatable + absolute ≤ most
 few relocatable absolute most none le = omega (arith, none, le)
 
--- so many words have room
+-- a number of words has room
 pub few_words : (lines : List AssembledLine) → ((p : ℕ) → is_placed lines part.Relocatable p ≡ false) → word_count lines ≤ 32768
 unfolding part_words
 few_words lines none = few _ _ _ (none_counted lines none) (count_most (has_word lines part.Absolute) 0 part_words)

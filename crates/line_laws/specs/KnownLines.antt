@@ -120,13 +120,13 @@ is_absolute part.Dummy = false
 abbrev pub is_at : ℕ → Location → Bool
 is_at number place = is_absolute place.part && place.number == number
 
--- the words of lines stand one after the other from an absolute place on
+-- the words of lines come one after the other from an absolute place on
 abbrev pub are_close : ℕ → List KnownLine → Bool
 are_close number [] = true
 are_close number (line ∷ lines) =
     (is_empty (line_words line) || is_at number line.at) && are_close (number + 2 * length (line_words line)) lines
 
--- the pieces of words that stand one after the other from an absolute place on
+-- the pieces of words that come one after the other from an absolute place on
 abbrev pub pieces_of : ℕ → List ℕ → List Piece
 pieces_of from [] = []
 pieces_of from (word ∷ words) =

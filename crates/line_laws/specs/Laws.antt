@@ -22,7 +22,7 @@ use Rattle.line_laws.specs.KnownLines.{are_new, are_plain, are_close, all_words,
 abbrev pub looks : List (List ℕ × Value) → List ℕ → Option Value
 looks defined name = look_in (names_after registers defined) name
 
--- Lines that are plain, by the names that they define: these are new, and the words stand one after the other from an
+-- Lines that are plain, by the names that they define: these are new, and the words come one after the other from an
 -- absolute place on. After them stands a last line, which is END with an entry.
 pub record AreKnown (from : ℕ) (texts : List (List ℕ)) (last : List ℕ) (defined : List (List ℕ × Value))
     (lines : List KnownLine) (end : KnownLine) (entry : Spot) : Type 0 where
@@ -36,7 +36,7 @@ pub record AreKnown (from : ℕ) (texts : List (List ℕ)) (last : List ℕ) (de
   pub ends : (text : Option (List ℕ)) × (end.found.statement ≡ End text)
   pub enters : end.outcome ≡ outcome.Entry entry
 
--- a module whose words stand one after the other, with an entry and without names
+-- a module whose words come one after the other, with an entry and without names
 pub record HasWords (from : ℕ) (words : List ℕ) (entry : Spot) (m : Module) : Type 0 where
   pub pieces : m.pieces ≡ pieces_of from words
   pub defs : m.defs ≡ []
@@ -57,7 +57,7 @@ KnownLinesHaveTheirWords =
     → AreKnown (2 * half) texts last defined lines end entry → half + length (all_words lines) ≤ 32768
     → HaveWords (texts ++ last ∷ []) (2 * half) (all_words lines) entry
 
--- A line of a source stands at a place, after the lines before it, and comes to something, by the names of all lines.
+-- A line of a source is at a place, after the lines before it, and comes to something, by the names of all lines.
 pub record IsAssembledAt (texts : List (List ℕ)) (index : ℕ) (at : Location) (come : Outcome) : Type 0 where
   pub before : List Line
   pub earlier_layout : line_layout check (numbered 1 (take index texts)) ≡ Ok before
@@ -68,11 +68,12 @@ pub record IsAssembledAt (texts : List (List ℕ)) (index : ℕ) (at : Location)
   pub whole_layout : line_layout check (numbered 1 texts) ≡ Ok all
   pub comes : outcome (look_up (names all)) at line.statement ≡ Ok come
 
--- The law, which is proved: each of such lines stands where it is known to stand, and comes to what it is known to
+-- The law, which is proved: each of such lines is where it is known to stand, and comes to what it is known to
 -- come to.
 abbrev pub KnownLinesAreAssembled : Type 0
 KnownLinesAreAssembled =
     (half : ℕ) (texts : List (List ℕ)) (last : List ℕ) (defined : List (List ℕ × Value)) (lines : List KnownLine)
     (end : KnownLine) (entry : Spot) (index : ℕ) (d : KnownLine)
     → AreKnown (2 * half) texts last defined lines end entry → index < length (lines ++ end ∷ [])
-    → let line = slice_index_or (lines ++ end ∷ []) index d in IsAssembledAt (texts ++ last ∷ []) index line.at line.outcome
+    → let line = slice_index_or (lines ++ end ∷ []) index d in
+    IsAssembledAt (texts ++ last ∷ []) index line.at line.outcome

@@ -3,7 +3,7 @@ use Rattle.std.specs.Prelude.{◌≡◌, ℕ, nat_le, List, [], ◌∷◌, ◌++
 use Rattle.std.specs.List.{flat_map, list_all, AllByRecursion}
 use Rattle.source_defs.specs.Lines.{line_texts, numbered}
 
--- no control character stands in a line: so neither a line feed nor a carriage return does
+-- no control character is in a line: so neither a line feed nor a carriage return does
 abbrev pub IsWithoutControls : List ℕ → Type 0
 IsWithoutControls text = IsTrue (list_all (λ byte. nat_le 0x20 byte) text)
 

@@ -1,7 +1,9 @@
 //! Lines of a source whose places are known: what each comes to by itself, and the module of them all. The definitions
-//! and the laws stand in `specs/`.
+//! and the laws are in `specs/`.
 #![tactic(auto)]
 
 mod laws;
 
-pub use laws::{fed_texts_have_their_lines, known_lines_have_their_words, known_lines_are_assembled};
+pub use laws::{
+    fed_texts_have_their_lines, known_lines_are_assembled, known_lines_have_their_words,
+};

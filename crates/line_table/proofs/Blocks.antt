@@ -23,7 +23,7 @@ none = record { place = 0; count = 0; words = 0 ∷ 0 ∷ 0 ∷ [] }
 abbrev pub place : ℕ → Location
 place number = location_of (slice_index_or rows number none)
 
--- Some lines from a number on are as their rows say: so many, and so many names after others.
+-- Some lines from a number on are as their rows say: a number of lines, and a number of names after others.
 abbrev pub Block : ℕ → ℕ → ℕ → ℕ → Type 0
 Block first count named names =
     map_ok (summary (place first)) (known_lines (looks defined) (place first) (take count (drop first texts)))

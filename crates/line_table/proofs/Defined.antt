@@ -61,7 +61,7 @@ name_found index row is = record { is = is; are_defined = names_are_defined }
 all_kept : list_all (λ (name : List ℕ × Value). is_kept_name name.0) defined ≡ true
 all_kept = refl
 
--- what stands at a number among names with their values
+-- what is at a number among names with their values
 module _ {A : Type 0} (items : List A) (text : A → List ℕ) (value : A → ℕ) (d : A) (are : map (λ item. (text item, Absolute (value item))) items ≡ defined) (index : ℕ) (lt : index < length defined) where
   pub named_at : (text (slice_index_or items index d), Absolute (value (slice_index_or items index d))) ≡ slice_index_or defined index no_name
   named_at =

@@ -10,7 +10,7 @@ use Rattle.line_table.proofs.AllRows.{rows}
 use Rattle.line_table.proofs.RowLines.{Reads, reads_of, join, take_on}
 use Rattle.line_table.proofs.Blocks.{Block, texts, place}
 
--- so many lines from the first on, with so many names
+-- a number of lines from the first on, with a number of names
 abbrev pub Front : ℕ → ℕ → Type 0
 Front count names = Reads (looks defined) (place 0) (take count texts) (take count rows) (take names defined) (place count)
 

@@ -146,7 +146,7 @@ lines_counted = refl
 all_counted : length all_lines ≡ line_count
 all_counted = sym (length-map all_lines shown) ∙ (ap length all_shown ∙ (length-map rows row_shown ∙ rows_counted))
 
--- a row of a table, whose line stands among lines
+-- a row of a table, whose line is among lines
 module _ (some : List KnownLine) (table : List LineRow) (held : List ℕ) (texts : List (List ℕ)) (index : ℕ) (same : map shown some ≡ map row_shown table) (inside : index < length some) (there : index < length table) where
   abbrev line_there : KnownLine
   line_there = slice_index_or some index ending

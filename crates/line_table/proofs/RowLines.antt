@@ -29,7 +29,7 @@ shown line = record { at = line.at; words = line_words line }
 abbrev pub row_shown : LineRow → Shown
 row_shown row = record { at = location_of row; words = row_words row }
 
--- what is said of some lines by their rows, the names that they define, and the location after them
+-- what the rows state of some lines, the names that they define, and the location after them
 pub record Summary : Type 0 where
   pub rows : List Shown
   pub names : List (List ℕ × Value)
@@ -130,7 +130,7 @@ module _ {A : Type 0} where
       let sum : suc m + n ≡ suc (m + n) = omega arith in
       ap (λ n. take n (item ∷ items)) sum ∙ ap (λ items. item ∷ items) (take_on items m n)
 
--- the words of rows stand one after the other from an absolute place on
+-- the words of rows come one after the other from an absolute place on
 abbrev pub close_rows : ℕ → List Shown → Bool
 close_rows number [] = true
 close_rows number (row ∷ rows) = (is_empty row.words || is_at number row.at) && close_rows (number + 2 * length row.words) rows

@@ -25,7 +25,7 @@ Places (Words values) placed = values ≡ map Absolute placed
 Places (Bytes bytes) placed = ⊥
 Places (Entry entry) placed = placed ≡ []
 
--- The row of a line of the source, by its number from 0. The line stands at the row's place by the layout of all lines,
+-- The row of a line of the source, by its number from 0. The line is at the row's place by the layout of all lines,
 -- and places the row's words, which are the words that are shipped from there on.
 pub record IsRow (index : ℕ) (row : LineRow) : Type 0 where
   pub at : Location
@@ -36,7 +36,7 @@ pub record IsRow (index : ℕ) (row : LineRow) : Type 0 where
   pub placed : Places come (row_words row)
   pub shipped : row_words row ≡ take row.count (drop ((row.place - origin) / 2) words)
 
--- the names that lines define, in the order of the lines, of which the last stands first
+-- the names that lines define, in the order of the lines, of which the last comes first
 abbrev pub names_of_lines : List Line → List (List ℕ × Value)
 names_of_lines [] = []
 names_of_lines (line ∷ before) = names_of_lines before ++ line.names

@@ -140,7 +140,7 @@ fn named_row(text: &[u8], value: u16) -> NameRow
     }
 }
 
-/// The row of a name, by its number below [`name_count`]. They stand in the order of their lines, and no name stands
+/// The row of a name, by its number below [`name_count`]. They are in the order of their lines, and no name stands
 /// twice.
 pub fn name_row(index: usize) -> NameRow
     requires { index < length defined }

@@ -11,7 +11,7 @@ pub data LinkCause : Type 0 where
   Overlap : (address : ℕ) → LinkCause
   -- a place of a chain that holds no loaded word
   ChainOutside : (address : ℕ) → LinkCause
-  -- a place that stands in its chain or an earlier one already
+  -- a place that is in its chain or an earlier one already
   ChainCycle : (address : ℕ) → LinkCause
   -- a REF name that no module defines
   Unresolved : (name : List ℕ) → LinkCause

@@ -19,7 +19,7 @@ loaded_at place None = Err (ChainOutside place)
 loaded_at place (Some word) = Ok word
 
 -- The place of the use before a use: the word that is loaded there.
--- Profile: a place that holds no loaded word is refused, and so is one that stands in a chain already.
+-- Profile: a place that holds no loaded word is refused, and so is one that is in a chain already.
 abbrev pub use_before : List (ℕ × ℕ) → Uses → ℕ → Result ℕ LinkCause
 use_before words uses place = do
   word ← loaded_at place (find nat_cmp place words)
@@ -29,7 +29,7 @@ use_before words uses place = do
 abbrev pub most_places : ℕ
 most_places = 65536
 
--- The uses with the uses of one more name, from a place on, up to 0. Since no place stands in two chains or twice in
+-- The uses with the uses of one more name, from a place on, up to 0. Since no place is in two chains or twice in
 -- one, they are no more than there are places.
 unfoldable pub uses_from : ℕ → List (ℕ × ℕ) → List ℕ → Uses → ℕ → Result Uses LinkCause
 uses_from zero words name uses place = Ok uses

@@ -1,4 +1,4 @@
--- Where the modules of a program stand in memory.
+-- Where the modules of a program are in memory.
 --
 -- Editor/Assembler manual, "Tagged object code": relocatable code may stand anywhere, and what is relocatable in a
 -- module moves with it.

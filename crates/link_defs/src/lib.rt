@@ -1,3 +1,3 @@
 //! Linked memory: where the words of modules stand, what the names of one mean in another, and where the program is
-//! entered. The definitions stand in `specs/`.
+//! entered. The definitions are in `specs/`.
 #![tactic(auto)]

@@ -15,7 +15,7 @@ both false b p q = p
 less : (a b : ℕ) → a < b → T (is_lt (nat_cmp a b))
 less a b lt = let e : nat_lt a b ≡ true = grind (arith, nat_tests) in rw e tt
 
--- pairs stand at or above the first address
+-- pairs are at or above the first address
 above : (low at : ℕ) (cells : List (Option ℕ)) → low < at → T (below_all nat_cmp low (pairs_from at cells))
 above low at [] lt = tt
 above low at (None ∷ cells) lt = above low (at + 1) cells (omega arith)

@@ -23,7 +23,7 @@ found_after q (word ∷ before) words none =
 found_here : (word : ℕ × ℕ) (words : List (ℕ × ℕ)) → find nat_cmp word.0 (word ∷ words) ≡ Some word.1
 found_here word words = let same : (word.0 == word.0) ≡ true = grind arith in rw (ties word.0 word.0, same) refl
 
--- where no word stands at the address of one before, each is found by its address
+-- where no word is at the address of one before, each is found by its address
 each_found : (before words : List (ℕ × ℕ)) (k : ℕ) (d : ℕ × ℕ) → first_after is_taken before words ≡ None → k < length words → find nat_cmp (get_or words k d).0 (before ++ words) ≡ Some (get_or words k d).1
 each_found before [] k d none lt = absurd (omega (arith, lt))
 each_found before (word ∷ words) k d none lt =

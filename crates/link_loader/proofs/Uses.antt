@@ -24,7 +24,7 @@ pub use_put : (defs : List (List ℕ × ℕ)) (name : List ℕ) (old new : Table
 use_put defs name old new uses place value holds none is put at =
     rw (put at, holds at, is, find-append nat_cmp nat_cmp_total uses place name at none, ties at place) (pick (at == place) (λ e. rw e refl) (λ e. rw e refl))
 
--- a place that the chain goes on from stands in none yet
+-- a place that the chain goes on from is in none yet
 pub not_used : (words : List (ℕ × ℕ)) (uses : Uses) (place next : ℕ) → use_before words uses place ≡ Ok next → find nat_cmp place uses ≡ None
 not_used words uses place next e =
     pick_option (find nat_cmp place uses) (λ t. t)

@@ -7,7 +7,7 @@ use Rattle.link_loader.specs.declared.error.LinkError.TheVariants.{DuplicateDef,
 use Rattle.link_loader.specs.declared.error.LinkError.TheVariants.{ChainOutside, ChainCycle, Unresolved, NoEntry}
 use Rattle.link_loader.specs.declared.error.LinkError.TheVariants.{Memory}
 
--- The cause is the one that is defined; if memory ran out, nothing is said.
+-- The cause is the one that is defined; if memory ran out, nothing is stated.
 abbrev pub Refuses : {Y : Type 0} → LinkError → Result Y LinkCause → Type 0
 Refuses (DuplicateDef name) defined = defined ≡ Err (causes.DuplicateDef name)
 Refuses (OutOfMemoryRange address) defined = defined ≡ Err (causes.OutOfMemoryRange address)

@@ -12,9 +12,9 @@ use std::alloc::{AllocError, AllocFailed};
 pub enum LinkError {
     /// A DEF defines a name that one before it defines.
     DuplicateDef(Name),
-    /// A word stands at an odd address, or at one where no word may be loaded. The address is computed without wrap.
+    /// A word is at an odd address, or at one where no word may be loaded. The address is computed without wrap.
     OutOfMemoryRange(u32),
-    /// A word stands at the address of another.
+    /// A word is at the address of another.
     Overlap(u16),
     /// A chain comes to a place that holds no loaded word.
     ChainOutside(u16),
@@ -24,7 +24,7 @@ pub enum LinkError {
     Unresolved(Name),
     /// No module says where the program is entered.
     NoEntry,
-    /// Memory was wanting.
+    /// Memory ran out.
     Memory,
 }
 

@@ -11,7 +11,7 @@ use crate::error::LinkError;
 use crate::table::Table;
 use std::alloc::Global;
 
-/// Looks for the first word that stands where no word may be loaded.
+/// Looks for the first word that is where no word may be loaded.
 pub(crate) fn check_places(words: &[(u32, u16)]) -> Result<(), LinkError>
     ensures { Checks result
         (refused_by (λ word. causes.OutOfMemoryRange word.0) (first spec.is_outside words.now)) }

@@ -46,7 +46,7 @@ impl Table {
         Ok(pairs)
     }
 
-    /// Puts the words of another table in the place of those that stand at their addresses.
+    /// Puts the words of another table in the place of those that are at their addresses.
     pub(crate) fn replace(&mut self, others: &Table)
         ensures { (at : ℕ) → word_in self.new.cells.items at
             ≡ replaced (word_in self.old.cells.items at) (word_in others.now.cells.items at) }

@@ -33,7 +33,7 @@ is_unblank = all_also plain_byte unblank (λ x. and_left (unblank x) (in_line x)
 
 -- ---- fields
 
--- what stands in a line without a label
+-- what is in a line without a label
 pub record Cut (line name field : List ℕ) : Type 0 where
   pub operation : Span
   pub operands : Span
@@ -77,7 +77,7 @@ module _ (name gap field : List ℕ) (some : 0 < length name) (few : length name
         field_is = part_is field [] at_field;
       }
 
--- what a name and its operands need, so that they stand in a line
+-- what a name and its operands need, so that they are in a line
 pub record Fit (name field : List ℕ) : Type 0 where
   pub some : 0 < length name
   pub short : length name ≤ 6
@@ -91,7 +91,7 @@ pub number_fit : (name text : List ℕ) → 0 < length name → length name ≤ 
 number_fit name text some short plain few field =
     record { some = some; short = short; few = omega arith; name_plain = plain; field_plain = field }
 
--- the operands as they stand in a field
+-- the operands as they are in a field
 abbrev pub field_of : Option (List ℕ) → List ℕ
 field_of None = []
 field_of (Some text) = text

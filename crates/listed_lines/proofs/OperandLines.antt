@@ -1,4 +1,4 @@
--- Operands with commas between them, and a text after which another stands in parentheses.
+-- Operands with commas between them, and a text after which another is in parentheses.
 use Rattle.std.proofs.Common.{◌≡◌, ℕ, ◌+◌, ◌<◌, Bool, true, false, not, ◌&&◌, List, [], ◌∷◌, ◌++◌}
 use Rattle.std.proofs.Common.{length, take, length-append, refl, ◌∙◌, arith}
 use Rattle.std.specs.Prelude.{map, nat_lt, ◌==◌, slice_range}

@@ -1,3 +1,3 @@
 //! The lines of a listing as lines of a source: their fields, their operands and the numbers in them. Laws alone, which
-//! stand in `proofs/`.
+//! are in `proofs/`.
 #![tactic(auto)]

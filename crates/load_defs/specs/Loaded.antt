@@ -13,11 +13,11 @@ abbrev pub with_words : List (ℕ × ℕ) → Memory → Memory
 with_words [] memory = memory
 with_words (word ∷ words) memory = with_words words (word_placed memory word.0 word.1)
 
--- Profile: one word stands at >83E0, where no linked word does.
+-- Profile: one word is at >83E0, where no linked word does.
 abbrev pub with_first_word : ℕ → Memory → Memory
 with_first_word word memory = cell_set (cell_set memory 0xE0 (high word)) 0xE1 (low word)
 
--- Profile: the words of linked memory stand at their addresses, the word `first` at >83E0, the GROMs hold an image, and
+-- Profile: the words of linked memory are at their addresses, the word `first` at >83E0, the GROMs hold an image, and
 -- all else is as in a new console.
 pub record IsLoaded (linked : LinkedMemory) (image : List ℕ) (first : ℕ) (memory : Memory) : Type 0 where
   pub vdp : VdpState

@@ -1,2 +1,2 @@
-//! What a machine is that linked memory is loaded into. The definitions stand in `specs/`.
+//! What a machine is that linked memory is loaded into. The definitions are in `specs/`.
 #![tactic(auto)]

@@ -11,7 +11,7 @@ use Rattle.machine_change_defs.proofs.Keeping.{Holds, holds, Allowed, step_keeps
 one_word : (a b : ℕ) → Done a ≡ Done b → a ≡ b
 one_word a b e = cc
 
--- what stands after the ports is that of a memory
+-- what comes after the ports is that of a memory
 abbrev pub SamePorts : Memory → Memory → Type 0
 SamePorts first m = (m.vdp ≡ first.vdp) × (m.grom ≡ first.grom)
 

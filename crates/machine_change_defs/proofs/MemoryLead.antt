@@ -21,7 +21,7 @@ use Rattle.machine_change_defs.specs.Laws.{ChangesGiveMemory, memory_by_changes}
 use Rattle.machine_change_defs.proofs.Keeping.{pick}
 use Rattle.machine_change_defs.proofs.Kept.{steps_leave}
 
--- a list whose front has so many bytes
+-- a list whose front has a number of bytes
 module _ (p : List ℕ) (n : ℕ) (size : length p ≡ 2 * n) (x y : ℕ) (b : List ℕ) where
   first_at : get_or (p ++ x ∷ y ∷ b) (2 * n) 0 ≡ x
   first_at = let e : 2 * n - 2 * n ≡ 0 = omega arith in get_or-append_right p (x ∷ y ∷ b) (2 * n) (2 * n) 0 size (omega arith) ∙ ap (λ k. get_or (x ∷ y ∷ b) k 0) e

@@ -15,7 +15,7 @@ use Rattle.machine_change_defs.specs.Seen.{seen_memory}
 use Rattle.machine_change_defs.specs.Changes.{MemoryChanges, memory_changes}
 use Rattle.machine_change_defs.specs.Text.{changes_text}
 
--- a word that is read; none of an instruction that is executed stands at a port
+-- a word that is read; none of an instruction that is executed is at a port
 abbrev pub read_word : Answer ℕ → ℕ
 read_word (Gives word) = word
 read_word _ = 0

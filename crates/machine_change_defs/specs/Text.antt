@@ -32,7 +32,7 @@ abbrev pub latch_text : {T : Type 0} → List ℕ → (T → List ℕ) → Optio
 latch_text name text None = []
 latch_text name text (Some new) = codes " " ++ (name ++ (codes "=" ++ text new))
 
--- Profile: - stands where no byte is held.
+-- Profile: - is where no byte is held.
 abbrev pub held_text : Option ℕ → List ℕ
 held_text None = codes "-"
 held_text (Some byte) = byte_digits byte
@@ -59,7 +59,7 @@ bytes_text made =
     area_text Scratchpad made.scratchpad
     ++ (area_text LowExpansion made.low_expansion ++ area_text HighExpansion made.high_expansion)
 
--- Profile: then what stands after the ports: video memory, its registers, and what the ports hold.
+-- Profile: then what comes after the ports: video memory, its registers, and what the ports hold.
 unfoldable pub ports_text : OtherChanges → List ℕ
 ports_text made =
     area_text Video made.video ++ (area_text Registers made.registers ++ latches_text made.latches)

@@ -67,7 +67,7 @@ latches_none t =
       mark_none t.grom_half_written,
     ) refl
 
--- ---- what stands after the ports
+-- ---- what comes after the ports
 pub ports_none : (m n : SeenMemory) → n.video ≡ m.video → n.registers ≡ m.registers → n.latches ≡ m.latches → ports_text (other_changes m n) ≡ []
 unfolding ports_text
 ports_none m n video registers latches =
@@ -104,7 +104,7 @@ same_text place m =
 pub nothing_shown : (wp : ℕ) (m n : SeenMemory) → n ≡ m → changes_text (memory_changes wp m n) ≡ []
 nothing_shown wp m n same = ap (λ k. changes_text (memory_changes wp m k)) same ∙ same_text (workspace_place wp) m
 
--- a workspace stands in bytes that the processor addresses
+-- a workspace is in bytes that the processor addresses
 pub record KeepsPorts (m n : SeenMemory) : Type 0 where
   pub video : n.video ≡ m.video
   pub registers : n.registers ≡ m.registers

@@ -18,7 +18,7 @@ use machine_change_defs::Area;
 use step_changes::{LongLine, video_registers};
 
 /// Ends the front of an instruction's line by all that changed since what was seen, and a line feed; and keeps what is
-/// seen now. The workspace is the one of the machine before the instruction, which reaches no farther than is said.
+/// seen now. The workspace is the one of the machine before the instruction, which reaches no farther than stated.
 pub(crate) fn append_changes(line: &mut LongLine, reach: Reach, wp: u16, seen: &mut Seen, bus: &Bus)
     requires room { length line.old ≤ 192 }
     requires stays { Stays reach seen.old (spec.seen_memory bus.now) }

@@ -3,9 +3,9 @@
 ghost use Rattle.std.specs.Prelude.{◌≡◌, IfOk};
 ghost use Rattle.machine_change_defs.specs.Seen as spec;
 
-use memory_basics::zeros;
 use grom_counter::Grom;
 use machine_change_defs::Latches;
+use memory_basics::zeros;
 use std::alloc::{AllocError, Global};
 use std::marker::Model;
 use step_changes::video_registers;

@@ -5,7 +5,7 @@ use Rattle.std.specs.List.{slice_get}
 use Rattle.std.proofs.Math.Numerals.{add-one}
 pub use Rattle.bench_io.proofs.Progress.{Listed, listed_more, listed_missed, listed_same, listed_all}
 
--- an item of a list, and what stands after it
+-- an item of a list, and what comes after it
 drop_item : {X : Type 0} (items : List X) (i : ℕ) (item : X) → slice_get items i ≡ Some item → drop i items ≡ item ∷ drop (suc i) items
 drop_item [] i item e = absurd cc
 drop_item (x ∷ xs) zero item e = ap (λ y. y ∷ xs) (ap (λ found. unwrap_or found item) e)

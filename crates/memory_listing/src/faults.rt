@@ -21,7 +21,7 @@ pub fn tag_line(number: u32, cause: TagCause) -> Line
     refusal_line(number, tag_cause_text(cause).as_slice())
 }
 
-/// What is said of a bad place.
+/// The text of a bad place.
 fn tag_cause_text(cause: TagCause) -> Line
     ensures text { result.items ≡ spec.tag_cause_text cause }
     ensures short { array_vec_len result ≤ 64 }
@@ -36,7 +36,7 @@ fn tag_cause_text(cause: TagCause) -> Line
     }
 }
 
-/// What is said of a wrong checksum.
+/// The text of a wrong checksum.
 #[tactic(auto, using(std::proofs::Common::append_assoc))]
 fn checksum_text(found: u16, computed: u16) -> Line
     ensures text { result.items
@@ -94,7 +94,7 @@ fn word_line(words: &[u8], address: u16) -> Line
     line
 }
 
-/// What is said of an address where no word may be loaded. It may have more than four digits.
+/// The text of an address where no word may be loaded. It may have more than four digits.
 #[tactic(auto, using(std::proofs::Common::append_assoc))]
 fn address_line(address: u32) -> Line
     ensures { result.items ≡ spec.fault_text (codes "outside memory ") (spec.marked_address address) }
@@ -113,7 +113,7 @@ fn address_line(address: u32) -> Line
     line
 }
 
-/// How many zeros stand in front of the four digits of a number that is not 0.
+/// How many zeros are in front of the four digits of a number that is not 0.
 fn leading_zeros(number: u16) -> usize
     ensures count { result ≡ spec.leading_zeros number }
     ensures most { result < 4 }

@@ -35,7 +35,7 @@ pub(crate) fn put_words<O: Sink>(linked: &Linked, out: &mut O) -> Result<(), Fai
     Ok(())
 }
 
-/// Up to how many words from a number on stand at an address and at those that follow it.
+/// Up to how many words from a number on are at an address and at those that follow it.
 fn following(linked: &Linked, most: usize, at: u32, index: usize) -> usize
     requires most { most ≤ 7 }
     requires at { at + 2 * most < 2 ^ 32 }

@@ -51,7 +51,7 @@ others from count p false ne e = grind (arith, nat_tests)
 pub chosen : {A : Type 0} (d b : Bool) (this that : A) → d ≡ b → (if d then this else that) ≡ (if b then this else that)
 chosen d b this that e = ap (λ c. if c then this else that) e
 
--- what stands at a place after a first byte and others
+-- what is at a place after a first byte and others
 put_step : (cells after : List (Option Content)) (from p : ℕ) (content : Content) (put : List Content) (found : Option Content)
     → found ≡ (if is_among (from + 1) (length put) p then slice_get put (p - (from + 1)) else cell after p)
     → (p ≡ from → cell after p ≡ Some content) → (p ≢ from → cell after p ≡ cell cells p)
@@ -70,7 +70,7 @@ put_step cells after from p content put found ih same other false false e f =
     let ne : p ≢ from = λ at. let here : nat_eq p from ≡ true = grind (arith, nat_tests, at) in cc (here, e) in
     rw (others from (length put) p false ne f) ((rw f at ih) ∙ other ne)
 
--- what stands at a place after some bytes
+-- what is at a place after some bytes
 pub put_cell : (cells : List (Option Content)) (from : ℕ) (put : List Content) (p : ℕ) → from + length put ≤ length cells
     → cell (put_from cells from put) p ≡ (if is_among from (length put) p then slice_get put (p - from) else cell cells p)
 put_cell cells from [] p le = sym (chosen (is_among from 0 p) false None (cell cells p) (empty from p))
@@ -159,7 +159,7 @@ pub part_placed : (a b : Part) → same_part a b ≡ true → is_placed_in a ≡
 part_placed part.Dummy b e = cc e
 part_placed _ b e = refl
 
--- bytes that are laid after lines
+-- bytes that are put after lines
 module _ (references : List Reference) (earlier : List AssembledLine) (line : AssembledLine) (at : Location) (given : List Content) (is_at : line.at ≡ at) (is_given : is_placed_in at.part ≡ true → given ≡ contents references earlier line) (within : at.number + length given ≤ 65536) where
   size_is : is_placed_in at.part ≡ true → length given ≡ bytes_in line.outcome
   size_is placed = ap length (is_given placed) ∙ contents_length line.at (references_of references earlier) line.outcome

@@ -122,7 +122,7 @@ module _ (references : List Reference) (done : List AssembledLine) (held line : 
   pub places_same : SamePlaces (held ∷ done) (line ∷ done)
   places_same part p = rw (covers_same part p) refl
 
-  -- what stands at a place once the line is there
+  -- what is at a place once the line is there
   abbrev new_at : Part → ℕ → Option Content → Option Content
   new_at part p other = if covers line part p then slice_get (contents references done line) (p - line.at.number) else other
 

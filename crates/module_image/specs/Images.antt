@@ -13,7 +13,7 @@ use Rattle.module_image.specs.Tables.{cell, put_from, is_taken}
 use Rattle.module_image.specs.Holding.{Holds}
 use Rattle.module_image.specs.declared.image.Image.{Image}
 
--- no byte was laid
+-- no byte was put
 pub record IsEmpty (image : Image) : Type 0 where
   pub relocatable : (p : ℕ) → cell image.relocatable.cells.items p ≡ None
   pub absolute : (p : ℕ) → cell image.absolute.cells.items p ≡ None
@@ -23,7 +23,7 @@ pub record IsImage (references : List Reference) (lines : List AssembledLine) (i
   pub relocatable : Holds references lines part.Relocatable image.relocatable
   pub absolute : Holds references lines part.Absolute image.absolute
 
--- the cells of a part after bytes that are laid from a place on
+-- the cells of a part after bytes that are put from a place on
 abbrev pub put_in : Part → Location → List Content → List (Option Content) → List (Option Content)
 put_in part at contents cells = if same_part at.part part then put_from cells at.number contents else cells
 
@@ -31,7 +31,7 @@ pub record IsPut (at : Location) (contents : List Content) (old new : Image) : T
   pub relocatable : new.relocatable.cells.items ≡ put_in part.Relocatable at contents old.relocatable.cells.items
   pub absolute : new.absolute.cells.items ≡ put_in part.Absolute at contents old.absolute.cells.items
 
--- one of some bytes from a place on was laid
+-- one of some bytes from a place on was put
 abbrev pub any_in : Part → Image → ℕ → ℕ → Bool
 any_in part.Relocatable image from count = any_from (is_taken image.relocatable.cells.items) from count
 any_in part.Absolute image from count = any_from (is_taken image.absolute.cells.items) from count

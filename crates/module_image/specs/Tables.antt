@@ -4,7 +4,7 @@ use Rattle.std.specs.Prelude.{None}
 use Rattle.asm_defs.specs.declared.content.Content.{Content}
 use Rattle.asm_defs.specs.Memory.{count_from, part_words}
 
--- what stands in a cell
+-- what is in a cell
 abbrev pub cell : List (Option Content) → ℕ → Option Content
 cell cells p = slice_index_or cells p None
 

@@ -52,7 +52,7 @@ impl Image {
         Ok(())
     }
 
-    /// Lays bytes from a place on. Nothing is laid in the part of dummy lines.
+    /// Puts bytes from a place on. Nothing is put in the part of dummy lines.
     pub fn fill_reserved(&mut self, at: Location, contents: &[Content])
         requires { at.number + length contents.now ≤ 65536 }
         ensures { IsPut at contents.now self.old self.new }
@@ -64,7 +64,7 @@ impl Image {
         }
     }
 
-    /// Whether one of some bytes from a place on was laid before.
+    /// Whether one of some bytes from a place on was put before.
     fn has_any(&self, at: Location, count: usize) -> bool
         requires { at.number + count ≤ 65536 }
         ensures { result ≡ any_put self.now at count }

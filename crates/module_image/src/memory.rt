@@ -17,7 +17,7 @@ pub(crate) const WORDS: u32 = 32_768;
 /// The bytes of a part, and how many words have one.
 #[derive(Debug, Drop)]
 pub struct Table {
-    /// What stands at each place.
+    /// What is at each place.
     pub cells: Vec<Option<Content>>,
     /// How many words have a byte.
     pub words: u32,

@@ -65,7 +65,7 @@ is_blank byte = nat_eq byte 0x20
 abbrev pub word_of : List ℕ → List ℕ
 word_of text = take_while (λ byte. not (is_blank byte)) text
 
--- A label has at most six characters from column 1 on, blanks stand after it up to column 7, and what
+-- A label has at most six characters from column 1 on, blanks come after it up to column 7, and what
 -- begins in column 8 is no blank.
 abbrev pub stands_in_columns : List ℕ → Bool
 stands_in_columns line =
@@ -90,14 +90,14 @@ left_out =
 abbrev pub is_hexadecimal_digit : ℕ → Bool
 is_hexadecimal_digit byte = (nat_le 0x30 byte && nat_le byte 0x39) || (nat_le 0x41 byte && nat_le byte 0x46)
 
--- The value of EQU is a number of four hexadecimal digits, and nothing stands after it.
+-- The value of EQU is a number of four hexadecimal digits, and nothing comes after it.
 abbrev pub names_a_number : List ℕ → Bool
 names_a_number line =
     not (has_operation line (codes "EQU")) ||
     (bytes_eq (take 5 (drop 7 line)) (codes "EQU >") && nat_eq (length line) 16 &&
     list_all is_hexadecimal_digit (drop 12 line))
 
--- A DATA line has at most three words, which stand between commas. An instruction has no more.
+-- A DATA line has at most three words, which are between commas. An instruction has no more.
 abbrev pub has_three_words : List ℕ → Bool
 has_three_words line = not (has_operation line (codes "DATA")) || nat_le (count_by (nat_eq 0x2C) line) 2
 
@@ -114,7 +114,7 @@ abbrev pub is_mode_sign : ℕ → ℕ → List ℕ → Bool
 is_mode_sign before byte after =
     (nat_eq byte 0x2A && (nat_eq before 0x20 || nat_eq before 0x2C)) || (nat_eq byte 0x2B && ends_operand after)
 
--- how many operators stand after a byte
+-- how many operators come after a byte
 abbrev pub operators_after : ℕ → List ℕ → ℕ
 operators_after before [] = 0
 operators_after before (byte ∷ rest) =

@@ -7,7 +7,7 @@ pub fn entries_come_first()
     ensures { spec.EntriesComeFirst }
 {}
 
-/// Each part of the interpreter stands at the address that is its constant.
+/// Each part of the interpreter is at the address that is its constant.
 pub fn routines_are_in_place()
     ensures { spec.RoutinesAreInPlace }
 {}

@@ -1,4 +1,4 @@
--- A text has at most so many modules.
+-- The number of modules in a text is bounded.
 use Rattle.std.proofs.Common.{◌≡◌, ℕ, ◌+◌, ◌≤◌, Bool, true, false, List, [], ◌∷◌, ◌++◌, length, length-append, refl, ap, subst, arith, Result, Ok, Err}
 use Rattle.std.specs.Prelude.{nat_le, if◌then◌else◌}
 use Rattle.std.proofs.lemmas.Bool.Decides.{nat_tests}
@@ -11,7 +11,8 @@ use Rattle.object_defs.specs.declared.tag.Tag.TheVariants as tags
 use Rattle.object_defs.specs.Modules.{Module, most_modules}
 use Rattle.object_defs.specs.Groups.{Group, Header, EndOfModule, FoundGroup, Whole, Broken}
 use Rattle.object_defs.specs.Groups.{tag_found, groups_of}
-use Rattle.object_defs.specs.Reading.{Found, NumberedLine, is_allowed, is_allowed_first, module_of, added, with_group, with_groups, with_lines, ended, nothing_found}
+use Rattle.object_defs.specs.Reading.{Found, NumberedLine, is_allowed, is_allowed_first, module_of, added, with_group, with_groups, with_lines, ended}
+use Rattle.object_defs.specs.Reading.{nothing_found}
 use Rattle.object_defs.specs.Reading.{last_number, form_of, text_lines, read}
 
 -- the module that is open counts too

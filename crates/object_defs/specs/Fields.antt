@@ -1,4 +1,4 @@
--- The fields that stand after a tag: a number, and after some tags a name.
+-- The fields that come after a tag: a number, and after some tags a name.
 --
 -- Editor/Assembler manual, "Tagged object code": a number is four hexadecimal digits, in compressed text two bytes; a
 -- name is eight or six characters.

@@ -62,7 +62,7 @@ abbrev pub group_found : FoundGroup → Result Group TagCause
 group_found (Whole character group) = Ok group
 group_found (Broken character tag cause) = Err cause
 
--- The tag that a character is at a place of its line, from 0. What ends a module stands first.
+-- The tag that a character is at a place of its line, from 0. What ends a module comes first.
 abbrev pub tag_at : TextForm → ℕ → ℕ → Option Tag
 tag_at form place character =
     if (character == tag_character tags.EndOfModule) && not (place == 0) then None else tag_of form character
@@ -71,7 +71,7 @@ tag_at form place character =
 abbrev pub compared : ℕ → ℕ → Result Group TagCause
 compared computed number = if number == computed then Ok Sum else Err (Checksum number computed)
 
--- the group that a tag begins, by what stands after it, where its line has a checksum through the tag
+-- the group that a tag begins, by what comes after it, where its line has a checksum through the tag
 abbrev pub group_of : TextForm → ℕ → ℕ → Tag → List ℕ → Result Group TagCause
 group_of form computed character tags.Header after = do
   size ← number_at form after
@@ -101,13 +101,13 @@ abbrev pub found_as : ℕ → Tag → Result Group TagCause → FoundGroup
 found_as character tag (Ok group) = Whole character group
 found_as character tag (Err cause) = Broken character (Some tag) cause
 
--- what stands in the place of a group, by its tag
+-- what is in the place of a group, by its tag
 unfoldable pub found_with : TextForm → ℕ → ℕ → Option Tag → List ℕ → FoundGroup
 found_with form computed character None after = Broken character None (BadTag character)
 found_with form computed character (Some tag) after =
     found_as character tag (group_of form computed character tag after)
 
--- What stands in the place of a group. The checksum is that of the line's characters from the first through the group's
+-- What is in the place of a group. The checksum is that of the line's characters from the first through the group's
 -- tag.
 abbrev pub found_at : TextForm → List ℕ → ℕ → List ℕ → FoundGroup
 found_at form before character after =
@@ -137,12 +137,12 @@ abbrev pub ends_line : FoundGroup → Bool
 ends_line (Whole character group) = is_last group
 ends_line (Broken character tag cause) = true
 
--- how many characters stand after the tag
+-- how many characters come after the tag
 abbrev pub size_found : TextForm → FoundGroup → ℕ
 size_found form (Whole character group) = group_size form group
 size_found form (Broken character tag cause) = 0
 
--- At most a number of groups of a line, from a place on: what stands there, and then the groups after it.
+-- At most a number of groups of a line, from a place on: what is there, and then the groups after it.
 -- Profile: a line may end without the tag of its end.
 unfoldable pub groups_from : ℕ → TextForm → List ℕ → ℕ → List FoundGroup
 groups_from zero form line at = []

@@ -70,7 +70,7 @@ is_module_name bytes = (length bytes == 8) && all_name_characters bytes
 abbrev pub IsAtEvenPlace : Piece → Type 0
 IsAtEvenPlace piece = number_of piece.at % 2 ≡ 0
 
--- what a module must be to have a text: its words stand at even places, and it passes no limit
+-- what a module must be to have a text: its words are at even places, and it passes no limit
 pub record HasText (m : Module) : Type 0 where
   pub even_places : AllByRecursion IsAtEvenPlace m.pieces
   pub words : length m.pieces ≤ most_words

@@ -61,7 +61,7 @@ use Rattle.object_defs.specs.Groups.{
   groups_of,
 }
 
--- A module from its groups, of which the nearest stands first.
+-- A module from its groups, of which the nearest comes first.
 
 -- the last address group, or relocatable 0
 -- Profile: the lowest bit of a load address is dropped.

@@ -37,7 +37,7 @@ reference_text reference =
 abbrev pub entry_text : Spot → List ℕ
 entry_text entry = group (tags.Entry (kind_of entry)) (number_of entry)
 
--- what is written: a group, or a word that stands at its place
+-- what is written: a group, or a word that is at its place
 pub data Item : Type 0 where
   Group : List ℕ → Item
   Placed : Piece → Item

@@ -3,7 +3,7 @@
 /// What is wrong at the first bad place of an object text.
 #[derive(Clone, Copy, Debug, PartialEq, Eq)]
 pub enum TagCause {
-    /// A group is refused: its tag is none that may stand in its place, or its name is no name. It carries the tag.
+    /// A group is refused: its tag is none that may be in its place, or its name is no name. It carries the tag.
     BadTag(u8),
     /// One of the four characters after a tag is no hexadecimal digit. It does not come for a compressed text.
     BadDigit,
@@ -11,7 +11,7 @@ pub enum TagCause {
     ShortField,
     /// The checksum is not the checksum of the line.
     Checksum {
-        /// The checksum that stands in the line.
+        /// The checksum that is in the line.
         found: u16,
         /// The line's checksum.
         computed: u16,

@@ -1,4 +1,4 @@
-//! Tagged object code: modules, their written text, and what a text reads as. The definitions stand in `specs/`.
+//! Tagged object code: modules, their written text, and what a text reads as. The definitions are in `specs/`.
 #![tactic(auto)]
 
 mod causes;

@@ -1,4 +1,4 @@
-//! Places, and the words that stand there.
+//! Places, and the words that are there.
 
 /// A number that stays as it is, or one that moves with the module's relocatable code when that is placed.
 #[derive(Clone, Copy, Debug, PartialEq, Eq)]

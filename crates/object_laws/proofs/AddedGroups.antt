@@ -23,7 +23,7 @@ use Rattle.object_defs.proofs.FieldsAgain.{number_again, symbol_again, digits_le
 abbrev pub leads : Kept → List ℕ → List ℕ → Result Kept TagCause
 leads kept before rest = kept_groups kept (groups_after Plain before 0 rest)
 
--- a text adds to a module what another has more than it, whatever line it stands in
+-- a text adds to a module what another has more than it, whatever line it is in
 abbrev pub Adds : OpenModule → List ℕ → OpenModule → Type 0
 Adds m text after = (kept : Kept) (before rest : List ℕ) → leads (with_current kept m) before (text ++ rest) ≡ leads (with_current kept after) (before ++ text) rest
 

@@ -11,7 +11,8 @@ use Rattle.object_defs.specs.Fields.{all_blank}
 use Rattle.object_defs.specs.Groups.{Group, Header, Entry, Referred, Defined, Word, FoundGroup, Whole, Broken}
 use Rattle.object_defs.specs.Groups.{tag_of_group, groups_from}
 use Rattle.object_laws.proofs.Places.{all_places}
-use Rattle.object_defs.specs.Reading.{last_address, words_since, place_after, module_of, is_allowed_first, is_allowed_after, Found, nothing_found, added, with_group}
+use Rattle.object_defs.specs.Reading.{last_address, words_since, place_after, module_of, is_allowed_first, is_allowed_after, Found, nothing_found, added}
+use Rattle.object_defs.specs.Reading.{with_group}
 use Rattle.object_defs.specs.Reading.{with_groups, NumberedLine, with_lines, last_number, ended, form_of, text_lines, read}
 use Rattle.object_laws.specs.Running.{OpenModule, first_of, grown, more, begun, Kept, nothing_kept, kept_with, kept_groups, kept_line, kept_lines, finished}
 

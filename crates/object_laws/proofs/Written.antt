@@ -88,7 +88,7 @@ checksum-lt bytes = omega arith
 regroup : (a b c d e : List ℕ) → (((a ++ b) ++ c) ++ d) ++ e ≡ a ++ (b ++ (c ++ (d ++ e)))
 regroup a b c d e = simp append_assoc
 
--- what stands after the groups of a line
+-- what comes after the groups of a line
 body_ends : (number : ℕ) (text : List ℕ) → (pad : List ℕ) × (body_of number (summed text) ≡ text ++ line_end text pad)
 body_ends number text =
     let blanks : List ℕ = replicate (76 - length (summed text)) 0x20 in

@@ -1,5 +1,5 @@
 -- What a reader may keep of the groups that it has read, in place of the groups: the module so far, and a load address
--- that each word moves. No rule stands here; that reading so is reading is proved (`proofs/ReaderRuns`).
+-- that each word moves. No rule is here; that reading so is reading is proved (`proofs/ReaderRuns`).
 use Rattle.std.specs.Prelude.{ℕ, zero, suc, ◌++◌, Bool, true, false, if◌then◌else◌, List, [], ◌∷◌, length}
 use Rattle.std.specs.Prelude.{Option, Some, None, Result, Ok, Err}
 use Rattle.source_defs.specs.Refusals.{Refusal, ◌>>=◌, at_line}

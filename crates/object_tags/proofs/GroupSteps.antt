@@ -73,7 +73,7 @@ module _ (line : List ℕ) (at : ℕ) (inside : at < length line) where
       let added : ((total + byte) % 65536) % 65536 ≡ sum (before ++ byte ∷ []) % 65536 = omega (arith, is, sum-append before (byte ∷ [])) in
       ap (λ (n : ℕ). (65536 - n) % 65536) added
 
-  -- what stands in the place of a group, and the groups after it
+  -- what is in the place of a group, and the groups after it
   pub first_group : (form : TextForm) (found : FoundGroup) → found ≡ found_with form (checksum (before ++ byte ∷ [])) byte (tag_at form at byte)
       (drop (at + 1) line)
       → groups_after form before 0 (drop at line) ≡ found ∷ cond (ends_line found) []

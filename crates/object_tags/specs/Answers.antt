@@ -20,7 +20,7 @@ model_of_open m = record { found = model_of_module m.found; load = m.load }
 abbrev pub model_of_modules : List Module → List defined.Module
 model_of_modules modules = map model_of_module modules
 
--- The cause is the one that is defined; if memory ran out, nothing is said.
+-- The cause is the one that is defined; if memory ran out, nothing is stated.
 abbrev pub Fails : {Y : Type 0} → Failure → Result Y TagCause → Type 0
 Fails failures.Memory read = ⊤
 Fails (failures.Cause cause) read = read ≡ Err cause
@@ -35,7 +35,7 @@ abbrev pub Leaves : {T Y : Type 0} → Result T Failure → Y → Result Y TagCa
 Leaves (Ok _) after read = read ≡ Ok after
 Leaves (Err failure) after read = Fails failure read
 
--- The first bad place is the one that is defined; if memory ran out, nothing is said.
+-- The first bad place is the one that is defined; if memory ran out, nothing is stated.
 abbrev pub Refuses : {Y : Type 0} → TagError → Result Y (Refusal TagCause) → Type 0
 Refuses (At line cause) read = read ≡ Err (record { line = line; cause = cause })
 Refuses Memory read = ⊤

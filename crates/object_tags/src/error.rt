@@ -17,7 +17,7 @@ pub enum TagError {
         /// What is wrong there.
         cause: TagCause,
     },
-    /// Memory was wanting.
+    /// Memory ran out.
     Memory,
 }
 
@@ -34,7 +34,7 @@ impl From<AllocError> for TagError {
 pub(crate) enum Failure {
     /// It is refused.
     Cause(TagCause),
-    /// Memory was wanting.
+    /// Memory ran out.
     Memory,
 }
 

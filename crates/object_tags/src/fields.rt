@@ -21,7 +21,7 @@ pub(crate) fn front(bytes: &[u8], count: usize) -> &[u8]
     }
 }
 
-/// What stands after the first `count` bytes.
+/// What comes after the first `count` bytes.
 pub(crate) fn after(bytes: &[u8], count: usize) -> &[u8]
     ensures { result.now ≡ drop count bytes.now }
 {

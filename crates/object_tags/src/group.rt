@@ -1,4 +1,4 @@
-//! What stands in a line in the place of a group.
+//! What is in a line in the place of a group.
 
 ghost use Rattle.std.specs.Prelude.{◌≡◌};
 ghost use Rattle.object_defs.specs.Groups as spec;
@@ -133,7 +133,7 @@ impl FoundGroup {
         }
     }
 
-    /// How many characters stand after the tag.
+    /// How many characters come after the tag.
     pub(crate) fn size(&self, form: TextForm) -> usize
         ensures { result ≡ spec.size_found form (model_of_found self.now) }
     {

@@ -99,7 +99,7 @@ impl<'a> Iterator for Groups<'a> {
     }
 }
 
-/// The tag that a character is at a place of its line. What ends a module stands first in its line.
+/// The tag that a character is at a place of its line. What ends a module comes first in its line.
 fn tag_at(form: TextForm, at: usize, character: u8) -> Option<Tag>
     ensures { result ≡ spec.tag_at form at character }
 {
@@ -109,7 +109,7 @@ fn tag_at(form: TextForm, at: usize, character: u8) -> Option<Tag>
     tag_of(form, character)
 }
 
-/// What stands in the place of a group, in a line that has a checksum through the character there.
+/// What is in the place of a group, in a line that has a checksum through the character there.
 #[tactic(auto, unfolding(object_defs::specs::Groups::found_with))]
 fn found_with(
     form: TextForm,

@@ -79,7 +79,7 @@ impl OpenModule {
         Ok(())
     }
 
-    /// The tag, where it may stand after the groups of the module.
+    /// The tag, where it may come after the groups of the module.
     fn is_allowed_after(&self, character: u8, tag: Option<Tag>) -> Result<Tag, TagCause>
         ensures { result ≡ reading.is_allowed_after (model_of_module self.now.found) character tag }
     {

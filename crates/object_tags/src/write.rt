@@ -19,7 +19,7 @@ use std::alloc::{AllocError, Global};
 /// The text of a module: its lines, as `write_lines` gives them, one after the other. `read_modules` gives the module
 /// back from it.
 ///
-/// The module's words stand at even places, and it has at most 32,768 words, 256 DEFs and 256 REFs.
+/// The module's words are at even places, and it has at most 32,768 words, 256 DEFs and 256 REFs.
 ///
 /// # Errors
 /// `AllocError` means that memory ran out.
@@ -39,7 +39,7 @@ pub fn write_module(alloc: Global, module: &Module) -> Result<Vec<u8>, AllocErro
 /// The lines of the text of a module: lines of groups, each with its checksum and its number, and the line that ends
 /// the module. `read_modules` gives the module back from them as one text.
 ///
-/// The module's words stand at even places, and it has at most 32,768 words, 256 DEFs and 256 REFs.
+/// The module's words are at even places, and it has at most 32,768 words, 256 DEFs and 256 REFs.
 ///
 /// # Errors
 /// `AllocError` means that memory ran out.

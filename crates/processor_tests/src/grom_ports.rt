@@ -1,8 +1,8 @@
 //! Cases of the three ports, worked out by hand from their rules.
 
 use crate::grom_ports::Access::{ReadAddress, ReadData, WriteAddress};
-use memory_basics::next_in_grom;
 use grom_counter::Grom;
+use memory_basics::next_in_grom;
 use std::alloc::{AllocError, Global};
 use std::test::Fail;
 

@@ -111,7 +111,7 @@ fn maps_memory(rt: HostRuntime) -> Result<(), Fail> {
     Ok(())
 }
 
-/// Whether a port stops word accesses at its address and at the next one, and stands at its own alone.
+/// Whether a port stops word accesses at its address and at the next one, and is at its own alone.
 fn stops_words(bus: &mut Bus, port: u16) -> bool {
     let stop = Err(PortStop(port));
     let odd = port.wrapping_add(1);

@@ -1,5 +1,6 @@
 -- A listing of dis copies no file, so asm makes its words again, whatever files there are.
-use Rattle.std.proofs.Common.{◌≡◌, ℕ, zero, suc, ◌+◌, ◌-◌, ◌*◌, ◌/◌, ◌<◌, ◌≤◌, Bool, true, false, List, [], ◌∷◌, ◌++◌, drop, length, append_assoc, refl, ap, sym, subst, ◌∙◌}
+use Rattle.std.proofs.Common.{◌≡◌, ℕ, zero, suc, ◌+◌, ◌-◌, ◌*◌, ◌/◌, ◌<◌, ◌≤◌, Bool, true, false, List, [], ◌∷◌, ◌++◌, drop, length, append_assoc, refl, ap}
+use Rattle.std.proofs.Common.{sym, subst, ◌∙◌}
 use Rattle.std.proofs.Common.{Ok, Option, Some, None, arith}
 use Rattle.std.specs.Prelude.{Result, map, slice_get, codes, if◌then◌else◌}
 use Rattle.std.specs.Option.{unwrap_or}
@@ -24,7 +25,8 @@ use Rattle.listed_lines.proofs.LineTexts.{lines_joined, clean_lines, text_of}
 use Rattle.word_listings.specs.Listing.{memory_listing}
 use Rattle.word_listings.specs.Modules.{wraps, wrapping_from, first_wrapping, unless_far}
 use Rattle.word_listings.specs.Law.{AreFromEvenAddress, listed_module}
-use Rattle.word_listings.proofs.ListingLaw.{AllBytes, aorg_text, are_words, words_fit, listing_texts, listing_ends, clean_all, listing_is, after_layout, odd_texts}
+use Rattle.word_listings.proofs.ListingLaw.{AllBytes, aorg_text, are_words, words_fit, listing_texts, listing_ends, clean_all, listing_is, after_layout}
+use Rattle.word_listings.proofs.ListingLaw.{odd_texts}
 use Rattle.word_listings.proofs.After.{texts_from}
 use Rattle.word_listings.proofs.ListingLaw.{OwnLine, AreOwn, own_end, own_front, front_texts}
 use Rattle.report_defs.specs.Report.{asm_report}

@@ -12,7 +12,7 @@ use Rattle.report_defs.specs.declared.fault.Fault.TheVariants.{Usage, TooLarge, 
 unfoldable pub usage_line : List ℕ
 usage_line = codes "usage: ti_bench asm|link|dis ADDR|exec N|gasm|gdis ADDR|interp|run N|trace N|demo K\n"
 
--- a refused line, by its number from 1 and what is said of it
+-- a refused line, by its number from 1 and its cause
 unfoldable pub refusal_line : ℕ → List ℕ → List ℕ
 refusal_line line text = codes "line " ++ (decimal line ++ (codes ": " ++ (text ++ codes "\n")))
 

@@ -20,7 +20,7 @@ use Rattle.report_defs.specs.ProgramCommands.{FileCommand, AsmFiles, LinkFiles, 
 use Rattle.report_defs.specs.Watching.{ReportsWatch}
 
 -- Profile: the report of asm is the object text of the module, line by line; or the first refused line, with the file
--- that it stands in; or that a file is too large.
+-- that it is in; or that a file is too large.
 abbrev pub copy_report : Result Module CopyRefusal → Report
 copy_report (Ok found) = Whole Done (written_lines found)
 copy_report (Err (At place cause)) = Rejected (place_line place cause)

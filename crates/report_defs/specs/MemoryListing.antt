@@ -13,7 +13,7 @@ entry_line entry = codes "entry " ++ (hex_word entry ++ codes "\n")
 abbrev pub name_line : List ℕ × ℕ → List ℕ
 name_line named = named.0 ++ (0x20 ∷ (hex_word named.1 ++ codes "\n"))
 
--- up to how many words in front stand at an address and at those that follow it
+-- up to how many words in front are at an address and at those that follow it
 abbrev pub following : ℕ → ℕ → List (ℕ × ℕ) → ℕ
 following zero at words = 0
 following (suc most) at [] = 0

@@ -1,4 +1,4 @@
--- What is said of object text that is refused, and of modules that are not linked.
+-- The texts of causes: object text that is refused, and modules that are not linked.
 --
 -- Profile: each cause has a text of its own, with its name, its address or its numbers.
 use Rattle.std.specs.Prelude.{ℕ, ◌/◌, ◌%◌, nat_lt, if◌then◌else◌, List, ◌∷◌, ◌++◌, drop, codes}
@@ -23,7 +23,7 @@ tag_cause_text TooMany = codes "too many"
 abbrev pub tag_line : Refusal TagCause → List ℕ
 tag_line refused = refusal_line refused.line (tag_cause_text refused.cause)
 
--- how many zeros stand in front of the four digits of a number that is not 0
+-- how many zeros are in front of the four digits of a number that is not 0
 abbrev pub leading_zeros : ℕ → ℕ
 leading_zeros number =
     if nat_lt number 0x10 then 3 else if nat_lt number 0x100 then 2 else if nat_lt number 0x1000 then 1 else 0

@@ -24,6 +24,6 @@ row_lines first bytes number =
     else if is_repeated bytes (number - 1) then []
     else codes "*\n" ∷ []
 
--- the lines of bytes in rows, of which the first stands at an address
+-- the lines of bytes in rows, of which the first is at an address
 unfoldable pub rows_lines : ℕ → List ℕ → List (List ℕ)
 rows_lines first bytes = flat_map (row_lines first bytes) (range_with_len 0 (length bytes / 16))

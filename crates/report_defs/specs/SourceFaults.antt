@@ -1,4 +1,4 @@
--- What is said of a source that is refused: the number of the line, from 1, and its cause.
+-- The text of a source that is refused: the number of the line, from 1, and its cause.
 --
 -- Profile: each cause has a text of its own.
 use Rattle.std.specs.Prelude.{ℕ, List, codes}

@@ -7,12 +7,12 @@ pub enum Command {
     Asm,
     /// `gasm`: assembles a GPL source to the bytes of its image.
     Gasm,
-    /// `dis ADDR`: lists raw bytes, which stand from an address on, as assembler source.
+    /// `dis ADDR`: lists raw bytes, which begin at an address, as assembler source.
     Dis {
         /// The address of the first byte, which is even.
         at: u16,
     },
-    /// `gdis ADDR`: lists bytes of GROM, which stand from an address on, as a GPL source.
+    /// `gdis ADDR`: lists bytes of GROM, which begin at an address, as a GPL source.
     Gdis {
         /// The address of the first byte.
         at: u16,

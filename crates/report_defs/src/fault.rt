@@ -1,4 +1,4 @@
-//! Why a fault line stands in the place of a report.
+//! Why a fault line is in the place of a report.
 
 /// What a fault line says.
 #[derive(Clone, Copy, Debug, PartialEq, Eq)]

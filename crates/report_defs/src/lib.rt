@@ -1,4 +1,4 @@
-//! What the program reports: its commands and statuses, fault lines and reports. The definitions stand in `specs/`.
+//! What the program reports: its commands and statuses, fault lines and reports. The definitions are in `specs/`.
 #![tactic(auto)]
 
 mod command;

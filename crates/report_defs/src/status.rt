@@ -13,7 +13,7 @@ pub enum Status {
     ReadFault = 3,
     /// The report, or a fault line in its place, could not be written whole.
     WriteFault = 4,
-    /// Memory was wanting.
+    /// Memory ran out.
     Memory = 5,
     /// The report is whole, and its machine stopped at a word that is not executed or at a port, or its GPL program at
     /// a step that cannot be made.

@@ -27,7 +27,7 @@ pub fn gpl_line(number: u32, cause: GplCause) -> Line
     refusal_line(number, gpl_cause_text(cause))
 }
 
-/// What is said of a refused line, by its number, from 1, in at most 64 bytes. It has room for a file's name before it.
+/// The text of a refused line, by its number, from 1, in at most 64 bytes. It has room for a file's name before it.
 #[tactic(auto, using(std::proofs::Common::append_assoc), unfolding(report_defs::specs::FaultLine::refusal_line))]
 pub fn refusal_line(number: u32, text: &[u8]) -> Line
     requires { length text.now ≤ 64 }

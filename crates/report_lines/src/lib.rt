@@ -1,4 +1,4 @@
-//! The lines that reports are made of, how lines are written one by one, and what is said of a source that is
+//! The lines that reports are made of, how lines are written one by one, and the text of a source that is
 //! refused. Nothing takes memory.
 #![tactic(auto)]
 

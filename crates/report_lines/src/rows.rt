@@ -9,7 +9,7 @@ use crate::line::{Line, append_spaced, append_word};
 use bench_io::{Failed, Sink, put_chunk};
 use lane_scan::rows_equal;
 
-/// Writes bytes in rows of 16, of which the first stands at an address; a run of rows that equal the row before them is
+/// Writes bytes in rows of 16, of which the first is at an address; a run of rows that equal the row before them is
 /// an asterisk. Each line is written by one call, and no memory is taken.
 ///
 /// # Errors

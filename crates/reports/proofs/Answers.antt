@@ -1,4 +1,4 @@
--- What is reported, said otherwise.
+-- What is reported, stated in other forms.
 use Rattle.std.proofs.Common.{Result, Ok, Err}
 use Rattle.report_defs.specs.declared.status.Status.{Status}
 use Rattle.report_defs.specs.Report.{Report}

@@ -39,7 +39,7 @@ abbrev pub Reported : (Report → Type 0) → (Status → Type 0) → Result Rep
 Reported Reports Fails (Ok report) = Reports report
 Reported Reports Fails (Err end) = Fails end
 
--- memory alone was wanting
+-- memory alone ran out
 abbrev pub WantsMemory : Status → Type 0
 WantsMemory end = end ≡ status.Memory
 
@@ -76,7 +76,7 @@ abbrev pub tag_answer : TagError → Result Report Status
 tag_answer (tag.At line cause) = Ok (Rejected (tag_line (record { line = line; cause = cause })))
 tag_answer tag.Memory = Err status.Memory
 
--- by the line, if there is one; else memory was wanting
+-- by the line, if there is one; else memory ran out
 abbrev pub line_answer : Option (List ℕ) → Result Report Status
 line_answer (Some line) = Ok (Rejected line)
 line_answer None = Err status.Memory

@@ -8,7 +8,7 @@ use Rattle.report_defs.specs.declared.status.Status.TheVariants.{Done}
 use Rattle.report_defs.specs.Program.{program_status, stop_lines, state_lines}
 use Rattle.report_defs.specs.Watching.{hit_line, no_hit_line}
 
--- what is said of what was found
+-- the text of what was found
 abbrev pub found_line : Found → List ℕ
 found_line (found.Hit step from item change) = hit_line step from item change
 found_line found.None = no_hit_line

@@ -28,7 +28,7 @@ pub enum CommandError {
     Fault(Fault),
     /// The input or the shelf failed.
     ReadFault,
-    /// Memory was wanting.
+    /// Memory ran out.
     Memory,
 }
 

@@ -7,7 +7,7 @@ ghost use Rattle.word_listings.specs.Listing as spec;
 use crate::listing_lines::{origin_line, put_instructions, put_odd_byte};
 use bench_io::{Failed, Sink, put_chunk};
 
-/// Raw bytes that stand in memory from an address on, and end at >FFFF or before.
+/// Raw bytes that are in memory from an address on, and end at >FFFF or before.
 #[derive(Drop)]
 pub struct Listing {
     /// Where the first byte stands.

@@ -27,7 +27,7 @@ pub(crate) fn origin_line(at: u16) -> Line
     line
 }
 
-/// Writes the lines of the words that bytes hold, of which the first stands at an address: each an instruction, or
+/// Writes the lines of the words that bytes hold, of which the first is at an address: each an instruction, or
 /// DATA.
 #[tactic(auto, using(bench_io::proofs::Writes::wrote_none))]
 pub(crate) fn put_instructions<O: Sink>(at: u16, bytes: &[u8], out: &mut O) -> Result<(), Failed>

@@ -8,7 +8,7 @@ use bench_io::Sink;
 use report_defs::Status;
 
 /// Writes a report to `out`, or to `err` the line of a refusal or a fault, and nothing where the input or the shelf
-/// failed or memory was wanting. It gives the status that the program ends with, which is a write fault where the
+/// failed or memory ran out. It gives the status that the program ends with, which is a write fault where the
 /// output failed. It takes no memory.
 pub fn finish<O: Sink, E: Sink>(
     made: &Result<Report, CommandError>,

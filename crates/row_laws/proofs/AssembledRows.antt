@@ -134,7 +134,8 @@ module _ (source : List ℕ) (s : GplState) where
   abbrev texts : List (ℕ × List ℕ)
   texts = line_texts source
 
-  lines_show : (lines : List Line) (found : List AssembledLine) → line_layout check texts ≡ Ok lines → assembled_lines (assembled_line (names lines)) lines ≡ Ok found
+  lines_show : (lines : List Line) (found : List AssembledLine) → line_layout check texts ≡ Ok lines
+      → assembled_lines (assembled_line (names lines)) lines ≡ Ok found
       → (listing_of source).rows ≡ rows (placed_bytes (names lines)) texts lines
       → AllByRecursion (RowIsIn s.image) (listing_of source).rows → ShowsLines source s
   lines_show lines found line_layout e is are_bytes_at = record {
@@ -158,7 +159,8 @@ module _ (source : List ℕ) (s : GplState) where
       let is : listing_of source ≡ assembled_listing texts lines (Ok found) = ap (layout_listing texts) line_layout ∙ ap (assembled_listing texts lines) e in
       lines_show lines found line_layout e (ap (λ listing. listing.rows) is) are_bytes_at
 
-  source_shows : (answer : Result (List Line) (Refusal GplCause)) (program : Program) → line_layout check texts ≡ answer → (answer >>= program_after) ≡ Ok program
+  source_shows : (answer : Result (List Line) (Refusal GplCause)) (program : Program) → line_layout check texts ≡ answer
+      → (answer >>= program_after) ≡ Ok program
       → AllByRecursion (RowIsIn s.image) (listing_of source).rows → ShowsLines source s
   source_shows (Err refused) program line_layout made are_bytes_at = cc made
   source_shows (Ok lines) program line_layout made are_bytes_at =

@@ -1,4 +1,4 @@
--- The bytes of the rows of a source stand in its image, and in each state of a run.
+-- The bytes of the rows of a source are in its image, and in each state of a run.
 use Rattle.std.proofs.Common.{◌≡◌, ℕ, zero, suc, ◌+◌, ◌%◌, ◌<◌, ◌≤◌, ◌≢◌, Bool, true, false, ◌||◌, List, [], ◌∷◌, ◌++◌, Some, Ok, Err}
 use Rattle.std.proofs.Common.{length, refl, sym, ap, subst, ◌∙◌, arith, nat_cmp}
 use Rattle.std.specs.Prelude.{Option, Result, slice_index, is_some, unwrap_or, if◌then◌else◌}
@@ -107,7 +107,7 @@ no_bytes_hold image at found e =
     let same : Bytes [] ≡ found = cc e in
     subst (λ found. Holds image at (bytes_in found)) same (λ k lt. absurd (omega (arith, lt)))
 
--- GROM and AORG stand at the address that they set, and place nothing
+-- GROM and AORG are at the address that they set, and place nothing
 at_address : (look : List ℕ → Option Value) (at : Location) (statement : Statement) (image : Image) (found : Outcome) → outcome look at statement ≡ Ok found
     → Holds image at.number (bytes_in found) → Holds image (address at statement) (bytes_in found)
 unfolding outcome

@@ -1,4 +1,4 @@
--- The lines that the first checks let through of a GPL source: an instruction has bytes, and a line ends in its GROM.
+-- The lines that the first checks accept of a GPL source: an instruction has bytes, and a line ends in its GROM.
 use Rattle.std.proofs.Common.{◌≡◌, ℕ, ◌+◌, ◌%◌, ◌/◌, ◌≤◌, Bool, true, false, ◌||◌, List, [], ◌∷◌, Some, None, Ok, Err, refl, sym, subst, arith}
 use Rattle.std.specs.Prelude.{Option, Result, IfOk, IsTrue, ⊤, ◌&&◌, ◌==◌, not, nat_le, nat_lt, if◌then◌else◌}
 use Rattle.std.proofs.lemmas.Bool.Decides.{nat_tests}
@@ -261,7 +261,7 @@ leads here label _ is fits fine = fitting here _ is fits
 
 -- ---- the lines of a source
 
--- what is known of a line that the first checks let through after others
+-- what is known of a line that the first checks accept after others
 pub record IsLaid (before : List Line) (line : Line) : Type 0 where
   pub fits : FitsStatement line.statement
   pub none : line.gap ≡ 0

@@ -23,7 +23,7 @@ use Rattle.gpl_source_defs.specs.Programs.{Program, program_of_source}
 use Rattle.gpl_list_defs.specs.Rows.{Row, placed_bytes, row_of, rows}
 use Rattle.gpl_list_defs.specs.Listing.{listing_of}
 
--- the bytes of a row stand in an image at the row's address and those that follow it
+-- the bytes of a row are in an image at the row's address and those that follow it
 abbrev pub RowIsIn : List ℕ → Row → Type 0
 RowIsIn image row =
     (k : ℕ) → k < length row.bytes → row.at + k < 65536
@@ -64,7 +64,7 @@ pub record ShowsLines (source : List ℕ) (s : GplState) : Type 0 where
       (row_of (placed_bytes (names lines)) (line_texts source) before line)
 
 -- The law, which is proved. No step changes the image. So the bytes of all rows that `glist` lists of an accepted
--- source stand in each state of a run of its program, and a step that begins at a row shows the row's instruction,
+-- source are in each state of a run of its program, and a step that begins at a row shows the row's instruction,
 -- whatever the state is otherwise; if it is the row of a line with an instruction, what the line is assembled to.
 pub record RowsStayInRuns : Type 0 where
   pub image : (s : GplState) (made : ℕ) → (run made s).last.image ≡ s.image

@@ -1,6 +1,6 @@
-//! That the bytes of the rows of a GPL listing stand in each state of a run, that a step that begins at the row of an
+//! That the bytes of the rows of a GPL listing are in each state of a run, that a step that begins at the row of an
 //! instruction shows what its line is assembled to, that the listing of an assembler source has a row for each line and
-//! each name, and what `trace 2` reports of one source. The laws stand in `proofs/`.
+//! each name, and what `trace 2` reports of one source. The laws are in `proofs/`.
 #![tactic(auto)]
 
 ghost use Rattle.row_laws.specs.OneTrace.{OneSourceIsTraced};

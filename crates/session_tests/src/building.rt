@@ -19,7 +19,7 @@ const WORDS: &[(u16, Option<u16>)] = &[
     (BEHIND, None),
 ];
 
-/// The word at an address, of words that stand one after the other from >2000 up.
+/// The word at an address, of words that come one after the other from >2000 up.
 fn placed(words: &[u16], address: u16) -> Option<u16> {
     if address < ORIGIN || address % 2 != 0 {
         return None;

@@ -3,7 +3,7 @@
 -- Profile: each line keeps its number in its own file. Lines after the first END line of any file are not read. A file
 -- is copied at most four deep, and a source copies at most 64 files in all, each of at most 262,144 bytes. Of a COPY
 -- line that is refused for several causes, the first in this order counts: its form, its depth, that 64 COPY lines
--- stand before it, that no file has the name, and the size of the file.
+-- are before it, that no file has the name, and the size of the file.
 use Rattle.std.specs.Prelude.{ℕ, zero, suc, ◌+◌, nat_lt, nat_le, if◌then◌else◌, List, [], ◌∷◌, ◌++◌, length}
 use Rattle.std.specs.Prelude.{Option, Some, None, Result, Ok, Err}
 use Rattle.std.specs.Option.{ok_or}
@@ -38,14 +38,14 @@ pub data CopyRefusal : Type 0 where
   At : Place → Cause → CopyRefusal
   TooLarge : CopyRefusal
 
--- what stands after some lines: more lines may, none does after a line that ends the source, or a line or a file is
+-- what comes after some lines: more lines may, none does after a line that ends the source, or a line or a file is
 -- refused
 pub data Ending : Type 0 where
   Open : Ending
   Ended : Ending
   Refused : CopyRefusal → Ending
 
--- some lines, how many COPY lines were met so far, and what stands after these lines
+-- some lines, how many COPY lines were met so far, and what comes after these lines
 pub record Copied : Type 0 where
   pub lines : List PlacedLine
   pub copies : ℕ
@@ -75,7 +75,7 @@ refused copies refusal = record { lines = []; copies = copies; ending = Refused 
 abbrev pub prepend : List PlacedLine → Copied → Copied
 prepend lines found = record { lines = lines ++ found.lines; copies = found.copies; ending = found.ending }
 
--- lines and then others, unless nothing may stand after the first
+-- lines and then others, unless nothing may come after the first
 abbrev pub then_by : Ending → Copied → (ℕ → Copied) → Copied
 then_by Open found next = prepend found.lines (next found.copies)
 then_by Ended found next = found

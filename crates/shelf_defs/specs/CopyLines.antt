@@ -30,13 +30,13 @@ is_double_quote byte = byte == 0x22
 abbrev pub is_either_quote : ℕ → Bool
 is_either_quote byte = is_quote byte || is_double_quote byte
 
--- a quote stands at both ends of a text, the same at each
+-- a quote is at both ends of a text, the same at each
 abbrev pub stands_in_quotes : List ℕ → Bool
 stands_in_quotes text =
     nat_le 2 (length text) && is_either_quote (slice_index text 0)
     && (slice_index text 0 == slice_index text (length text - 1))
 
--- the name of a file that stands in quotes
+-- the name of a file that is in quotes
 abbrev pub quoted_name : List ℕ → Option (List ℕ)
 quoted_name operand =
     if stands_in_quotes operand && is_file_name (between_quotes operand) then Some (between_quotes operand) else None

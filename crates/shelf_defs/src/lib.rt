@@ -1,4 +1,4 @@
-//! Files by name, and the lines of a source with the lines of the files that it copies. The definitions stand in
+//! Files by name, and the lines of a source with the lines of the files that it copies. The definitions are in
 //! `specs/`.
 #![tactic(auto)]
 

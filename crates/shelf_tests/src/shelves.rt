@@ -30,7 +30,7 @@ const NAMES: &[(&[u8], bool)] = &[
     ),
 ];
 
-/// Whether bytes are read as a name, which then gives them back, as said.
+/// Whether bytes are read as a name, which then gives them back, as stated.
 fn named_as(bytes: &[u8], named: bool) -> bool {
     match FileName::read(bytes) {
         Some(name) => named && name.as_bytes() == bytes,
@@ -56,7 +56,7 @@ enum Got {
 /// The number of no call.
 const NEVER: u64 = 99;
 
-/// The file that is opened, the call that fails, the limit, and what comes. A file ONE of three bytes stands before
+/// The file that is opened, the call that fails, the limit, and what comes. A file ONE of three bytes is before
 /// another of the name, and BIG has 9,000 bytes: opening and reading it makes five calls.
 const READINGS: &[(&[u8], u64, usize, Got)] = &[
     (b"ONE", NEVER, 10, Got::Bytes(3)),
@@ -108,7 +108,7 @@ fn shelf(alloc: Global, fails: u64) -> Result<MemShelf, AllocError> {
     Ok(MemShelf::new(files, Vec::from_slice(alloc, &[fails])?))
 }
 
-/// Whether a file is read as said, and a fault or a miss is counted where it is one.
+/// Whether a file is read as stated, and a fault or a miss is counted where it is one.
 fn reads_as(
     alloc: Global,
     name: &[u8],

@@ -105,7 +105,7 @@ const READINGS: &[(usize, u64, usize, Result<usize, ReadError>)] = &[
     (9000, 4, 10000, Ok(9000)),
 ];
 
-/// Whether a number of bytes are read as said, and the source has counted a fault where it is one.
+/// Whether a number of bytes are read as stated, and the source has counted a fault where it is one.
 fn reads_as(
     alloc: Global,
     size: usize,

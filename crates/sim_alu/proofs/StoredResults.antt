@@ -1,6 +1,7 @@
 -- The result of a row is stored, and then its status.
 use Rattle.std.proofs.Common.{ℕ, ⊎_elim, ◌∙◌, ◌≡◌, ap, arith, List, refl, Result, slice_set, Some, subst, sym, true}
-use Rattle.sim_rows.proofs.Common.{ShowsChanges, ChangedFrom, Changes, ReachesWithin, comes, comes_as, comes_on, comes_then, EndsRow, even, Exits, Goes, gone_on}
+use Rattle.sim_rows.proofs.Common.{ShowsChanges, ChangedFrom, Changes, ReachesWithin, comes, comes_as, comes_on, comes_then, EndsRow, even, Exits, Goes}
+use Rattle.sim_rows.proofs.Common.{gone_on}
 use Rattle.sim_rows.proofs.Common.{GplOperation, GSTEP, high, idle_again, is_view, join, MachineState, most_of_alu_row, most_of_store, PortsAreIdle, Reason}
 use Rattle.sim_rows.proofs.Common.{row_width, RunsRow, SeesFinished, SeesResult, SHOW, IsAt, STATB, STATUS, STO, store_then, stored_idle, StoresResult}
 use Rattle.sim_rows.proofs.Common.{StoresValue, Storing, unchanged, View, view, with_status, with_value}

@@ -12,7 +12,7 @@ above_is_not less more c = grind (arith, nat_tests)
 
 -- ---- left-justified bytes are compared as bytes
 
--- what stands in a register is a number of its width
+-- what is in a register is a number of its width
 pub number_fits : (width : Width) (number : ℕ) → in_register width number < 65536 → number < modulus width
 number_fits Byte number h = omega arith
 number_fits Word number h = h

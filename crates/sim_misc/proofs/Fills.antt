@@ -21,7 +21,7 @@ one_more made byte [] h = absurd (omega arith)
 one_more zero byte (first ∷ rest) h = refl
 one_more (suc made) byte (first ∷ rest) h = ap (λ (l : List ℕ). byte ∷ l) (one_more made byte rest (omega arith))
 
--- What is seen where so many bytes of the screen are filled.
+-- What is seen where a number of bytes of the screen are filled.
 pub record Filled (s : GplState) (made : ℕ) (w : View) : Type 0 where
   pub cells : w.cells ≡ s.cells
   pub memory : w.vdp.memory ≡ filled_to made (byte_of s) s.vdp

@@ -31,7 +31,7 @@ division_is number limit =
     let pair : ℕ → Option (ℕ × ℕ) = λ n. Some (n / (limit + 1), n % (limit + 1)) in
     rw (some_divisor limit, division_of) (ap pair one)
 
--- what is drawn is a byte, which stands in the low half of a register
+-- what is drawn is a byte, which is in the low half of a register
 pub drawn_byte : (number limit : ℕ) → limit < 256 → high (swapped (number % (limit + 1))) ≡ number % (limit + 1)
 drawn_byte number limit h = let below = mod-lt number (some limit) in omega arith
   where

@@ -3,7 +3,8 @@ use Rattle.std.proofs.Common.{ℕ, ◌%◌, ◌+◌, ◌-◌, ◌<◌, ◌==◌,
 use Rattle.std.proofs.Common.{subst, suc, sym}
 use Rattle.std.proofs.lemmas.Bool.{eqb-false, eqb-true, le-ltb, lt-ltb}
 use Rattle.std.proofs.Math.Nat.{pos_of_ne-zero}
-use Rattle.sim_rows.proofs.Common.{byte_from, byte_in, Changes, ReachesWithin, comes_as, COPY, Cpu, difference_of, From, FromGrom, FromMemory, GplState, grom_at}
+use Rattle.sim_rows.proofs.Common.{byte_from, byte_in, Changes, ReachesWithin, comes_as, COPY, Cpu, difference_of, From, FromGrom, FromMemory, GplState}
+use Rattle.sim_rows.proofs.Common.{grom_at}
 use Rattle.sim_rows.proofs.Common.{GromState, idle_grom, ports_are_idle, idle_video, is_view, IsFetched, LoadsFrom, MachineState, most_of_byte}
 use Rattle.sim_rows.proofs.Common.{next_from, next_in_grom, next_to, pick, Place, place_in, place_is, previous-next, Space}
 use Rattle.sim_rows.proofs.Common.{space_small, state_of, sum_of, To, ToMemory, ToRegisters, Vdp, View, view, with_byte_to, Word}
@@ -26,7 +27,7 @@ one_less n some fits = omega arith
 one_more : (n left most : ℕ) → 0 < left → n + left ≤ most → most < 65536 → sum_of Word n 1 + (left - 1) ≤ most
 one_more n left most some le fits = omega arith
 
--- ---- the source and the target that the registers tell
+-- ---- the source and the target by the registers
 
 near_source : (v : View) (place : Place) → LoadsFrom place v → source_in v ≡ FromMemory place
 near_source v place f =

@@ -3,7 +3,8 @@ use Rattle.std.proofs.Common.{[], ℕ, ◌+◌, ◌-◌, ◌<◌, ◌==◌, ◌�
 pub use Rattle.sim_rows.proofs.Common.{piece}
 use Rattle.sim_rows.proofs.Common.{CHARACTER, COPY, COPYN, COPYS, difference_of, Exit, exit, Leads, leads, LOAD, MOVEB, not_limit, Part, part_then, pick, Rest}
 use Rattle.sim_rows.proofs.Common.{rest_is, RESUME, with_video_address, SHOW, spot_cell, STORE, sum_of, View, Word}
-use Rattle.sim_rows.specs.native_interp.declared.addresses.TheConstants.{COPYCC, COPYCV, COPYE, COPYGC, COPYGV, COPYVA, COPYVC, COPYVV, MOVEP, SETR, SETW, SETWA}
+use Rattle.sim_rows.specs.native_interp.declared.addresses.TheConstants.{COPYCC, COPYCV, COPYE, COPYGC, COPYGV, COPYVA, COPYVC, COPYVV, MOVEP, SETR, SETW}
+use Rattle.sim_rows.specs.native_interp.declared.addresses.TheConstants.{SETWA}
 use Rattle.sim_move.specs.Bytes.{MayGo, Points}
 use Rattle.sim_move.specs.CopyPieces.{CellsToCells, CellsToVideo, first_cell, GromToCells, GromToVideo, VideoToCells}
 use Rattle.sim_move.specs.CopyPieces.{VideoToVideo}

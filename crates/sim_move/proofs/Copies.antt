@@ -2,7 +2,8 @@
 use Rattle.std.proofs.Common.{ℕ, ◌<◌, ◌∙◌, ◌≡◌, arith, Bool, Err, Ok, Option, refl, Result, Some, subst, sym, true}
 use Rattle.sim_rows.proofs.Common.{◌>>=◌, AtDispatch, code_byte, comes, Dispatched, Exits, FromGrom, Goes, GOMOVE, GplOperation, GplState}
 use Rattle.sim_rows.proofs.Common.{GromIndexedToMemory, GromToMemory, GromToRegisters, GSTOP, index_by, indexed, is_view, length_of, MachineState}
-use Rattle.sim_rows.proofs.Common.{MemoryToMemory, Move, MOVEB, MoveKind, MOVEL, MOVES, MOVEX, Moving, next_in_grom, operation_entry, operation_in, operation_in_view}
+use Rattle.sim_rows.proofs.Common.{MemoryToMemory, Move, MOVEB, MoveKind, MOVEL, MOVES, MOVEX, Moving, next_in_grom, operation_entry, operation_in}
+use Rattle.sim_rows.proofs.Common.{operation_in_view}
 use Rattle.sim_rows.proofs.Common.{Reason, ReachesWithin, IsAt, state_at_dispatch, StoppedBy, To, ToMemory, ToRegisters, View, view, word_at}
 use Rattle.sim_rows.specs.sim_view.Prelude.{HoldsBytes}
 use Rattle.sim_rows.proofs.sim_operands.Ends.{EndsBy, not_at}
@@ -34,7 +35,7 @@ by_kind P m g GromToMemory = g GromToMemory refl
 by_kind P m g GromIndexedToMemory = g GromIndexedToMemory refl
 by_kind P m g GromToRegisters = g GromToRegisters refl
 
--- how a target stands in the registers
+-- how a target is in the registers
 holds_target : (to : To) (w : View) → w.r.r7 ≡ number_to to → w.r.r8 ≡ space_to to → HoldsTarget to w
 holds_target (ToMemory place) w a b = record { address = a; space = b }
 holds_target (ToRegisters number) w a b = record { number_is = a; space = b }

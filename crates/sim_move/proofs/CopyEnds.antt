@@ -1,7 +1,8 @@
 -- The copy as a whole, and its end.
 use Rattle.std.proofs.Common.{ℕ, ◌*◌, ◌+◌, ◌<◌, ◌==◌, ◌∙◌, ◌≡◌, ◌≤◌, ap, arith, Bool, false, if◌then◌else◌, refl, subst, sym, true}
 use Rattle.std.proofs.lemmas.Bool.{ne_eqb}
-use Rattle.sim_rows.proofs.Common.{ShowsChanges, Changes, ReachesWithin, comes, comes_as, comes_on, comes_then, copied, EndsRow, Exit, Exits, From, GromState, idle_again}
+use Rattle.sim_rows.proofs.Common.{ShowsChanges, Changes, ReachesWithin, comes, comes_as, comes_on, comes_then, copied, EndsRow, Exit, Exits, From, GromState}
+use Rattle.sim_rows.proofs.Common.{idle_again}
 use Rattle.sim_rows.proofs.Common.{idle_grom, ports_are_idle, idle_video, is_turn_end, is_view, MachineState, PortsAreIdle, RESUME, SeesFinished, SHOW}
 use Rattle.sim_rows.proofs.Common.{IsAt, To, View, view, with_pc}
 use Rattle.sim_jumps.specs.Jumps.{ResumesRow}

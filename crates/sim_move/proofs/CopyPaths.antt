@@ -190,7 +190,7 @@ module _ {x : MachineState} (h : AtCopy x) (way : CopyPath) (here : x.cpu.pc ≡
   few = (is_view x h.is_at.machine).r 12
 
   module _ {y : MachineState} {t u : ℕ} (e : Exits x y t u (copy_on way v)) where
-    -- a byte from a source to a target that the way tells
+    -- a byte from a source to a target by the path
     goes : (c : Changes) (bytes : ℕ) (base : View) (source target : ℕ) → GoesBack c (from_on way source) base →
         v ≡ seen_on way base c (suc bytes) (marked_by (copied (suc bytes) (from_on way source) (to_on way target) c).shows 0) source target →
         CopyingAt y.cpu.pc (more_on way c source target) (next_from (from_on way source)) (next_to (to_on way target)) bytes (view y)

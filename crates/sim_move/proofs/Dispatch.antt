@@ -1,7 +1,8 @@
 -- MOVE from its dispatch to the end of the step.
 use Rattle.std.proofs.Common.{ℕ, ◌*◌, ◌+◌, ◌≡◌, ap, arith, Err, false, None, Ok, refl, Some, subst, sym, true}
 use Rattle.sim_rows.proofs.Common.{bound, bound_stop, Changes, comes_on, fetched_of, finished, From, FromGrom, FromMemory, GOMOVE, GplState, grom_at, GSTOP}
-use Rattle.sim_rows.proofs.Common.{idle_of, is_exit, is_turn_end, MachineState, matches, most_to_dispatch, Move, MOVEB, MoveKind, Moving, never_exits, number_of, operation_in, reaches, ReachesWithin, Reason, StoppedBy}
+use Rattle.sim_rows.proofs.Common.{idle_of, is_exit, is_turn_end, MachineState, matches, most_to_dispatch, Move, MOVEB, MoveKind, Moving, never_exits}
+use Rattle.sim_rows.proofs.Common.{number_of, operation_in, reaches, ReachesWithin, Reason, StoppedBy}
 use Rattle.sim_rows.proofs.Common.{from_dispatch, ShowsState, IsAt, Stepped, Stopped, stops, Turned, turned_by, View, view, WORKSPACE}
 use Rattle.sim_move.specs.Copying.{CopiesBytes, MayCopy, HoldsSource}
 use Rattle.sim_move.specs.Family.{is_move}
@@ -11,7 +12,7 @@ use Rattle.sim_move.proofs.Copies.{kind_of}
 use Rattle.sim_move.proofs.Ranges.{SourceInRange, registers_there, source_in_range, source_visible, target_in_range, target_visible, TargetInRange}
 use Rattle.sim_move.proofs.MoveSteps.{bound_is, made, parts, step_copies, step_stops}
 
--- where GROM stands before the first byte
+-- where GROM is before the first byte
 abbrev place_in_grom : Changes → From → ℕ
 place_in_grom c (FromMemory place) = c.state.pc
 place_in_grom c (FromGrom address) = address

@@ -4,7 +4,7 @@ use Rattle.std.proofs.lemmas.Bool.{eqb-false, eqb-true, le-ltb, lt-ltb, ltb-fals
 use Rattle.sim_rows.proofs.Common.{byte_from, Changes, CHARACTER, copied, Cpu, difference_of, From, marked_by, next_from, pick, plus, Vdp, with_byte_to, Word}
 use Rattle.sim_move.specs.Bytes.{to_memory}
 
--- the character's cell is among so many from an address on
+-- the character's cell is among a number of them from an address on
 abbrev among : ℕ → ℕ → Bool
 among address bytes = nat_lt (difference_of Word CHARACTER address) bytes
 

@@ -1,7 +1,8 @@
 -- What is found is in range for all bytes that are copied.
 use Rattle.std.proofs.Common.{ℕ, ◌+◌, ◌<◌, ◌∙◌, ◌≡◌, ◌≤◌, arith, Err, nat_le, Ok, refl, Result, Some, subst, sym}
 use Rattle.std.proofs.lemmas.Bool.{leb-true}
-use Rattle.sim_rows.proofs.Common.{◌>>=◌, Changes, From, FromGrom, FromMemory, GplState, indexed, visible_when_found, MoveSource, MoveTarget, number_of_space, origin_of}
+use Rattle.sim_rows.proofs.Common.{◌>>=◌, Changes, From, FromGrom, FromMemory, GplState, indexed, visible_when_found, MoveSource, MoveTarget, number_of_space}
+use Rattle.sim_rows.proofs.Common.{origin_of}
 use Rattle.sim_rows.proofs.Common.{place_found_visible, place_of, Reason, space_small, target_of, To, ToMemory, ToRegisters, View}
 use Rattle.sim_rows.proofs.Common.{pick}
 use Rattle.sim_move.specs.Copying.{HoldsSource, HoldsTarget}

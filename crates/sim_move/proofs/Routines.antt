@@ -16,7 +16,7 @@ use Rattle.sim_rows.specs.native_interp.declared.addresses.TheConstants.{COPYE}
 
 -- ---- what a byte changes
 
--- The source that registers 2 and 5 tell, and the target that registers 7 and 8 tell.
+-- The source by registers 2 and 5, and the target by registers 7 and 8.
 abbrev pub source_in : View → From
 source_in v = if nat_lt v.r.r5 2 then FromMemory (place_in v.r.r5 v.r.r2) else FromGrom (next_at v)
 
@@ -28,7 +28,7 @@ abbrev pub grom_after : From → GromState → GromState
 grom_after (FromMemory place) grom = grom
 grom_after (FromGrom address) grom = grom_at grom.image (next_in_grom address)
 
--- the registers of the video processor with a byte of the source in the one that register 7 tells
+-- the registers of the video processor with a byte of the source in the one with the number in register 7
 abbrev pub registers_with : View → List ℕ
 registers_with v = slice_set v.vdp.registers v.r.r7 (byte_from (source_in v) (state_of v))
 
@@ -55,7 +55,7 @@ pub record Counted (v w : View) : Type 0 where
     grom = grom_after (source_in v) v.grom;
   }
 
--- how a machine's GROM and that of its view tell that a byte is fetched
+-- the machine's GROM and its view agree on whether a byte is fetched
 pub fetched_seen : (m : Memory) → IsFetched m.grom → IsFetched (view_of m).grom
 unfolding view_of
 fetched_seen m f = f

@@ -23,7 +23,7 @@ seen s next u = record u {
 abbrev pub LengthFound : GplState → ℕ → ℕ → View → Type 0
 LengthFound s next count w = w ≡ seen s next (record w { r = record w.r { r6 = count } })
 
--- How a target stands in registers 7 and 8: an address and its space, or the number of a register, and 2.
+-- How a target is in registers 7 and 8: an address and its space, or the number of a register, and 2.
 abbrev pub number_to : To → ℕ
 number_to (ToMemory place) = place.address
 number_to (ToRegisters number) = number
@@ -43,7 +43,7 @@ TargetFound s next found w = w ≡ seen s next (stood found w)
 abbrev pub SourceFound : GplState → ℕ → ℕ × To → ℕ → View → Type 0
 SourceFound s next found address w = w ≡ seen s next (stood found (record w { r = record w.r { r2 = address } }))
 
--- at the dispatch, where nothing is said of register 13
+-- at the dispatch, whatever register 13 holds
 abbrev pub dispatch_view : GplState → View → View
 dispatch_view s u = record u {
   r = record u.r { r0 = code_byte s; r1 = s.pc };

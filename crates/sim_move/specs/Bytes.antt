@@ -1,4 +1,4 @@
--- Where the copy of MOVE stands at each byte, one byte of it, the bytes that are left, and the end.
+-- Where the copy of MOVE is at each byte, one byte of it, the bytes that are left, and the end.
 use Rattle.std.specs.Prelude.{ℕ, ◌%◌, ◌*◌, ◌+◌, ◌-◌, ◌<◌, ◌==◌, ◌≡◌, ◌≤◌, if◌then◌else◌, None, slice_index, suc}
 use Rattle.sim_rows.specs.Prelude.{byte_from, ShowsChanges, Changes, ReachesWithin, copied, COPY, Cpu, From, FromGrom}
 use Rattle.sim_rows.specs.Prelude.{FromMemory}
@@ -124,7 +124,7 @@ pub data Copied (c : Changes) (v : View) : Type 0 where
   OutOfGrom : v.r.r5 ≡ 2 → v.r.r14 ≡ c.state.pc → (next : ℕ) → ShowsChanges (with_pc next c) v
       → Copied c v
 
--- A copy stands at a place.
+-- A copy is at a place.
 pub data CopyingAt (place : ℕ) (c : Changes) (from : From) (to : To) (bytes : ℕ) (v : View) : Type 0 where
   CopyingByRoutines : place ≡ COPY → Copying c from to bytes v → CopyingAt place c from to bytes v
   CopyingOnWay : (way : CopyPath) → place ≡ head_of way → OnWay way c from to bytes v

@@ -30,7 +30,7 @@ Arrives most s x y before after to Shows (Err reason) = ReachesWithin most x y b
 abbrev pub found_in : MoveKind → GplState → Result Moving Reason
 found_in kind s = move_found (length_read s).0 (target_read kind s).0 (source_read kind s).0 s
 
--- At MOVEB the copy stands before its first byte.
+-- At MOVEB the copy is before its first byte.
 abbrev pub BeforeCopy : MoveKind → GplState → Moving → View → Type 0
 BeforeCopy kind s found w = Copying (begun kind s) found.from found.to found.bytes w
 

@@ -7,11 +7,11 @@ ghost use Rattle.sim_move.specs.Family.{is_move};
 ghost use Rattle.sim_move.specs.Moves.{FindsCopy};
 ghost use Rattle.sim_rows.specs.native_interp.declared.addresses.TheConstants as address;
 
+use crate::copy_bytes;
 use crate::length::find_length;
 use crate::reason::reason_of;
 use crate::source::{index_source, turn_to_source};
 use crate::target::find_places;
-use crate::copy_bytes;
 use sim_rows::labels::{GSTOP, MOVEL, MOVES};
 use sim_rows::processor::{Machine, Steps};
 use sim_rows::{Turn, register};

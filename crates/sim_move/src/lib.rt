@@ -2,21 +2,21 @@
 #![tactic(auto)]
 
 mod copy;
+mod copy_pieces;
 mod family;
 mod length;
 mod pieces;
 mod reason;
-mod copy_pieces;
 mod source;
 mod target;
 
-pub use family::run_move;
-pub use pieces::{
-    ask_index, ask_length, ask_next, ask_source, check_registers, keep_length, keep_target,
-    load_length, seek_source, turn_to_grom,
-};
 pub use copy::copy_bytes;
 pub use copy_pieces::{
     begin_copy, copy_cell, copy_cell_to_video, copy_grom, copy_grom_to_video, copy_in_video,
     copy_video, count_byte, leave_copy, next_byte, set_source, set_target, store_byte,
+};
+pub use family::run_move;
+pub use pieces::{
+    ask_index, ask_length, ask_next, ask_source, check_registers, keep_length, keep_target,
+    load_length, seek_source, turn_to_grom,
 };

@@ -116,7 +116,7 @@ module _ (v : View) (at : ℕ) (ready : v.grom ≡ grom_at v.grom.image at) (byt
   to_pointer : nat_lt first 0x80 ≡ false → eqb (pieces.address v).to ASHORT ≡ false
   to_pointer c = ap (λ (n : ℕ). eqb n ASHORT) (long_form c).goes.to_is
 
-  -- where the first piece ends tells which
+  -- the end of the first piece decides which
   pub short_read : eqb (pieces.address v).to ASHORT ≡ true → ShortRead v at (pieces.address v)
   short_read e = pick (nat_lt first 0x80) short_form (λ c. absurd (not_both (eqb (pieces.address v).to ASHORT) e (to_pointer c)))
 

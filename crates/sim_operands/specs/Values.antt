@@ -1,4 +1,4 @@
--- How values and places stand in the registers of the interpreter.
+-- How values and places are in the registers of the interpreter.
 use Rattle.std.specs.Prelude.{ℕ, ◌+◌, ◌==◌, ◌≡◌, ◌≤◌, if◌then◌else◌}
 use Rattle.sim_view.specs.Prelude.{Byte, Cpu, high, join, size_of, Space, Vdp, VISIBLE_CELLS, Width, Word}
 

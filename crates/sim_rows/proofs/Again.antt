@@ -10,7 +10,7 @@ pub fetched_again : (m n : Memory) → (view_of n).grom ≡ (view_of m).grom →
 unfolding view_of
 fetched_again m n g f = subst IsFetched (sym g) f
 
--- idle ports, as a view tells them
+-- idle ports, by a view
 pub ports_are_idle : (m : Memory) → (view_of m).vdp.held ≡ None → (view_of m).grom.half_written ≡ false → PortsAreIdle m
 unfolding view_of
 ports_are_idle m h g = record { vdp = ap is_none h; grom = ap not g }

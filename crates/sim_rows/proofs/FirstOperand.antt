@@ -108,7 +108,7 @@ rejected_stops s bytes at reason v w h a = subst (StoppedBy s reason) (sym a.is)
   reason_is = refl;
 })
 
--- ---- what ADDR finds, said of the state
+-- ---- what ADDR finds, by the state
 
 pub finds_of : (s t : GplState) (bytes at : ℕ) (x y : MachineState) (before after : ℕ) → Holds s bytes at (view x) → t.cells ≡ s.cells →
     FindsOperand x y before after →

@@ -1,5 +1,5 @@
 //! The rows of the interpreter: the instructions of GPL on one and two operands. A step up to its dispatch, the
-//! operands, and the end of a row; what stands between is one row's own. All is built of pieces: stretches of at most
+//! operands, and the end of a row; what is between is one row's own. All is built of pieces: stretches of at most
 //! 16 instructions without a loop.
 #![tactic(auto)]
 

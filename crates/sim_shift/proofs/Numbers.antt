@@ -30,7 +30,7 @@ pub right : (w : Width) (x count : ℕ) → x < modulus w → count < 16 → of_
 right Byte x count h k = agree (λ n b. high (shifted SRL (join b 0) n)) (λ n b. shifted_right Byte 0 b n) refl count x k h
 right Word x count h k = refl
 
--- a number in a register, turned: a byte stands in both halves
+-- a number in a register, turned: a byte is in both halves
 abbrev pub doubled : Width → ℕ → ℕ
 doubled Byte word = ones_set word (swapped word)
 doubled Word word = word

@@ -30,7 +30,7 @@ take_count v = record {
       (λ d. rw (c, d) refl));
 }
 
--- The processor takes a count from 1 to 15 as it stands in register 0.
+-- The processor takes a count from 1 to 15 as it is in register 0.
 count_is : (word : ℕ) → 0 < word → word < 16 → count_in word ≡ word
 count_is word some few = let low : word % 16 ≡ word = omega arith in rw (ne_eqb (word % 16) 0 (λ e. omega arith), count_in) low
 

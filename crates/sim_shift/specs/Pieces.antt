@@ -49,7 +49,7 @@ shift_left v = shifting SLA v
 abbrev pub shift_right : View → Exit
 shift_right v = shifting SRL v
 
--- SRCB: the value is turned to the right; a byte stands in both halves of its register for it.
+-- SRCB: the value is turned to the right; a byte is in both halves of its register for it.
 abbrev pub turn_right : View → Exit
 turn_right v =
     if v.r.r3 == 1

@@ -18,7 +18,7 @@ use sim_rows::processor::{Machine, Steps};
 use sim_rows::{Reason, Turn, current_operation, start_row};
 use std::sync::ledger::Ledger;
 
-/// The turn of an instruction that has ended or stopped for want of room.
+/// The turn of an instruction that has ended or stopped for lack of room.
 fn turn_here(machine: &Machine) -> Turn
     ensures { result ≡ turn_at machine.now.cpu.pc }
 {

@@ -18,7 +18,7 @@ pub record StartsProgram (s : GplState) (most : ℕ) (x y : MachineState) (befor
   pub boots : Boots count x y
   pub matches : Matches s y
 
--- The law, which is proved: a new machine with the interpreter, an image and an entry stands at boot with its ports
+-- The law, which is proved: a new machine with the interpreter, an image and an entry is at boot with its ports
 -- idle, and its first step is from the state in which the program starts.
 abbrev pub MachinesStart : Type 0
 MachinesStart =

@@ -103,7 +103,7 @@ exits ends p x y before after e h l left count bounds =
       };
     }
 
--- What a piece comes to: it stands at its entry, its run on the view leads to an exit, and it was run.
+-- What a piece comes to: it is at its entry, its run on the view leads to an exit, and it was run.
 pub piece : {ends : List ℕ} {p : ℕ} {x y : MachineState} {before after : ℕ} {e : Exit} →
     IsAt x p → Leads ends (view x) p e → RunsPiece ends x y before after → Exits x y before after e
 piece {ends = ends} {p = p} {x = x} {y = y} {before = before} {after = after} {e = e} is_at leads run =

@@ -30,7 +30,7 @@ runs_then a b x y z r s e =
         (at_step a i x y w r.leads (subst (λ (i : ℕ). steps i x ≡ Gives w) d f))) h)
         (cases_order j a)
 
--- How a stretch ends, in bounds: within so many instructions, at an address, with a view of which something holds.
+-- How a stretch ends, in bounds: within a number of instructions, at an address, with a view of which something holds.
 pub record Goes (e : Exit) (most to : ℕ) (Holds : View → Type 0) : Type 0 where
   pub within : e.count ≤ most
   pub to_is : e.to ≡ to
@@ -74,7 +74,7 @@ comes_as {y = y} more R c le f =
     let w = c.within in
     record { count = c.count; within = omega arith; counted = c.counted; runs = c.runs; holds = f (view y) c.holds; is_at = c.is_at }
 
--- The same for a stretch within bounds that was said of the view in the middle.
+-- The same for a stretch within bounds, stated of the view in the middle.
 pub comes_on : (a b : ℕ) {x y z : MachineState} {before middle after p q : ℕ} {Q R : View → Type 0} → ReachesWithin a x y before middle p Q →
     ReachesWithin b y z middle after q R → is_turn_end p ≡ false → ReachesWithin (a + b) x z before after q R
 comes_on a b {x = x} {y = y} {z = z} c d end =

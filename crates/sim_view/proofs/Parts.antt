@@ -23,7 +23,7 @@ seen_place a = a >>= λ x. Gives (x.memory, x.pc, x.wp)
 pub record Part (ends : List ℕ) (count : ℕ) (v : View) (p : ℕ) (w : View) (q : ℕ) : Type 0 where
   pub by : (f : Status) → seen_place (seen_part ends count (at v f p)) ≡ Gives (w, q, WORKSPACE)
 
--- The rest of a run, where some instructions were made and there is room for so many.
+-- The rest of a run, where some instructions were made and there is room for them.
 pub record Rest (ends : List ℕ) (made most : ℕ) (v : View) (p : ℕ) (e : Exit) : Type 0 where
   pub by : (f : Status) → but_status (seen_run ends made most (at v f p)) ≡ Gives (e.count, e.left, e.to, WORKSPACE)
 

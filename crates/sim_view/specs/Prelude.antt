@@ -36,18 +36,21 @@ pub use Rattle.gpl_defs.specs.declared.instruction.GplOperation.TheVariants.{Bra
 pub use Rattle.gpl_defs.specs.declared.instruction.GplRead.{GplRead}
 pub use Rattle.gpl_defs.specs.declared.instruction.GplSource.{GplSource}
 pub use Rattle.gpl_defs.specs.declared.instruction.MoveKind.{MoveKind}
-pub use Rattle.gpl_defs.specs.declared.instruction.MoveKind.TheVariants.{GromIndexedToMemory, GromToMemory, GromToRegisters, MemoryToMemory}
+pub use Rattle.gpl_defs.specs.declared.instruction.MoveKind.TheVariants.{GromIndexedToMemory, GromToMemory}
+pub use Rattle.gpl_defs.specs.declared.instruction.MoveKind.TheVariants.{GromToRegisters, MemoryToMemory}
 pub use Rattle.gpl_defs.specs.declared.instruction.MoveLength.{MoveLength}
 pub use Rattle.gpl_defs.specs.declared.instruction.MoveSource.{MoveSource}
 pub use Rattle.gpl_defs.specs.declared.instruction.MoveTarget.{MoveTarget}
 pub use Rattle.gpl_defs.specs.declared.instruction.OneName.{OneName}
-pub use Rattle.gpl_defs.specs.declared.instruction.OneName.TheVariants.{ABS, CASE, CLR, CZ, DEC, DECT, INC, INCT, INV, NEG, PUSH}
+pub use Rattle.gpl_defs.specs.declared.instruction.OneName.TheVariants.{ABS, CASE, CLR, CZ, DEC, DECT, INC, INCT, INV}
+pub use Rattle.gpl_defs.specs.declared.instruction.OneName.TheVariants.{NEG, PUSH}
 pub use Rattle.gpl_defs.specs.declared.instruction.PlainOp.{PlainOp}
 pub use Rattle.gpl_defs.specs.declared.instruction.PlainOp.TheVariants.{CARRY, EXIT, GT, H, OVF, RTN, RTNC}
 pub use Rattle.gpl_defs.specs.declared.instruction.Space.{Space}
 pub use Rattle.gpl_defs.specs.declared.instruction.Space.TheVariants.{Cpu, Vdp}
 pub use Rattle.gpl_defs.specs.declared.instruction.TwoName.{TwoName}
-pub use Rattle.gpl_defs.specs.declared.instruction.TwoName.TheVariants.{ADD, AND, CEQ, CGE, CGT, CH, CHE, CLOG, DIV, EX, MUL, OR, SLL, ST, SUB, XOR}
+pub use Rattle.gpl_defs.specs.declared.instruction.TwoName.TheVariants.{ADD, AND, CEQ, CGE, CGT, CH, CHE, CLOG, DIV, EX}
+pub use Rattle.gpl_defs.specs.declared.instruction.TwoName.TheVariants.{MUL, OR, SLL, ST, SUB, XOR}
 pub use Rattle.gpl_step_defs.specs.Arithmetic.{count_of, divided, exchanged, has_quotient, repeated, repeated_sign}
 pub use Rattle.gpl_step_defs.specs.Arithmetic.{shifted_left, shifted_right, Source, two, with_quotient}
 pub use Rattle.gpl_step_defs.specs.Changes.{Changes, condition, finished, shown, status_byte, status_of, unchanged}
@@ -67,13 +70,16 @@ unfoldable pub use Rattle.gpl_step_defs.specs.State.{zeros}
 pub use Rattle.gpl_step_defs.specs.Step.{destination_size, executed, jump, one, plain, source_of, step, with_immediate}
 pub use Rattle.gpl_step_defs.specs.Step.{with_tested, word_or_byte}
 unfoldable pub use Rattle.gpl_step_defs.specs.Step.{after}
-pub use Rattle.gpl_step_defs.specs.declared.cells.TheConstants.{CHARACTER, COLUMN, RANDOM, RETURN_STACK, SEED, STATUS, VALUE_STACK, VISIBLE_CELLS}
+pub use Rattle.gpl_step_defs.specs.declared.cells.TheConstants.{CHARACTER, COLUMN, RANDOM, RETURN_STACK, SEED, STATUS}
+pub use Rattle.gpl_step_defs.specs.declared.cells.TheConstants.{VALUE_STACK, VISIBLE_CELLS}
 pub use Rattle.gpl_step_defs.specs.declared.reason.Reason.{Reason}
 pub use Rattle.gpl_step_defs.specs.declared.reason.Reason.TheVariants.{Cell, Length, Opcode, Register, Stack}
-pub use Rattle.gpl_step_defs.specs.declared.status_bits.TheConstants.{CARRY_BIT, CONDITION_BIT, GREATER_BIT, HIGHER_BIT, OVERFLOW_BIT}
+pub use Rattle.gpl_step_defs.specs.declared.status_bits.TheConstants.{CARRY_BIT, CONDITION_BIT, GREATER_BIT, HIGHER_BIT}
+pub use Rattle.gpl_step_defs.specs.declared.status_bits.TheConstants.{OVERFLOW_BIT}
 pub use Rattle.native_interp.specs.Entries.{operation_entry, row_entry}
 pub use Rattle.native_interp.specs.Words.{origin}
-pub use Rattle.native_interp.specs.declared.addresses.TheConstants.{ABSV, ADDR, ADDV, ANDV, APTR, ASPACE, BRANCH, BTARG, CALLN, CALLS, CASEN, CASET, CASEV}
+pub use Rattle.native_interp.specs.declared.addresses.TheConstants.{ABSV, ADDR, ADDV, ANDV, APTR, ASPACE, BRANCH, BTARG}
+pub use Rattle.native_interp.specs.declared.addresses.TheConstants.{CALLN, CALLS, CASEN, CASET, CASEV}
 pub use Rattle.native_interp.specs.declared.addresses.TheConstants.{CEQV, CFALSE, CGEV, CGTV, CHEV, CHV, CLOGV, CLRV}
 pub use Rattle.native_interp.specs.declared.addresses.TheConstants.{COPY, COPYN, COPYS, COUNT, CTRUE, CZV, DECTV}
 pub use Rattle.native_interp.specs.declared.addresses.TheConstants.{DIVBY, DIVE, DIVL, DIVQ, DIVS, DIVV, DIVW, EXB}

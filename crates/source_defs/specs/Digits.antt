@@ -13,13 +13,13 @@ word_digits word =
     hexadecimal_digit (word / 4096 % 16) ∷ hexadecimal_digit (word / 256 % 16)
     ∷ hexadecimal_digit (word / 16 % 16) ∷ hexadecimal_digit (word % 16) ∷ []
 
--- Editor/Assembler manual, "Constants": a hexadecimal number stands after the sign >.
+-- Editor/Assembler manual, "Constants": a hexadecimal number comes after the sign >.
 abbrev pub hex_word : ℕ → List ℕ
 hex_word word = 0x3E ∷ word_digits word
 
 abbrev pub hex_byte : ℕ → List ℕ
 hex_byte byte = 0x3E ∷ byte_digits byte
 
--- a number right in so many columns; one with more digits has as many columns as digits
+-- a number right in a number of columns; one with more digits has as many columns as digits
 unfoldable pub right_in : ℕ → ℕ → List ℕ
 right_in columns number = replicate (columns - length (decimal number)) 0x20 ++ decimal number

@@ -4,7 +4,7 @@ use Rattle.std.specs.List.{flat_map, list_all, AllByRecursion}
 use Rattle.source_defs.specs.Characters.{is_line_feed}
 use Rattle.source_defs.specs.Lines.{line_texts, numbered}
 
--- no line feed stands in a line
+-- no line feed is in a line
 abbrev pub IsOneLine : List ℕ → Type 0
 IsOneLine text = IsTrue (list_all (λ byte. not (is_line_feed byte)) text)
 

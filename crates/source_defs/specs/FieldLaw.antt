@@ -7,21 +7,21 @@ use Rattle.source_defs.specs.Characters.{is_blank, is_asterisk, upper_case}
 use Rattle.source_defs.specs.Names.{is_name}
 use Rattle.source_defs.specs.Fields.{in_quotes, Fields, no_fields, longest_line, fields}
 
--- only blanks stand before the place, and no blank stands there
+-- only blanks are before the place, and no blank is there
 pub record IsWordStart (line : List ℕ) (from start : ℕ) : Type 0 where
   pub after : from ≤ start
   pub within : start ≤ length line
   pub blanks_before : (k : ℕ) → from ≤ k → k < start → IsTrue (is_blank (slice_index line k))
   pub no_blank : start < length line → IsFalse (is_blank (slice_index line start))
 
--- no blank stands before the place, and a blank stands there or the line ends
+-- no blank is before the place, and a blank is there or the line ends
 pub record IsWordEnd (line : List ℕ) (from end : ℕ) : Type 0 where
   pub after : from ≤ end
   pub within : end ≤ length line
   pub no_blank_before : (k : ℕ) → from ≤ k → k < end → IsFalse (is_blank (slice_index line k))
   pub blank : end < length line → IsTrue (is_blank (slice_index line end))
 
--- each blank of the operand field is in quotes, and a blank outside quotes stands at its end or the line ends
+-- each blank of the operand field is in quotes, and a blank outside quotes is at its end or the line ends
 pub record IsOperandEnd (line : List ℕ) (start end : ℕ) : Type 0 where
   pub after : start ≤ end
   pub within : end ≤ length line
@@ -47,7 +47,7 @@ IsOperation line from (Some span) end =
     × (end ≡ span.end)
 IsOperation line from None end = IsWordStart line from (length line) × (end ≡ length line)
 
--- label, operation and operand field stand one after the other, with blanks alone between them
+-- label, operation and operand field come one after the other, with blanks alone between them
 pub record AreApart (line : List ℕ) (found : Fields) : Type 0 where
   pub label_end : ℕ
   pub operation_end : ℕ
@@ -56,7 +56,7 @@ pub record AreApart (line : List ℕ) (found : Fields) : Type 0 where
   pub operands_start : IsWordStart line operation_end found.operands.start
   pub operands_end : IsOperandEnd line found.operands.start found.operands.end
 
--- a comment has no fields, and each other line those that stand apart in it
+-- a comment has no fields, and each other line those that are apart in it
 pub record AreFieldsOf (line : List ℕ) (found : Fields) : Type 0 where
   pub short : length line ≤ longest_line
   pub comment : IsComment line → found ≡ no_fields

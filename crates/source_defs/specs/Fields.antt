@@ -33,7 +33,7 @@ ends_field line start k = is_blank (slice_index line k) && not (in_quotes line s
 abbrev pub operand_end : List ℕ → ℕ → ℕ
 operand_end line start = least_place (ends_field line start) line start
 
--- what stands in a line: the label's name in upper case, and where the operation and the operand field are
+-- what is in a line: the label's name in upper case, and where the operation and the operand field are
 pub record Fields : Type 0 where
   pub label : Option (List ℕ)
   pub operation : Option Span

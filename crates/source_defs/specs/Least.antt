@@ -16,7 +16,7 @@ least_place p bytes from = least p from (length bytes - from)
 abbrev pub end_of : (ℕ → Bool) → List ℕ → ℕ → ℕ
 end_of is text from = least_place (λ k. not (is (slice_index text k))) text from
 
--- what `least_place` says: no place before it passes, and it passes itself where it stands in the list
+-- what `least_place` says: no place before it passes, and it passes itself where it is in the list
 pub record IsLeastPlace (p : ℕ → Bool) (bytes : List ℕ) (from place : ℕ) : Type 0 where
   pub not_before_start : from ≤ place
   pub not_after_end : place ≤ length bytes

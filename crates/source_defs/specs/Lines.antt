@@ -31,7 +31,7 @@ feed_place text from = least_place (λ k. is_line_feed (slice_index text k)) tex
 abbrev pub after_feed : List ℕ → ℕ → ℕ
 after_feed text feed = if nat_lt feed (length text) then feed + 1 else feed
 
--- the places of the line feeds among bytes of which the first stands at a place
+-- the places of the line feeds among bytes of which the first is at a place
 abbrev pub line_feeds_from : ℕ → List ℕ → List ℕ
 line_feeds_from at [] = []
 line_feeds_from at (byte ∷ bytes) =

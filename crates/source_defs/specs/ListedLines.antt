@@ -1,7 +1,7 @@
 -- The lines of a listing, which are lines of a source.
 use Rattle.std.specs.Prelude.{ℕ, List, ◌∷◌, ◌++◌, codes, Option, Some, None}
 
--- Profile: a line of a listing has no label: its operation stands after seven blanks.
+-- Profile: a line of a listing has no label: its operation comes after seven blanks.
 abbrev pub listed : List ℕ → List ℕ
 listed text = codes "       " ++ text
 

@@ -1,6 +1,6 @@
 -- The operands of a field, by their places.
 --
--- Editor/Assembler manual, "Source statement format": commas stand between operands.
+-- Editor/Assembler manual, "Source statement format": commas are between operands.
 -- Profile: a comma in quotes parts no operands, and an empty field has none.
 use Rattle.std.specs.Prelude.{ℕ, ◌-◌, Bool, not, ◌&&◌, List, [], ◌∷◌, length, slice_index, map, filter}
 use Rattle.std.specs.List.{AllByRecursion, range_with_len}

@@ -7,7 +7,7 @@ use Rattle.source_defs.specs.Fields.{in_quotes}
 abbrev pub last_place : List ℕ → ℕ
 last_place text = length text - 1
 
--- a parenthesis outside quotes stands at a place
+-- a parenthesis outside quotes is at a place
 abbrev pub opens_at : List ℕ → ℕ → Bool
 opens_at text k = (slice_index text k == 0x28) && not (in_quotes text 0 k)
 
@@ -18,6 +18,6 @@ closes_at text k = (slice_index text k == 0x29) && not (in_quotes text 0 k)
 abbrev pub opening : List ℕ → ℕ
 opening text = least_place (opens_at text) text 0
 
--- the text ends with a parenthesis that closes, and one that opens stands before it
+-- the text ends with a parenthesis that closes, and one that opens is before it
 abbrev pub has_parentheses : List ℕ → Bool
 has_parentheses text = closes_at text (last_place text) && nat_lt (opening text) (length text)

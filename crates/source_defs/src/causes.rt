@@ -8,7 +8,7 @@ pub enum TextError {
     /// The line has more than 256 bytes.
     #[error("line too long")]
     LineTooLong,
-    /// Column 1 holds neither a blank nor an asterisk, and what stands there up to the first blank is no name.
+    /// Column 1 holds neither a blank nor an asterisk, and what is there up to the first blank is no name.
     #[error("bad label")]
     BadLabel,
 }

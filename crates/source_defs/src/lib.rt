@@ -1,4 +1,4 @@
-//! What source text means: the types that definitions and code share. The definitions stand in `specs/`.
+//! What source text means: the types that definitions and code share. The definitions are in `specs/`.
 #![tactic(auto)]
 
 mod causes;

@@ -14,6 +14,6 @@ pub struct Span {
 pub struct Line {
     /// The number of the line, from 1.
     pub number: u32,
-    /// Where the line stands in its text.
+    /// Where the line is in its text.
     pub span: Span,
 }

@@ -1,4 +1,4 @@
--- What the first checks let through: texts of bytes, names with values of 16 bits, and places in their parts.
+-- What the first checks accept: texts of bytes, names with values of 16 bits, and places in their parts.
 use Rattle.std.proofs.Common.{◌≡◌, ℕ, zero, suc, ◌+◌, ◌≤◌, Bool, true, false, cond, List, [], ◌∷◌, ◌++◌, Some, None, Ok, Err, refl, sym, ap, subst, ◌∙◌}
 use Rattle.std.proofs.Common.{arith, nat_cmp}
 use Rattle.std.specs.Prelude.{Option, Result, IfOk, IfSome, ⊤, if◌then◌else◌, map, nat_le, max}

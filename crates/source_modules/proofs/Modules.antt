@@ -192,7 +192,8 @@ at_by : (b : Bool) (one other : Option Content) → FitsAt one → FitsAt other 
 at_by true one other this that = this
 at_by false one other this that = that
 
-content_fits : (start : List Reference) (lines : List AssembledLine) (at : Part) (p : ℕ) → FitUses start → AreAllResolved lines → FitsAt (content_at start lines at p)
+content_fits : (start : List Reference) (lines : List AssembledLine) (at : Part) (p : ℕ) → FitUses start → AreAllResolved lines
+    → FitsAt (content_at start lines at p)
 content_fits start [] at p fits all = tt
 content_fits start (line ∷ before) at p fits all =
     at_by (covers line at p) (slice_get (contents start before line) (p - line.at.number)) (content_at start before at p)
@@ -261,11 +262,13 @@ IsKeptName name = AreKept (name ∷ [])
 
 defs_kept : (lines : List Line) → AreGood lines → AreKept (defs lines)
 defs_kept [] good = tt
-defs_kept (line ∷ before) good = all_append _ (defs before) (defs_in line.statement) (defs_kept before good.1) (defs_fit line.statement good.0.fit_statement.names)
+defs_kept (line ∷ before) good =
+    all_append _ (defs before) (defs_in line.statement) (defs_kept before good.1) (defs_fit line.statement good.0.fit_statement.names)
 
 refs_kept : (lines : List Line) → AreGood lines → AreKept (refs lines)
 refs_kept [] good = tt
-refs_kept (line ∷ before) good = all_append _ (refs before) (refs_in line.statement) (refs_kept before good.1) (refs_fit line.statement good.0.fit_statement.names)
+refs_kept (line ∷ before) good =
+    all_append _ (refs before) (refs_in line.statement) (refs_kept before good.1) (refs_fit line.statement good.0.fit_statement.names)
 
 value_fits : (found : Option Value) → IfSome found FitsValue → FitsSpot (spot_of found)
 value_fits (Some (Absolute number)) fits = fits

@@ -145,7 +145,8 @@ quoted_by false text are = tt
 -- ---- directives
 
 module _ (texts : List (List ℕ)) (are : AllBytes texts) where
-  of_one : (make : List ℕ → Statement) → ((text : List ℕ) → AreBytes text → IsFitStatement (make text)) → IfOk (one_operand texts >>= λ text. Ok (make text)) IsFitStatement
+  of_one : (make : List ℕ → Statement) → ((text : List ℕ) → AreBytes text → IsFitStatement (make text))
+      → IfOk (one_operand texts >>= λ text. Ok (make text)) IsFitStatement
   of_one make fit_statement = ok_then AreBytes IsFitStatement (one_operand texts) (λ text. Ok (make text)) (one_bytes texts are) fit_statement
 
   of_list : (make : List (List ℕ) → Statement) → ((texts : List (List ℕ)) → AllBytes texts → IsFitStatement (make texts))

@@ -1,3 +1,3 @@
-//! That the module of a source is one that object text holds, and so reads back as that module. The laws stand in
+//! That the module of a source is one that object text holds, and so reads back as that module. The laws are in
 //! `proofs/`.
 #![tactic(auto)]

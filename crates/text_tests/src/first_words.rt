@@ -8,7 +8,7 @@ use std::alloc::Global;
 /// The place of the words.
 const HERE: u16 = 0x6000;
 
-/// Whether a first word is printed with no more words than stand there: up to three of them, and alone as one.
+/// Whether a first word is printed with no more words than are there: up to three of them, and alone as one.
 fn has_its_words(first: u16) -> bool {
     let (text, count) = print_instr(&[first, 0, 0], HERE);
     let (alone, one) = print_instr(&[first], HERE);

@@ -97,7 +97,7 @@ fn is_read_as(image: &GromImage, at: u16, instr: GplInstr, next: u16) -> bool {
     read_instr(image.bytes(), at) == GplRead::Instr { instr, next }
 }
 
-/// Whether the instruction at an address, where there is one, stands there in its shortest spelling.
+/// Whether the instruction at an address, where there is one, is there in its shortest spelling.
 fn is_short(image: &GromImage, at: u16) -> bool {
     match read_instr(image.bytes(), at) {
         GplRead::Instr { .. } => is_shortest(image.bytes(), at),

@@ -244,7 +244,7 @@ fn writes(alloc: Global, module: &Module, text: &[u8]) -> bool
     }
 }
 
-/// Whether a module passes no limit, and its words stand at even places.
+/// Whether a module passes no limit, and its words are at even places.
 fn has_text(module: &Module) -> bool
     ensures { IsTrue result → HasText (model_of_module «module».now) }
 {

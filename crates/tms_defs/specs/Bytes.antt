@@ -12,7 +12,7 @@ pub record HoldsZeros (count : ℕ) (bytes : List ℕ) : Type 0 where
   pub size : length bytes ≡ count
   pub zeros : (at : ℕ) → slice_index bytes at ≡ 0
 
--- The word whose high byte stands at a place of a list, and whose low byte stands after it.
+-- The word whose high byte is at a place of a list, and whose low byte comes after it.
 -- TMS9900 data manual, "Registers and memory".
 abbrev pub word_in : List ℕ → ℕ → ℕ
 word_in bytes at = join (slice_index bytes at) (slice_index bytes (at + 1))

@@ -195,7 +195,7 @@ first_row (operation ∷ rest) word =
 abbrev pub operation_at : ℕ → Option Operation
 operation_at word = first_row operations word
 
--- The source stands in the low six bits of a word, the destination in the next six: two of mode, four of register.
+-- The source is in the low six bits of a word, the destination in the next six: two of mode, four of register.
 -- TMS9900 data manual, "Instructions", the formats.
 abbrev pub source_at : ℕ → Place
 source_at word = record { mode = word / 16 % 4; reg = word % 16 }

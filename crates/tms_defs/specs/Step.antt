@@ -1,4 +1,4 @@
--- What the processor does: its operands, its instructions by their forms, and one step. All is said over any memory
+-- What the processor does: its operands, its instructions by their forms, and one step. All is stated over any memory
 -- with the four accesses, so the order of the lines is the order of the accesses.
 use Rattle.std.specs.Prelude.{ℕ, ℤ, ◌+◌, ◌*◌, ◌==◌, Bool, true, false, if◌then◌else◌, Option, Some, None}
 use Rattle.std.specs.Prelude.{List, [], ◌∷◌, ◌++◌}
@@ -99,7 +99,7 @@ module _ (M : Type 0) (access : Accesses M) where
   index_of x number = if number == 0 then Gives 0 else word_at (register number x) x
 
   -- The address of an operand, and the state after the growth of its register: by the bytes of the operand. A register
-  -- stands at the address of its word, so an operand of a byte in it is the high byte.
+  -- is at the address of its word, so an operand of a byte in it is the high byte.
   -- TMS9900 data manual, "Addressing modes".
   -- Profile: the following word is read before the index register.
   abbrev pub operand : Mode → Width → ℕ → Cpu M → Answer (ℕ × Cpu M)
@@ -377,7 +377,7 @@ module _ (M : Type 0) (access : Accesses M) where
     Gives (record x { wp = even wp; pc = even pc; status = status_at status })
   bare _ x = NoInstruction  -- never reached: `executed_where` refuses these first
 
-  -- An instruction is executed; the program counter stands after its first word.
+  -- An instruction is executed; the program counter comes after its first word.
   -- TMS9900 data manual, "Instructions".
   abbrev pub executed : Instr → Cpu M → Answer (Cpu M)
   executed (Two op byte dst src) x = two_operands op (byte_or_word byte) dst src x

@@ -1,12 +1,12 @@
 -- Words of 16 bits, their bytes, and addresses.
 use Rattle.std.specs.Prelude.{ℕ, ◌+◌, ◌*◌, ◌/◌, ◌%◌, List, [], ◌∷◌}
 
--- The more significant byte of a word; it stands at the word's even address.
+-- The more significant byte of a word; it is at the word's even address.
 -- TMS9900 data manual, "Registers and memory".
 abbrev pub high : ℕ → ℕ
 high word = word / 256
 
--- The less significant byte of a word; it stands at the odd address after it.
+-- The less significant byte of a word; it is at the odd address after it.
 -- TMS9900 data manual, "Registers and memory".
 abbrev pub low : ℕ → ℕ
 low word = word % 256

@@ -9,7 +9,7 @@ pub struct Status {
     pub flags: Flags,
     /// OP, >0400: odd parity.
     pub op: bool,
-    /// The other ten bits as they stand in the register: X is >0200, the interrupt mask is >000F, and the bits
+    /// The other ten bits as they are in the register: X is >0200, the interrupt mask is >000F, and the bits
     /// between them have no meaning and are kept. Below 1,024.
     pub rest: u16,
 }

@@ -13,7 +13,7 @@ use crate::status::status_at;
 use tms_defs::{BareOp, PortStop};
 
 impl Cpu {
-    /// An operation on the processor's registers; the program counter stands at the word that may follow (TMS9900 data
+    /// An operation on the processor's registers; the program counter is at the word that may follow (TMS9900 data
     /// manual, "Internal register load immediate instructions", "Return workspace pointer (RTWP) instruction").
     #[inline(never)]
     pub(crate) fn bare(&mut self, op: BareOp) -> Result<(), PortStop>

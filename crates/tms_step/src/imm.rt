@@ -12,7 +12,7 @@ use tms_defs::{ImmOp, PortStop};
 use tms_words::add16;
 
 impl Cpu {
-    /// An operation on a register; the program counter stands at the word that may follow (TMS9900 data manual,
+    /// An operation on a register; the program counter is at the word that may follow (TMS9900 data manual,
     /// "Immediate register instructions", "Internal register store instructions").
     #[inline(never)]
     pub(crate) fn imm(&mut self, op: ImmOp, number: u8) -> Result<(), PortStop>

@@ -12,7 +12,7 @@ use crate::cpu::Cpu;
 use tms_defs::{JumpOp, Status};
 
 impl Cpu {
-    /// A jump; the program counter stands at the next instruction (TMS9900 data manual, "Jump instructions").
+    /// A jump; the program counter is at the next instruction (TMS9900 data manual, "Jump instructions").
     #[inline(always)]
     pub(crate) fn jump(&mut self, op: JumpOp, disp: i8)
         requires set { op ≢ SBO }

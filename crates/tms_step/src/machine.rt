@@ -61,7 +61,7 @@ impl Machine {
     }
 
     /// One step of the processor: the instruction at the program counter is executed, and the count rises by one or
-    /// stands at its type's end. Where it is refused, or meets a port by a word access, the whole machine is as
+    /// is at its type's end. Where it is refused, or meets a port by a word access, the whole machine is as
     /// before, ports included. It is refused exactly where no step executes the word at the program counter,
     /// and what it meets is one of the eight ports.
     #[inline(always)]
@@ -74,7 +74,7 @@ impl Machine {
         self.step_from(Expansion::High)
     }
 
-    /// The same step, which takes the least time where the instruction stands in the given part of the expansion
+    /// The same step, which takes the least time where the instruction is in the given part of the expansion
     /// memory.
     #[inline(always)]
     pub fn step_from(&mut self, part: Expansion) -> StepEnd
@@ -114,7 +114,7 @@ impl Machine {
         self.cpu.status_word()
     }
 
-    /// How many instructions were executed; it stands at its type's end.
+    /// How many instructions were executed; it is at its type's end.
     pub fn count(&self) -> u64
         ensures { result ≡ self.now.count }
     {

@@ -83,7 +83,7 @@ fn end_at_limit(stop: Option<u16>, pc: u16) -> RunEnd
     }
 }
 
-/// The program counter stands at the address that ends the run.
+/// The program counter is at the address that ends the run.
 #[inline]
 fn is_reached(stop: Option<u16>, pc: u16) -> bool
     ensures { result ≡ is_reached stop pc }

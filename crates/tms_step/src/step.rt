@@ -2,7 +2,7 @@
 //!
 //! The operations that programs make most are found by a few tests, and not by a `match` of many arms,
 //! which is compiled into a table of jumps: on the machines where this was measured, a jump through a table takes half
-//! as long as a whole step. What is found so stands in functions that are not inlined into each other.
+//! as long as a whole step. What is found so is in functions that are not inlined into each other.
 
 ghost use Rattle.std.specs.Prelude.{◌≡◌, OnErr, IsFalse};
 ghost use Rattle.tms_defs.specs.Instructions.{HasRoom};
@@ -47,7 +47,7 @@ impl Cpu {
         }
     }
 
-    /// An instruction is executed; the program counter stands after its first word (TMS9900 data manual,
+    /// An instruction is executed; the program counter comes after its first word (TMS9900 data manual,
     /// "Instructions").
     #[inline(always)]
     pub(crate) fn executed(&mut self, instr: Instr) -> Result<(), PortStop>

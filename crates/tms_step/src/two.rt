@@ -125,7 +125,7 @@ impl Cpu {
         }
     }
 
-    /// A source is stored at an address, and what stands there is not read.
+    /// A source is stored at an address, and what is there is not read.
     #[inline(always)]
     fn moved(&mut self, byte: bool, source: u16, address: u16) -> Result<(), PortStop>
         requires { source < modulus (byte_or_word byte) }

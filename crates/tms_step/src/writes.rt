@@ -26,7 +26,7 @@ impl Cpu {
         self.undo_on_stop(end, Some(kept))
     }
 
-    /// Writes a word over the one that stands there, which is kept.
+    /// Writes a word over the one that is there, which is kept.
     fn replace(&mut self, address: u16, word: u16) -> Result<Kept, PortStop>
         ensures value { left_by result (λ _. self.new) ≡ with_word Memory console self.old address word }
         ensures undo { IfOk result (λ kept. SameButPc self.old (put_back (Some kept) self.new)) }

@@ -8,10 +8,10 @@ ghost use Rattle.change_defs.specs.Text.{size_of};
 ghost use Rattle.trace_dump.specs.FirstChanges.{part_label, part_place, first_text};
 
 use asm_text::byte_digits;
-use memory_basics::zeros;
 use change_defs::Part;
 use gpl_step_defs::VISIBLE_CELLS;
 use lane_scan::{count_differences, first_difference};
+use memory_basics::zeros;
 use report_lines::{Line, append, append_count, append_word};
 use std::alloc::{AllocError, Global};
 use std::marker::Model;

@@ -1,4 +1,4 @@
-//! The lines of a GPL program: the state that it stands in, and how it ended.
+//! The lines of a GPL program: the state that it is in, and how it ended.
 
 ghost use Rattle.std.specs.Prelude.{◌≡◌, ◌<◌, ◌≤◌, ◌+◌, ◌++◌, length, slice_index};
 ghost use Rattle.arrayvec.specs.ArrayVec.{array_vec_len};
@@ -12,7 +12,7 @@ use gpl_run::Session;
 use gpl_step_defs::{RETURN_STACK, Reason, STATUS, VALUE_STACK};
 use report_lines::{Line, append, append_word, line_of};
 
-/// The line of the state that a program stands in: the address of its next code byte, or of the one that ended it, and
+/// The line of the state that a program is in: the address of its next code byte, or of the one that ended it, and
 /// its status and the pointers of its two stacks.
 #[tactic(auto, using(std::proofs::Common::append_assoc), unfolding(report_defs::specs::Program::state_line))]
 pub fn state_line(session: &Session) -> Line
@@ -57,7 +57,7 @@ pub fn stop_line(reason: Reason, address: u16) -> Line
     line
 }
 
-/// What is said of a reason, in front of the address.
+/// The text of a reason, in front of the address.
 fn stop_text(reason: Reason) -> &'static [u8]
     ensures text { result.now ≡ spec.stop_text reason }
     ensures size { length result.now ≤ 10 }

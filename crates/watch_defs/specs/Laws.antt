@@ -8,7 +8,7 @@ use Rattle.watch_defs.specs.declared.found.Found.TheVariants.{Hit, None}
 use Rattle.watch_defs.specs.Items as items
 use Rattle.watch_defs.specs.Hits.{state_after, found}
 
--- No item of a list that stands before a place holds at the step from one state to the next.
+-- No item of a list that is before a place holds at the step from one state to the next.
 abbrev pub NoneHoldsBefore : List Item → ℕ → GplState → GplState → Type 0
 NoneHoldsBefore list end before next =
     (place : ℕ) (item : Item) → place < end → slice_get list place ≡ Some item → IsFalse (items.holds item before next)

@@ -3,7 +3,7 @@
 ghost use Rattle.watch_defs.specs.Laws.{HitsAreFirst};
 ghost use Rattle.watch_defs.specs.RangeLaw.{RangesHoldByTheirBytes};
 
-/// What is found is the first hit: no item holds at a step before it, and none that stands before it in the list holds
+/// What is found is the first hit: no item holds at a step before it, and none that is before it in the list holds
 /// at its step. Where nothing is found no item holds at any step of the run.
 #[tactic(auto, using(crate::proofs::FirstHits::hits_are_first))]
 pub fn hits_are_first()

@@ -1,4 +1,4 @@
-//! What is watched of a GPL program, and the first step of a run that changes it. The definitions stand in `specs/`.
+//! What is watched of a GPL program, and the first step of a run that changes it. The definitions are in `specs/`.
 #![tactic(auto)]
 
 mod found;

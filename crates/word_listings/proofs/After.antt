@@ -48,7 +48,7 @@ pub record IsAt (before : List Line) (at : ℕ) : Type 0 where
 pub same_place : (m n : ℕ) → m ≡ n → absolute_at m ≡ absolute_at n
 same_place m n e = ap absolute_at e
 
--- a line that is let through after others
+-- a line that is accepted after others
 pub record Taken (before : List Line) (number : ℕ) (text : List ℕ) (at next : ℕ) (last : Bool) (answer : Result Outcome AsmCause) : Type 0 where
   pub line : Line
   pub check_is : check before number (listed text) ≡ Ok line
@@ -58,7 +58,7 @@ pub record Taken (before : List Line) (number : ℕ) (text : List ℕ) (at next 
   pub assemble_is : (earlier : List AssembledLine) → assembled_line predefined before earlier line
       ≡ (answer >>= λ found. with_room earlier (record { at = absolute_at at; outcome = found }))
 
--- a line by itself is let through after others
+-- a line by itself is accepted after others
 module _ (at : ℕ) (text : List ℕ) (size : ℕ) (last : Bool) (answer : Result Outcome AsmCause) (back : LineBack at text size last answer) (fits : at + size ≤ 65536) where
   abbrev found : Checked
   found = record { label = None; statement = back.statement; move = record { origin = None; gap = 0; size = size; label = value_of (after (absolute_at at) 0) } }
@@ -124,7 +124,7 @@ Fails before refusal = assembled_lines (assembled_line predefined) before ≡ Er
 pub fails_still : (line : Line) (before : List Line) (refusal : Refusal AsmCause) → Fails before refusal → Fails (line ∷ before) refusal
 fails_still line before refusal e = rw e refl
 
--- what lines come to: words that stand one after the other from a place on, or a refusal
+-- what lines come to: words that come one after the other from a place on, or a refusal
 abbrev pub Comes : List Line → ℕ → Result (List ℕ) (Refusal AsmCause) → Type 0
 Comes before from (Ok words) = (earlier : List AssembledLine) × Holds before earlier from words
 Comes before from (Err refusal) = Fails before refusal
@@ -153,7 +153,8 @@ ends_more before number text texts at next come answer taken ends = record {
   all = ends.all;
   layout_is =
       rw taken.check_is
-      (chosen taken.line.last false (Ok (taken.line ∷ before)) (layout_after check (taken.line ∷ before) (numbered (number + 1) (map listed texts))) taken.last_is
+      (chosen taken.line.last false (Ok (taken.line ∷ before))
+      (layout_after check (taken.line ∷ before) (numbered (number + 1) (map listed texts))) taken.last_is
       ∙ ends.layout_is);
   names_are = ends.names_are;
   module_is = ends.module_is;
@@ -215,7 +216,7 @@ module _ (from : ℕ) (total : List ℕ) (tails : List (List ℕ)) (whole : Modu
       ((earlier : List AssembledLine) → Holds before earlier from total → Ends before number tails (Ok whole))
       × ((refusal : Refusal AsmCause) → Fails before refusal → Ends before number tails (Err refusal))
 
-  -- words and those that are left are all of them, and these stand from a place on
+  -- words and those that are left are all of them, and these begin at a place
   abbrev AreAll : Result (List ℕ) (Refusal AsmCause) → List ℕ → ℕ → Type 0
   AreAll (Ok words) rest place = (from + 2 * length words ≡ place) × (words ++ rest ≡ total)
   AreAll (Err refusal) rest place = Unit {0}

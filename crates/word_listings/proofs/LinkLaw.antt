@@ -112,6 +112,7 @@ entered_listings_link at bytes entry m after_these inside is =
     let even = after_these.even in
     let within = after_these.within in
     let size = padded_size bytes in
-    let same = taken_module _ (module_of_words at (padded_words bytes) (Some entry)) m (sym (entered_listings_come_back at bytes entry after_these inside) ∙ is) in
+    let same =
+    taken_module _ (module_of_words at (padded_words bytes) (Some entry)) m (sym (entered_listings_come_back at bytes entry after_these inside) ∙ is) in
     subst (LinksTo at (padded_words bytes) entry) same
     (modules_of_words_link at (padded_words bytes) entry (padded_fit bytes after_these.holds.fits) even (omega (arith, even, within, size)) inside)

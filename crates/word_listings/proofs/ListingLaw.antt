@@ -31,7 +31,8 @@ use Rattle.word_listings.specs.Listing.{memory_listing, lines_from, word_lines, 
 use Rattle.listed_lines.proofs.DigitLaws.{word_passes}
 use Rattle.listed_lines.proofs.OperandLines.{whole, one_text}
 use Rattle.listed_lines.proofs.Scans.{all_both}
-use Rattle.listed_lines.proofs.LineTexts.{plain_byte, number_fit, Cut, Fit, cut_listed, in_line, listed_in_line, joined, lines_joined, clean, clean_lines, text_of}
+use Rattle.listed_lines.proofs.LineTexts.{plain_byte, number_fit, Cut, Fit, cut_listed, in_line, listed_in_line, joined, lines_joined, clean, clean_lines}
+use Rattle.listed_lines.proofs.LineTexts.{text_of}
 use Rattle.word_listings.specs.Modules.{padded_words, module_of_words, wrapping_from, first_wrapping, unless_far}
 use Rattle.word_listings.specs.Law.{AreFromEvenAddress, listed_module, WordListingsComeBack, EnteredListingsComeBack}
 use Rattle.word_listings.proofs.Slots.{known, word_value}
@@ -195,7 +196,8 @@ module _ (half : ℕ) (bytes : List ℕ) (entered : Option ℕ) (all : AllBytes 
       (unless_far (first_wrapping 2 (2 * half) words) (module_of_words (2 * half) found entered))) (sym padded)
       (all_go ((codes "BYTE " ++ hex_byte byte) ∷ end_text entered ∷ []) (module_of_words (2 * half) (words ++ join byte 0 ∷ []) entered) below
       (λ before number after_these. (
-        λ earlier holds. closes_byte entered is_entry (2 * half + 2 * length words) byte more lt half words (omega arith) before earlier number after_these holds,
+        λ earlier holds. closes_byte entered is_entry (2 * half + 2 * length words) byte more lt half words
+            (omega arith) before earlier number after_these holds,
         λ refusal fails. breaks_byte entered is_entry (2 * half + 2 * length words) byte more lt before number refusal after_these fails,
       ))))
 
@@ -266,7 +268,7 @@ pub after_layout : (all : List Line) (come : Result Module (Refusal AsmCause)) �
 after_layout all come names is =
     ap (λ known. assembled_lines (assembled_line known) all >>= λ found. Ok (module_by all found)) names ∙ is
 
--- the module of a source whose lines are let through to the last
+-- the module of a source whose lines are accepted to the last
 source_is : (texts : List (List ℕ)) (answer : Result Module (Refusal AsmCause)) → Ends [] 1 texts answer → list_all (λ line. list_all in_line line) (map listed texts) ≡ true
     → module_of_source (joined (map listed texts)) ≡ answer
 source_is texts answer ends clean =

@@ -54,7 +54,8 @@ word_listings_are_short at bytes after_these =
     let even = after_these.even in
     let within = after_these.within in
     let fit = words_fit bytes in
-    let words = lines_short (length (words_of_bytes bytes)) (words_of_bytes bytes) at even (omega (arith, within, fit)) (are_words bytes after_these.holds.fits) in
+    let words =
+    lines_short (length (words_of_bytes bytes)) (words_of_bytes bytes) at even (omega (arith, within, fit)) (are_words bytes after_these.holds.fits) in
     let odd = odd_short bytes in
     let first = first_short at in
     let last = concat_both (odd_byte_lines bytes) (listing_line (codes "END") ∷ []) in

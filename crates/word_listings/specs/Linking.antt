@@ -18,7 +18,7 @@ abbrev pub first_outside : ℕ → List ℕ → Option ℕ
 first_outside at [] = None
 first_outside at (word ∷ words) = if is_loadable at then first_outside (at + 2) words else Some at
 
--- the word at an address, of words that stand one after the other from another on
+-- the word at an address, of words that come one after the other from another on
 abbrev pub word_there : ℕ → List ℕ → ℕ → Option ℕ
 word_there at words address =
     if nat_le at address && ((address - at) % 2 == 0) then slice_get words ((address - at) / 2) else None

@@ -5,7 +5,7 @@ pub use Rattle.source_defs.specs.ListedLines.{listing_line}
 use Rattle.tms_defs.specs.Words.{words_of_bytes}
 use Rattle.instruction_defs.specs.Printed.{printed}
 
--- At most a number of lines of words, of which the first word stands at an address: the line of the instruction in
+-- At most a number of lines of words, of which the first word is at an address: the line of the instruction in
 -- front, or DATA with a word that is none, and then the lines of the words after it.
 abbrev pub lines_from : ℕ → ℕ → List ℕ → List (List ℕ)
 lines_from zero at words = []

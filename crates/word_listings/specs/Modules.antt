@@ -1,4 +1,4 @@
--- The module of words that stand one after the other, and the listed jumps that the assembler refuses.
+-- The module of words that come one after the other, and the listed jumps that the assembler refuses.
 use Rattle.std.specs.Prelude.{ℕ, zero, suc, ℤ, pos, negsuc, ◌+◌, ◌*◌, Bool, false, nat_lt}
 use Rattle.std.specs.Prelude.{if◌then◌else◌, List, [], ◌∷◌, length, drop}
 use Rattle.std.specs.Prelude.{Option, Some, None, Result, Ok, Err}
@@ -25,7 +25,7 @@ padded_words [] = []
 padded_words (byte ∷ []) = join byte 0 ∷ []
 padded_words (more ∷ less ∷ rest) = join more less ∷ padded_words rest
 
--- The module of words that stand one after the other from an absolute place on, with an absolute entry or none: these
+-- The module of words that come one after the other from an absolute place on, with an absolute entry or none: these
 -- words, and no name, no use of a name and no relocatable code.
 abbrev pub module_of_words : ℕ → List ℕ → Option ℕ → Module
 module_of_words at words entry =
@@ -43,7 +43,7 @@ abbrev pub leads_out : ℕ → ℤ → Bool
 leads_out next (pos count) = nat_lt 0xFFFF (next + 2 * count)
 leads_out next (negsuc count) = nat_lt next (2 * suc count)
 
--- The jump of an operation, whose next instruction stands at an address, wraps around the ends of memory. SBO, SBZ and
+-- The jump of an operation, whose next instruction is at an address, wraps around the ends of memory. SBO, SBZ and
 -- TB do not jump.
 abbrev pub jump_wraps : JumpOp → ℕ → ℤ → Bool
 jump_wraps SBO next disp = false

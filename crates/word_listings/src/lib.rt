@@ -1,5 +1,5 @@
 //! The listing of memory as assembler source, what it is assembled to, and how that is linked. The definitions and the
-//! laws stand in `specs/`.
+//! laws are in `specs/`.
 #![tactic(auto)]
 
 mod laws;

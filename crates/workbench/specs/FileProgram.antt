@@ -4,7 +4,8 @@ use Rattle.base_defs.specs.Counts.{saturating_sum}
 use Rattle.bench_io.specs.ReadAll.{ReadWhole}
 use Rattle.report_defs.specs.declared.fault.Fault.TheVariants.{TooLarge}
 use Rattle.report_defs.specs.Report.{Report, Faulty, OnInput, largest_input}
-use Rattle.report_defs.specs.ProgramCommands.{AsmFiles, LinkFiles, Watch, ProgramCommand, OverFiles, Plain, program_usage}
+use Rattle.report_defs.specs.ProgramCommands.{AsmFiles, LinkFiles, Watch, ProgramCommand, OverFiles, Plain}
+use Rattle.report_defs.specs.ProgramCommands.{program_usage}
 use Rattle.report_defs.specs.FileReports.{WatchReport, ReportWith}
 use Rattle.shelf_defs.specs.Copied.{most_bytes, most_copies}
 use Rattle.shelf_defs.specs.Questions.{Question}

@@ -14,7 +14,7 @@ use bench_io::{Sink, Source};
 use bench_shelf::Shelf;
 use command_words::Words;
 use report_defs::Status;
-use reports::{finish, end_with_line};
+use reports::{end_with_line, finish};
 use std::alloc::Global;
 
 /// Runs the command that the words say. `asm` reads the source from `input` and the files that it copies from `shelf`;

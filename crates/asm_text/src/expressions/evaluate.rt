@@ -16,7 +16,7 @@ use crate::name::Name;
 use crate::operand_fields::quoted_texts::between_quotes;
 use expression_defs::ExprError;
 
-/// The first character of a text, where two quotes are one, and what stands after it.
+/// The first character of a text, where two quotes are one, and what comes after it.
 fn first_character(text: &[u8]) -> Option<(u8, &[u8])>
     ensures { option_map (λ found. (found.0, found.1.now)) result ≡ first_character text.now }
 {

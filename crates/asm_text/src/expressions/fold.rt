@@ -59,7 +59,7 @@ fn signed_value(
     }
 }
 
-/// The value of a minus sign and what stands after it.
+/// The value of a minus sign and what comes after it.
 fn minus_value(
     tokens: &[Token],
     line: &[u8],

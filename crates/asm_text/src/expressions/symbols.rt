@@ -27,7 +27,7 @@ use std::marker::Model;
 pub enum DefineError {
     /// The name stands for something already.
     Duplicate,
-    /// Memory was wanting.
+    /// Memory ran out.
     Memory,
 }
 

@@ -18,7 +18,7 @@ pub enum TokenKind {
     Sign(u8),
 }
 
-/// A token, and where it stands in its text.
+/// A token, and where it is in its text.
 #[derive(Clone, Copy, Debug, PartialEq, Eq)]
 pub struct Token {
     /// What the token is.

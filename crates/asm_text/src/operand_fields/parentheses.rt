@@ -51,7 +51,7 @@ fn is_opening(byte: u8) -> bool
     byte == b'('
 }
 
-/// Whether an odd number of quotes stands in a text up to a place.
+/// Whether an odd number of quotes is in a text up to a place.
 #[tactic(auto, unfolding(source_defs::specs::Fields::in_quotes))]
 fn in_quotes(text: &[u8], to: usize) -> bool
     requires { to ≤ length text.now }

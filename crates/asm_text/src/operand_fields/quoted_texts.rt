@@ -24,7 +24,7 @@ pub fn quoted(text: &[u8]) -> Result<&[u8], OperandError>
     }
 }
 
-/// Whether a text stands in quotes, where two quotes inside it are one.
+/// Whether a text is in quotes, where two quotes inside it are one.
 pub fn is_quoted(text: &[u8]) -> bool
     ensures { result ≡ spec.is_quoted text.now }
 {
@@ -34,7 +34,7 @@ pub fn is_quoted(text: &[u8]) -> bool
     }
 }
 
-/// Whether what stands after the first quote of a text ends with the quote that closes it.
+/// Whether what comes after the first quote of a text ends with the quote that closes it.
 fn closes(text: &[u8]) -> bool
     ensures { result ≡ spec.closes false text.now }
 {
@@ -80,7 +80,7 @@ pub fn quoted_characters(alloc: Global, quoted: &[u8]) -> Result<Vec<u8>, AllocE
     Ok(characters)
 }
 
-/// What stands between the first and the last byte of a text, which are its quotes.
+/// What is between the first and the last byte of a text, which are its quotes.
 pub fn between_quotes(quoted: &[u8]) -> &[u8]
     ensures { result.now ≡ expressions.between_quotes quoted.now }
 {

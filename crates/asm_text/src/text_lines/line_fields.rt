@@ -1,4 +1,4 @@
-//! What stands in a line.
+//! What is in a line.
 
 ghost use Rattle.std.specs.Prelude.{◌≡◌, ◌≤◌, ◌↔◌, length, IfOk, IfSome, IsTrue, Ok};
 ghost use Rattle.std.proofs.Props.{props};

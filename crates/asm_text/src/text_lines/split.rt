@@ -22,7 +22,7 @@ const LONGEST_LINE: usize = 256;
 /// and one with an asterisk in column 1, has none.
 ///
 /// `LineTooLong` comes for more than 256 bytes, and only then. `BadLabel` comes where column 1 holds
-/// neither a blank nor an asterisk and what stands there up to a blank is no name, and only then.
+/// neither a blank nor an asterisk and what is there up to a blank is no name, and only then.
 #[tactic(auto, using(source_defs::proofs::FieldLaws::no_comment), unfolding(source_defs::specs::Fields::fields))]
 #[inline(always)]
 pub fn fields(line: &[u8]) -> Result<Fields, TextError>
@@ -108,7 +108,7 @@ pub fn upper_case_name(field: &[u8]) -> Option<Name>
     Some(Name::of_padded(letters, field.len()))
 }
 
-/// The letters and digits of a label field in upper case, followed by zeros; none where another character stands there.
+/// The letters and digits of a label field in upper case, followed by zeros; none where another character is there.
 fn in_upper_case(field: &[u8]) -> Option<[u8; KEPT_BYTES]>
     requires { length field.now ≤ 6 }
     ensures all { is_some result ≡ all_letters_or_digits field.now }

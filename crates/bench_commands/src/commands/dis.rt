@@ -7,7 +7,7 @@ ghost use Rattle.reports.specs.Answers.{answer, NeverFails, Reported};
 use report_defs::{Command, Fault};
 use reports::{CommandError, Listing, Report};
 
-/// The listing of raw bytes that stand from an address on, unless they run past >FFFF.
+/// The listing of raw bytes that begin at an address, unless they run past >FFFF.
 pub(crate) fn dis(at: u16, input: Vec<u8>) -> Result<Report, CommandError>
     requires { vec_len input ≤ spec.largest_input }
     ensures { Reported (spec.AcceptedReport (Command.Dis at) input.items) NeverFails (answer result) }

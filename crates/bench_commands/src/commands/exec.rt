@@ -10,10 +10,10 @@ ghost use Rattle.reports.specs.Answers.{answer, WantsMemory, Reported};
 ghost use Rattle.bench_commands.specs.LinkedInput.{StartsInput};
 
 use crate::object_input::link_input;
-use memory_basics::zeros;
 use console_defs::RunEnd;
-use link_loader::Linked;
 use gpl_run::load_machine;
+use link_loader::Linked;
+use memory_basics::zeros;
 use report_defs::Command;
 use reports::{CommandError, Report};
 use std::alloc::{AllocError, Global};

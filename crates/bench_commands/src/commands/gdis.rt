@@ -11,7 +11,7 @@ use report_defs::{Command, Fault};
 use reports::{CommandError, Report};
 use std::alloc::{AllocError, Global};
 
-/// The listing of bytes of GROM that stand from an address on, unless they run past >FFFF.
+/// The listing of bytes of GROM that begin at an address, unless they run past >FFFF.
 pub(crate) fn gdis(alloc: Global, at: u16, input: &[u8]) -> Result<Report, CommandError>
     requires { length input.now ≤ spec.largest_input }
     ensures { Reported (spec.AcceptedReport (Command.Gdis at) input.now) WantsMemory (answer result) }

@@ -19,7 +19,7 @@ use std::sync::ledger::{Blank, Ledger};
 use tms_step::{Machine, Steps};
 use trace_dump::Seen;
 
-/// A GPL source that stands before the first step of its program, of which up to `limit` are to be traced; or why
+/// A GPL source that is before the first step of its program, of which up to `limit` are to be traced; or why
 /// it is not run. All memory of the trace is taken.
 pub(crate) fn trace(alloc: Global, limit: u32, input: &[u8]) -> Result<Prepared, CommandError>
     requires size { length input.now ≤ largest_input }

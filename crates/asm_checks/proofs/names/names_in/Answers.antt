@@ -10,7 +10,7 @@ operand_list : {A : Type 0} (b : Bool) (x y : A) → Some x ≡ (if b then Some 
 operand_list true x y e = cc e
 operand_list false x y e = cc e
 
--- an operand's name stands after those before it
+-- an operand's name comes after those before it
 pub loop-span-preserved-in-Continue-1 : goal.loop-span-preserved-in-Continue-1
 loop-span-preserved-in-Continue-1 c =
     let field = c.args.field.now in

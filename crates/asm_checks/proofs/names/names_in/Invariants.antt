@@ -6,7 +6,7 @@ use Rattle.source_defs.specs.Operands.{operand_texts}
 use Rattle.asm_defs.specs.Statements.{all_names, upper_names}
 use Rattle.asm_checks.proofs.names.names_in.Given as goal
 
--- the names so far, and those of the operands that are left
+-- the names so far, and of the operands that are left
 abbrev pub invariant-loop-span : goal.invariant-loop-span
 invariant-loop-span l = record {
   inside : OperandsLieInside l.field l.span-iterator;

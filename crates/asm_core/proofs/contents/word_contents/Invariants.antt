@@ -5,7 +5,7 @@ use Rattle.asm_forms.specs.Placed.{model_of_words}
 use Rattle.asm_defs.proofs.PlacedWords.{word_contents, after_words}
 use Rattle.asm_core.proofs.contents.word_contents.Given as goal
 
--- the bytes so far, and those of the words that are left
+-- the bytes so far, and of the words that are left
 abbrev pub invariant-loop-rest : goal.invariant-loop-rest
 invariant-loop-rest l = record {
   within : l.place + 2 * length l.rest ≤ 65536;

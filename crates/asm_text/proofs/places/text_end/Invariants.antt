@@ -4,7 +4,7 @@ use Rattle.source_defs.specs.Fields.{in_quotes}
 use Rattle.expression_defs.specs.Tokens.{ends_text, text_end}
 use Rattle.asm_text.proofs.places.text_end.Given as goal
 
--- whether a quote is open, and no end stands before
+-- whether a quote is open, and no end is before
 abbrev pub invariant-loop-at : goal.invariant-loop-at
 invariant-loop-at l = record {
   quoted : l.quoted ≡ in_quotes l.text l.start l.at;

@@ -1,4 +1,4 @@
--- What a write takes stands after what was written before it.
+-- What a write takes comes after what was written before it.
 use Rattle.std.proofs.Common.{◌+◌, ◌++◌, take, drop, sym, ap, ◌∙◌, subst}
 use lib.Seq.{take-add, drop-drop}
 use Rattle.std.proofs.lemmas.List.{take_rest}

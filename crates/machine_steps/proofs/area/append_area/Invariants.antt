@@ -3,7 +3,7 @@ use Rattle.machine_change_defs.specs.Text.{place_text}
 use Rattle.step_changes.proofs.AppendedChanges.{Appending}
 use Rattle.machine_steps.proofs.area.append_area.Given as goal
 
--- the changes up to a place stand in the line
+-- the changes up to a place are in the line
 abbrev pub invariant-loop-from : goal.invariant-loop-from
 invariant-loop-from l = Appending (place_text l.area) l.before l.now l.fn.line l.line l.at
 

@@ -1,7 +1,7 @@
 use Rattle.machine_steps.proofs.ShownRuns.{Showing}
 use Rattle.machine_steps.proofs.run.show_run.Given as goal
 
--- so many instructions were executed and shown
+-- a number of instructions were executed and shown
 abbrev pub invariant-loop-made : goal.invariant-loop-made
 invariant-loop-made g l =
     let state = g.O.Sink.state in

@@ -4,7 +4,7 @@ use Rattle.machine_change_defs.specs.Changes.{register_change}
 use Rattle.machine_change_defs.specs.Text.{register_text}
 use Rattle.machine_steps.proofs.workspace.append_changed.Given as goal
 
--- the registers so far stand in the line
+-- the registers so far are in the line
 abbrev pub invariant-loop-number : goal.invariant-loop-number
 invariant-loop-number l = record {
   text : l.line ≡ l.fn.line ++ flat_map register_text (flat_map (register_change l.before l.now) (range_with_len 0 l.number));

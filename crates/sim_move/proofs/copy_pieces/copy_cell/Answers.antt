@@ -2,4 +2,4 @@ use Rattle.sim_move.proofs.CopiedPaths
 use Rattle.sim_move.proofs.copy_pieces.copy_cell.Goals as goal
 
 pub returns : goal.returns
-returns g c = Paths.piece c.requires.is_at (Paths.copy_cell _ c.requires.may_go) c.run_piece.ensures
+returns g c = CopiedPaths.piece c.requires.is_at (CopiedPaths.copy_cell _ c.requires.may_go) c.run_piece.ensures

@@ -1,7 +1,7 @@
 use Rattle.trace_dump.proofs.ShownPrograms.{Playing}
 use Rattle.trace_dump.proofs.steps.play.Given as goal
 
--- so many steps were made and shown
+-- a number of steps were made and shown
 abbrev pub invariant-loop-made : goal.invariant-loop-made
 invariant-loop-made g l =
     let state = g.O.Sink.state in

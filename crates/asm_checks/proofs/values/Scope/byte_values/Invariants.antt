@@ -8,7 +8,7 @@ use Rattle.asm_defs.specs.SecondChecks.{byte_values}
 use Rattle.source_defs.specs.Refusals.{prepended}
 use Rattle.asm_checks.proofs.values.Scope.byte_values.Given as goal
 
--- the values so far, and those of the operands that are left
+-- the values so far, and of the operands that are left
 abbrev pub invariant-loop-span : goal.invariant-loop-span
 invariant-loop-span l = record {
   inside : OperandsLieInside l.field l.span-iterator;

@@ -3,7 +3,7 @@ use Rattle.asm_defs.specs.SecondChecks.{checked_bytes}
 use Rattle.source_defs.specs.Refusals.{prepended}
 use Rattle.asm_checks.proofs.values.Scope.bytes_of.Given as goal
 
--- the bytes so far, and those of the numbers that are left
+-- the bytes so far, and of the numbers that are left
 abbrev pub invariant-loop-rest : goal.invariant-loop-rest
 invariant-loop-rest l = prepended l.bytes.items (checked_bytes l.rest) ≡ checked_bytes l.numbers
 

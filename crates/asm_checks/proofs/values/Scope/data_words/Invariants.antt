@@ -9,7 +9,7 @@ use Rattle.asm_defs.specs.SecondChecks.{data_values}
 use Rattle.source_defs.specs.Refusals.{prepended}
 use Rattle.asm_checks.proofs.values.Scope.data_words.Given as goal
 
--- the words so far, and those of the operands that are left
+-- the words so far, and of the operands that are left
 abbrev pub invariant-loop-span : goal.invariant-loop-span
 invariant-loop-span l = record {
   inside : OperandsLieInside l.field l.span-iterator;

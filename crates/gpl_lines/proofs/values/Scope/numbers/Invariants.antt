@@ -8,7 +8,7 @@ use Rattle.gpl_source_defs.specs.Locations.{address_of}
 use Rattle.gpl_source_defs.specs.Values.{numbers}
 use Rattle.gpl_lines.proofs.values.Scope.numbers.Given as goal
 
--- the numbers so far, and those of the operands that are left
+-- the numbers so far, and of the operands that are left
 abbrev pub invariant-loop-span : goal.invariant-loop-span
 invariant-loop-span l = record {
   inside : OperandsLieInside l.field l.span-iterator;
