@@ -23,6 +23,9 @@ pub(crate) const KEPT_BYTES: usize = 8;
 const LENGTH_AT: usize = 7;
 
 /// A name: one to six printed characters other than the space, from >21 to >7E.
+///
+/// Names are compared as one number of their eight bytes, the first highest. No byte of a name is 0, so the zeros after
+/// it stand below all others, and the numbers are ordered as the names.
 #[derive(Clone, Copy, Debug)]
 pub struct Name {
     // The bytes of the name, then zeros, and in the last byte how many the name has.

@@ -232,7 +232,8 @@ impl<W: Write + Drop> Sink for StdSink<W> {
     }
 }
 
-/// Writes all of some bytes to a writer. A write that was interrupted is made again.
+/// Writes all of some bytes to a writer. A write that was interrupted is made again. It is a loop over `write`, since
+/// the contract of `write_all` says nothing of what was written before an error.
 fn write_whole<W: Write>(writer: &mut W, bytes: &[u8]) -> Result<(), Failed>
     ensures bytes { OnOk result (Appends (W.contents writer.old) (W.contents writer.new) bytes.now) }
     ensures front { OnErr result (AppendsPrefix (W.contents writer.old) (W.contents writer.new) bytes.now) }

@@ -78,5 +78,5 @@ fn operation_in(mut rows: &[(&str, u8, u8, GplOperation)], code: u8) -> Option<G
 fn has_code(first: u8, count: u8, code: u8) -> bool
     ensures { result ≡ (nat_le first code && nat_lt code (first + count)) }
 {
-    first <= code && u16::from(code) < u16::from(first) + u16::from(count)
+    u32::from(code).wrapping_sub(u32::from(first)) < u32::from(count)
 }

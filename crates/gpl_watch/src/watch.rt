@@ -17,7 +17,8 @@ use watch_defs::{Found, Item};
 
 /// One to eight items that are watched of a GPL program, and the bytes of their ranges that it has shown.
 ///
-/// Contracts see the list of the items, each with the bytes that are kept of it.
+/// Contracts see the list of the items, each with the bytes that are kept of it. Each item has bytes of its own, also
+/// where ranges overlap, so whether an item holds does not depend on the others.
 #[derive(Drop)]
 pub struct Watch {
     watched: Vec<Watched>,

@@ -8,6 +8,8 @@ use crate::table::Table;
 use asm_text::Name;
 
 /// The words of modules at their addresses, with the names that the modules define and the entry.
+///
+/// The words stand in a table, so that a chain takes the same time for each of its places, and in a list in order.
 #[derive(Debug, Drop)]
 pub struct Linked {
     /// The word at each address that has one.
