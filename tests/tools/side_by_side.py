@@ -1,4 +1,7 @@
-"""Modules of tests that run side by side, each in a process of its own, and what they all say together."""
+"""Modules of tests that run side by side, each in a process of its own, and what they all say together.
+
+These are no workers of one process: tests change signals and the current folder, and one that dies costs no other.
+"""
 import collections
 import concurrent.futures
 import contextlib

@@ -1,4 +1,8 @@
-"""IF, ELSE and ENDIF: which lines are left out."""
+"""IF, ELSE and ENDIF: which lines are left out.
+
+A name without a value is refused in IF: one that is misspelled would never hold, without a sign. The place of a label is
+not known here.
+"""
 from expanding.lines import operation_of
 
 IFS = ('IF', 'IFDEF')

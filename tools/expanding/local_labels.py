@@ -19,7 +19,8 @@ LONGEST = 6
 
 
 class Scope:
-    """What local labels belong to: the label before them, or the use of a macro; by its name."""
+    """What local labels belong to: the label before them, or the use of a macro; by its name. A line with EQU begins none,
+    nor does a label in a macro."""
     __slots__ = ('name', 'found')
 
     def __init__(self, name):

@@ -1,4 +1,7 @@
-"""The command line of a script: its words, its help, its errors and its status."""
+"""The command line of a script: its words, its help, its errors and its status.
+
+All scripts begin with `python3 -E`: PYTHONPATH and PYTHONSAFEPATH would change where their modules are found.
+"""
 import argparse
 import io
 import os

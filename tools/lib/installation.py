@@ -81,6 +81,7 @@ class Installation:
 
     def write_list(self, *all_entries):
         """Writes the list, with all of these entries."""
+        # as a new file in its place: an upgrade doubles the list, so a full disk meets it before any other file
         rows = {f'{FOLDER}\t\t{folder}\n' for folder in self.folders}
         rows |= {f'{kind}\t{mark}\t{path}\n' for entries in all_entries
                  for path, marks in entries.items() for kind, mark in marks}

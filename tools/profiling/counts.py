@@ -10,7 +10,8 @@ import typing
 from expanding.lines import operation_of
 from lib.languages import ASSEMBLER, GPL, OPERATIONS
 
-# the instructions that go on at their target or after themselves, and those that go on at one of several addresses
+# The instructions that go on at their target or after themselves, and those that go on at one of several addresses. Ways
+# are counted by where they led and not by COND; a branch to the next instruction has none.
 BRANCHES = {GPL: {'BR', 'BS'}}
 CASES = {GPL: {'CASE', 'DCASE'}}
 CALLS = {GPL: {'CALL'}, ASSEMBLER: {'BL', 'BLWP', 'XOP'}}

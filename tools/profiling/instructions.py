@@ -1,6 +1,7 @@
 """How many instructions of the processor each step of a GPL program takes, as `gcounts` of ti_debug counts them.
 
-Its lines are taken beside the steps of `gsteps`, one after the other, and must show the same steps.
+Its lines are taken beside the steps of `gsteps`, one after the other, and must show the same steps. A fixed price for
+each kind of step would be wrong by an instruction for some kinds.
 """
 import re
 import typing

@@ -1,4 +1,7 @@
-"""Changes of a refused line whose note leaves one certain way to write it."""
+"""Changes of a refused line whose note leaves one certain way to write it.
+
+A byte that is too large is not made a word, since a word changes two cells.
+"""
 import re
 
 from expanding.lines import are_cut_short, parts_of

@@ -1,5 +1,9 @@
 """The source that a case is run from: the lines under test as they are, and lines in a GROM without bytes that set the
-state and begin the routine. They have no names, so none can clash with those of the source."""
+state and begin the routine. They have no names, so none can clash with those of the source.
+
+Video memory after the screen stays 0, since a fill of 16 KiB takes longer than most routines. A source with bytes in
+each GROM leaves no room for these lines, and is refused.
+"""
 import re
 import typing
 

@@ -1,4 +1,8 @@
-"""What a case changed beside what it may change."""
+"""What a case changed beside what it may change.
+
+Before and after are compared, not writes, so a routine may use a cell that it restores. The status is left out, since
+nearly every operation sets it.
+"""
 from stepping.places import CELLS
 from testing.checks import Fault
 from testing.places import STATUS, Row

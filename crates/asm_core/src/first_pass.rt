@@ -1,4 +1,7 @@
 //! The first pass over a line: what it comes to by the names that are known.
+//!
+//! These are the names of the lines before, so a line that uses its own label (`LOOP JMP LOOP`) is open, and `JMP $` is
+//! not. Values and their ranges come before room, so a line without room is kept while a value of it is open.
 
 ghost use Rattle.std.specs.Prelude.{◌≡◌, ◌≤◌, ◌+◌, IfOk, not, IsTrue};
 ghost use Rattle.asm_defs.specs.Memory as memory;

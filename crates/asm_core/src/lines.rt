@@ -13,7 +13,8 @@ use std::alloc::Global;
 /// An assembler source, line by line. What a line places is placed when it is taken; a line is kept only where a value
 /// of it is still open, and zeros hold its places.
 ///
-/// Contracts see it by the lines that it has taken (`HasAccepted`).
+/// Contracts see it by the lines that it has taken (`HasAccepted`). If memory runs out the builder is as before, but
+/// the tables of its two parts may be there: the first line makes them, also if it is a comment.
 #[derive(Drop)]
 pub struct AsmLines {
     pub(crate) alloc: Global,

@@ -40,6 +40,7 @@ fn second_checks(scope: &Scope<'_>, skeleton: &Skeleton) -> Result<Placed, FormE
 
 /// How many bytes the words of an instruction line take: 2, 4 or 6. The fields are those of the line. It never wants
 /// memory.
+/// The allocator is there so that both checks are called alike.
 ///
 /// # Errors
 /// The first checks: `UnknownOperation`, then `OperandCount`, then `BadOperand` for the first operand that is empty or

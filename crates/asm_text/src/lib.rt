@@ -1,4 +1,7 @@
 //! Source text: its lines, the fields of a line, names, and the tokens and values of expressions.
+//!
+//! `Lines` and `Fields` are in modules of other names than `lines` and `fields`, since `rt` refuses two items of one
+//! module whose names differ in case alone.
 #![tactic(auto)]
 
 mod characters;

@@ -1,4 +1,7 @@
 //! A source and a sink over the readers and writers of std.
+//!
+//! A stream that hides its bytes at first shows none for good (`Snapshot`), since the contracts of std let a hidden
+//! stream become a shown one with any bytes.
 
 ghost use Rattle.std.specs.Prelude.{◌≡◌, ◌<◌, ◌≤◌, length, take, IfOk, OnOk, OnErr};
 ghost use Rattle.base_defs.specs.Counts.{saturating_sum, Rose};
@@ -169,6 +172,9 @@ impl<W: Write + Drop> StdSink<W> {
 impl<W: Write + Drop> StdSink<BufWriter<W>> {
     /// Writes the buffer out and takes it apart: whether all of it was written, and the sink over the writer alone. A
     /// rest that was not written is a fault: the count of faults rises by one.
+    ///
+    /// The buffer is flushed here, since the drop of a `BufWriter` flushes without a clause. After a flush that failed
+    /// nothing more is tried.
     pub fn unbuffered(self) -> (bool, StdSink<W>)
         ensures { Unbuffered self result.1 result.0 }
     {

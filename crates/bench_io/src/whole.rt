@@ -78,7 +78,8 @@ pub fn read_all<S: Source>(
     }
 }
 
-/// One call of `take`.
+/// One call of `take`. It is a function of its own, so that its contract says of one call what the contract of
+/// `read_all` says of all: a body that makes a failed call again is refused here.
 #[tactic(auto, using(crate::proofs::TakeCalls::took_once, crate::proofs::TakeCalls::failed_once))]
 fn take_once<S: Source>(source: &mut S, buffer: &mut [u8]) -> Result<usize, Failed>
     requires { 0 < length buffer.old }

@@ -50,7 +50,9 @@ impl Copying {
         copying
     }
 
-    /// Takes a line of a file, or of the source itself, that stands for itself, and notes its place.
+    /// Takes a line of a file, or of the source itself, that stands for itself, and notes its place. The error is the
+    /// cause alone, since `CopyError` has room for a file's name and is moved at each call; the place is added where a
+    /// line is refused.
     #[tactic(auto, using(crate::proofs::CountLaws::can_count))]
     pub(crate) fn take(
         &mut self,

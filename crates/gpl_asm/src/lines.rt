@@ -15,6 +15,7 @@ use std::alloc::Global;
 /// value of it is still open.
 ///
 /// Contracts see it by the lines that it has taken (`HasAccepted`).
+/// That what waits has room, whatever names come, is a ghost field, so `finish` asks nothing of its callers.
 #[derive(Drop)]
 pub struct GplLines {
     pub(crate) alloc: Global,

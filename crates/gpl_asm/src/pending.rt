@@ -1,4 +1,7 @@
 //! Lines that wait for the second pass.
+//!
+//! A line that is refused waits too, and so do the lines after it: which is refused first is known when all are placed
+//! in their order.
 
 use gpl_lines::Outcome;
 use gpl_source_defs::{GplCause, Location};

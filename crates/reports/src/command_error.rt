@@ -22,7 +22,8 @@ use std::alloc::{AllocError, AllocFailed};
 /// Why nothing is reported on standard output.
 #[derive(Drop)]
 pub enum CommandError {
-    /// An input or a file is refused, which standard error reports by this line.
+    /// An input or a file is refused, which standard error reports by this line. It is the line and not the cause,
+    /// since the cause of a link may hold a `Name`, which the definitions do not have.
     Refused(Line),
     /// A fault, whose line standard error gets.
     Fault(Fault),

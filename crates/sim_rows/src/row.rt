@@ -32,6 +32,7 @@ pub fn ask_stored<L: Ledger>(machine: &mut Machine, steps: &mut Steps<L>)
 }
 
 /// The same piece of MUL and DIV, whose destination has twice the width.
+/// Register 3 has twice the width while the destination is looked for, and the width after.
 pub fn ask_wide<L: Ledger>(machine: &mut Machine, steps: &mut Steps<L>)
     requires { IsAt machine.old address.WIDE }
     ensures { Exits machine.old machine.new steps.old steps.new (piece.ask_wide (view machine.old)) }

@@ -1,4 +1,7 @@
 //! Operands: where they stand, what they are, and the growth of a register.
+//!
+//! Nothing is kept of a register before it grows: its old value is the operand's address, which is decoded again where
+//! the instruction stops.
 
 ghost use Rattle.std.specs.Prelude.{◌≡◌, ◌<◌, IfOk, IsOk, OnErr, Some, IsTrue, IsFalse};
 ghost use Rattle.tms_defs.specs.Flags.{Word, modulus, byte_or_word};

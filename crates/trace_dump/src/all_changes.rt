@@ -24,6 +24,8 @@ pub struct AllChanges {
 
 impl AllChanges {
     /// An empty line. The memory for the longest is taken here, and none later.
+    /// A line is put together and not written in pieces: a write that fails would leave a part of a step, and a step
+    /// would be several calls. Commas stand between changes, so that the text says where one ends.
     ///
     /// # Errors
     /// `AllocError` means out of memory.

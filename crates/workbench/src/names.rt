@@ -8,7 +8,8 @@ use std::marker::Model;
 /// The most files that `link` takes.
 pub(crate) const MOST_FILES: usize = 16;
 
-/// One to sixteen names of files. Contracts see their list.
+/// One to sixteen names of files. Contracts see their list. It is no `ArrayVec`, which wants a default value, and takes
+/// no memory, so wrong words are never answered by status 5.
 #[derive(Drop)]
 pub(crate) struct FileNames {
     names: [FileName; MOST_FILES],

@@ -21,6 +21,9 @@ use std::io::{BufWriter, Read, Write};
 ///
 /// The laws say in `streams` what this comes to: if the streams show their bytes and the status is 0, 1 or 7, the
 /// writers hold what they held and then the one report on the bytes that the reader had left, and nothing else.
+///
+/// No writer has to be `Copy`, and the runtime is not handed over: with a copied handle a body could write beside the
+/// run.
 #[tactic(auto, using(reports::proofs::Streams::run_ends))]
 pub fn bench_over<F: Shelf, R: Read + Drop, W: Write + Drop, E: Write + Drop>(
     alloc: Global,

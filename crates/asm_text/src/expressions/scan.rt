@@ -31,6 +31,7 @@ pub fn tokens(alloc: Global, text: &[u8]) -> Result<Vec<Token>, ExprError>
     while start < text.len() {
         let token = token_at(text, start)?;
         start = token.span.end;
+        // not `push`, which hands the token back where memory runs out: the prover cannot follow that
         if found.extend_from_slice(&[token]).is_err() {
             return Err(ExprError::Memory);
         }
