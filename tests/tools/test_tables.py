@@ -55,11 +55,11 @@ class Tables(Calling):
         tools = {path.name for path in TOOLS.iterdir() if path.is_file()}
         named = {(tool, option) for path in DOCUMENTS
                  for tool, words in re.findall(r'tools/(\w+)([^`|\n;&]*)', read_text(path)) if tool in tools
-                 for option in re.findall(r' (--[a-z]+)', words)}
+                 for option in re.findall(r' (--[a-z-]+)', words)}
         self.assertGreater(len(named), 15)
         for tool in sorted({tool for tool, _ in named}):
-            text = self.call(tool, '--help').stdout.decode()
-            self.assertEqual([option for it, option in sorted(named) if it == tool and option not in text], [], tool)
+            known = set(re.findall(r'--[a-z-]+', self.call(tool, '--help').stdout.decode()))
+            self.assertEqual([option for it, option in sorted(named) if it == tool and option not in known], [], tool)
 
 
 if __name__ == '__main__':
