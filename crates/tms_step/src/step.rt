@@ -52,7 +52,7 @@ impl Cpu {
         }
     }
 
-    /// An instruction is executed; the program counter comes after its first word (TMS9900 data manual,
+    /// An instruction is executed; the program counter is after its first word (TMS9900 data manual,
     /// "Instructions").
     #[inline(always)]
     pub(crate) fn executed(&mut self, instr: Instr) -> Result<(), PortStop>
