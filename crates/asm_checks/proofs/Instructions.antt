@@ -1,4 +1,4 @@
--- What an instruction comes to, by what the first checks left of it.
+-- The outcome of an instruction, by what the first checks left of it.
 use Rattle.std.proofs.Common.{◌≡◌, ℕ, List, sym, ap, subst}
 use Rattle.std.specs.Prelude.{Option, Result}
 use Rattle.source_defs.specs.Refusals.{◌>>=◌}

@@ -1,4 +1,4 @@
--- What a line of the code comes to, as the definitions have it.
+-- The outcome of a line of the code, as the definitions have it.
 use Rattle.std.specs.Prelude.{ℕ, List, Option, Some, None, Result, Ok, Err}
 use Rattle.source_defs.specs.Refusals.{◌>>=◌}
 use Rattle.expression_defs.specs.Expression.{Value, known_value}

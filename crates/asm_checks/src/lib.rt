@@ -1,4 +1,4 @@
-//! The checks of a line of an assembler source: what it says, where it leads, and what it comes to.
+//! The checks of a line of an assembler source: what it says, where it leads, and its outcome.
 #![tactic(auto)]
 
 mod directives;

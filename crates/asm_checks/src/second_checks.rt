@@ -31,7 +31,7 @@ use asm_text::{ExprError, Name, Symbols, Value, operands, quoted_characters};
 use instruction_defs::FormError;
 use object_defs::Spot;
 
-/// What a line comes to.
+/// The outcome of a line.
 #[derive(Drop)]
 pub enum Outcome {
     /// Nothing that is placed.
@@ -47,7 +47,7 @@ pub enum Outcome {
 }
 
 impl Outcome {
-    /// Whether a line that comes to this stands as it is, whatever names are still to come.
+    /// Whether this outcome is final, whatever names are still to come.
     pub fn is_resolved(&self) -> bool
         ensures { result ≡ growing.is_resolved (model_of_outcome self.now) }
     {
@@ -61,7 +61,7 @@ impl Outcome {
 }
 
 impl Scope<'_> {
-    /// What a line comes to, of which the first checks found what it says.
+    /// The outcome of a line, of which the first checks found what it says.
     #[tactic(auto, using(crate::proofs::Failures::expr_fails), unfolding(asm_defs::specs::SecondChecks::outcome))]
     pub fn outcome(&self, statement: &Statement<'_>) -> Result<Outcome, Failure>
         requires skeleton { KeepsSkeleton statement.now }

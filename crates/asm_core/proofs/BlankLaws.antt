@@ -39,7 +39,7 @@ nothing_parsed before text none here =
     let inside : is_in_part (after before.location 0) ≡ true = ap is_in_part (here_again before.location) ∙ here in
     rw (none, inside) refl
 
--- a line that comes to nothing covers no place
+-- a line without an outcome covers no place
 module _ (at : Location) where
   abbrev pub nothing_placed : AssembledLine
   nothing_placed = record { at = at; outcome = second.Nothing }

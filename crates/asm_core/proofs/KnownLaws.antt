@@ -30,7 +30,7 @@ pub resolved_more : (earlier founds : List AssembledLine) (found : AssembledLine
 resolved_more earlier [] found all more = (more, tt)
 resolved_more earlier (first ∷ founds) found all more = (all.0, resolved_more (first ∷ earlier) founds found all.1 more)
 
--- one line more, which comes to something, or waits
+-- one line more, which has an outcome, or waits
 pub known_more : (known : Names) (before order : List Line) (founds : List AssembledLine) (waiting : List Pending) (line : Line) (found : AssembledLine)
     → AreKnown known before order founds waiting → IsKnown known (onto before order) line found
     → AreKnown known before (order ++ line ∷ []) (founds ++ found ∷ []) waiting

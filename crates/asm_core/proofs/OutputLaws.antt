@@ -1,4 +1,4 @@
--- A line that comes to the place that was held for it.
+-- A line that is put into the place that was held for it.
 use Rattle.std.proofs.Common.{◌≡◌, ◌+◌, ◌≤◌, Bool, true, false, List, [], Some, None, Ok, Err, length, refl, sym, ap, subst, ◌∙◌, arith}
 use Rattle.std.specs.Prelude.{Option, Result, map, OnErr, if◌then◌else◌}
 use Rattle.object_defs.specs.Modules.{Reference}

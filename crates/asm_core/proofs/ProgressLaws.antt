@@ -18,7 +18,7 @@ use Rattle.module_image.proofs.SwapLaws.{places_same, onto_same, resolved_same}
 use Rattle.asm_core.specs.declared.second_pass.Output.{Output}
 use Rattle.asm_core.specs.declared.pending.Pending.{Pending}
 use Rattle.asm_core.specs.Building.{IsOf, AreKnown, refusal_at}
-use Rattle.asm_core.specs.Resolving.{IsOutput, IsResolved, answer_to}
+use Rattle.asm_core.specs.Resolving.{IsOutput, IsResolved, pending_outcome}
 use Rattle.asm_core.specs.Finishing.{RefusesAt, AreResolved}
 use Rattle.asm_core.proofs.KnownLaws.{NextHeld, next_held, none_held}
 use Rattle.asm_core.proofs.ResolveLaws.{assembled_more, assembled_stops, assembled_stopped, answer_is, assemble_by, assemble_filled, fills_place, fills_held}
@@ -113,10 +113,10 @@ module _ (unused : List Reference) (names : Names) (order : List Line) (founds :
             (output_on unused so_far.done next.earlier so_far.left next.later next.found old next.founds next.references next.entry (so_far.output is));
       }
 
-  pub so_far_refused : (failure : Failure) → Fails failure (answer_to names pending)
+  pub so_far_refused : (failure : Failure) → Fails failure (pending_outcome names pending)
       → RefusesAt (refusal_at pending.number failure) (assembled_lines (assembled_line names) (onto [] order))
   so_far_refused failure fails =
-      refuses_by failure pending.number (answer_to names pending) (assembled_lines (assembled_line names) (onto [] order)) fails
+      refuses_by failure pending.number (pending_outcome names pending) (assembled_lines (assembled_line names) (onto [] order)) fails
       (λ cause e.
       ap (assembled_lines (assembled_line names)) (so_far.all ∙ next.all)
       ∙ (assembled_stopped names next.left (next.line ∷ next.lines) _

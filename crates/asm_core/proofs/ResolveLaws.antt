@@ -24,7 +24,7 @@ use Rattle.asm_checks.specs.declared.failure.Failure.TheVariants.{Refused, Memor
 use Rattle.module_image.specs.ResolvedLines.{AreAllResolved, FillsPlace, SamePlaces}
 use Rattle.module_image.proofs.SwapLaws.{room_same, room_filled}
 use Rattle.asm_core.specs.Building.{IsOf, refusal_at}
-use Rattle.asm_core.specs.Resolving.{IsOutput, IsResolved, answer_to}
+use Rattle.asm_core.specs.Resolving.{IsOutput, IsResolved, pending_outcome}
 use Rattle.asm_core.specs.Finishing.{RefusesAt}
 use Rattle.asm_core.specs.declared.second_pass.Output.{Output}
 use Rattle.asm_core.specs.declared.error.AsmError.{AsmError}
@@ -47,7 +47,7 @@ module _ (known : Names) where
 
   -- what the second checks say of a line that waits
   pub answer_is : (before : List Line) (line : Line) (pending : Pending) → IsOf before line pending
-      → answer_to known pending ≡ outcome (look_up known) (place before line) line.statement
+      → pending_outcome known pending ≡ outcome (look_up known) (place before line) line.statement
   answer_is before line pending is =
       rw (is.parsed, is.at) refl
 

@@ -20,7 +20,7 @@ use Rattle.asm_core.specs.declared.second_pass.Output.{Output}
 use Rattle.asm_core.specs.declared.pending.Pending.{Pending}
 use Rattle.asm_core.specs.declared.pending.Refused.{Refused}
 use Rattle.asm_core.specs.Building.{Refuses, IsStopped, refusal_at}
-use Rattle.asm_core.specs.Resolving.{IsResolved, answer_to}
+use Rattle.asm_core.specs.Resolving.{IsResolved, pending_outcome}
 use Rattle.asm_core.specs.Finishing.{RefusesAt}
 use Rattle.asm_core.proofs.ResolveLaws.{assembled_stops, assembled_stopped, answer_is, assemble_by, assemble_same, assemble_filled, refuses_by, real}
 
@@ -39,11 +39,11 @@ module _ (known : Names) (lines : List Line) (waiting : List Pending) (refused :
       ∙ assembled_stopped known is.later (is.line ∷ before) _ (assembled_stops known before is.line done cause so_far e)
 
   -- a value of the line is refused
-  pub value_refused : (pending : Pending) → refused.waiting ≡ Some pending → (failure : Failure) → Fails failure (answer_to known pending)
+  pub value_refused : (pending : Pending) → refused.waiting ≡ Some pending → (failure : Failure) → Fails failure (pending_outcome known pending)
       → RefusesAt (refusal_at pending.number failure) (assembled_lines (assembled_line known) lines)
   value_refused pending some failure fails =
       let refuses = subst (Refuses known before (onto [] is.founds) is.line refused.cause) some is.refuses in
-      refuses_by failure pending.number (answer_to known pending) (assembled_lines (assembled_line known) lines) fails
+      refuses_by failure pending.number (pending_outcome known pending) (assembled_lines (assembled_line known) lines) fails
       (λ cause e.
       refused_by cause (assemble_by known before is.line done (Err cause) (sym (answer_is known before is.line pending refuses.0) ∙ e))
       ∙ ap (λ number. Err (record { line = number; cause = cause })) (sym refuses.0.number))

@@ -126,7 +126,7 @@ module _ (known more : Names) (grows : Grows known more) (lines : List Line) (li
       by_going : IsGoing (line ∷ lines) more new.image new.waiting.items → new.refused ≡ old.refused → Worked
       by_going is same = subst (λ (refused : Option Refused). IsWorked (line ∷ lines) more new.image new.waiting.items refused) (sym (same ∙ none)) is
 
-      -- a line that comes to something
+      -- a line that has an outcome
       module _ (statement : Statement) (is_statement : statement ≡ line.statement) (given : List Content) (comes : ComesTo known at statement given)
           (is_waiting : old.waiting.items ≡ waiting) where
         abbrev found : AssembledLine

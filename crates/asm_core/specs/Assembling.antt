@@ -20,7 +20,7 @@ pub record HasRoom (at : Location) (text : List ℕ) (statement : Statement) : T
   pub room : IsTrue (has_room at text)
   pub fits : at.number + declared_size statement ≤ 65536
 
--- the bytes of what a line comes to at a place; those in the part of dummy lines do not count
+-- the bytes of the outcome of a line at a place; those in the part of dummy lines do not count
 pub record GivesBytes (at : Location) (outcome : Outcome) (given : List Content) : Type 0 where
   pub bytes : IsTrue (is_placed_in at.part) → given ≡ contents_by at [] outcome
   pub within : at.number + length given ≤ 65536
@@ -31,7 +31,7 @@ pub record IsPending (count : ℕ) (place : Location) (line : List ℕ) (pending
   pub at : pending.at ≡ place
   pub text : pending.text.items ≡ line
 
--- it comes to something that stands as it is
+-- it has an outcome that is final
 pub record ComesTo (known : Names) (at : Location) (statement : Statement) (given : List Content) : Type 0 where
   pub found : Outcome
   pub comes : outcome (look_up known) at statement ≡ Ok found

@@ -36,7 +36,7 @@ pub record IsOf (before : List Line) (line : Line) (pending : Pending) : Type 0 
   pub at : pending.at ≡ place before line
   pub parsed : parse_line pending.text.items ≡ Ok line.statement
 
--- a line comes to something by the names that are known
+-- a line has an outcome by the names that are known
 pub record IsKnown (known : Names) (before : List Line) (line : Line) (found : AssembledLine) : Type 0 where
   pub at : found.at ≡ place before line
   pub comes : outcome (look_up known) (place before line) line.statement ≡ Ok found.outcome

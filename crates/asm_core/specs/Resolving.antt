@@ -29,7 +29,7 @@ pub record IsOutput (unused : List Reference) (done others : List AssembledLine)
   pub bytes : HoldsBytes unused done others output
   pub entry : output.entry ≡ entry done
 
--- a line comes to the place that was held for it
+-- a line is put into the place that was held for it
 abbrev pub FillsBytes : List Reference → Location → Outcome → Output → Output → Type 0
 FillsBytes unused at found old new =
     (done others : List AssembledLine) (held : AssembledLine) → AreAllResolved (held ∷ done) others
@@ -43,7 +43,7 @@ Fills unused at found old new =
     → FillsPlace held (record { at = at; outcome = found })
     → IsOutput unused done (held ∷ others) old → IsOutput unused (record { at = at; outcome = found } ∷ done) others new
 
--- what a line that waited comes to
+-- the outcome of a line that waited
 pub record IsResolved (unused : List Reference) (known : Names) (pending : Pending) (old new : Output) : Type 0 where
   pub statement : Statement
   pub found : Outcome
@@ -53,11 +53,11 @@ pub record IsResolved (unused : List Reference) (known : Names) (pending : Pendi
   pub fills : Fills unused pending.at found old new
 
 -- or why it is refused
-abbrev pub answer_to : Names → Pending → Result Outcome AsmCause
-answer_to known pending = do
+abbrev pub pending_outcome : Names → Pending → Result Outcome AsmCause
+pending_outcome known pending = do
   statement ← parse_line pending.text.items
   outcome (look_up known) pending.at statement
 
 abbrev pub Resolves : {A : Type 0} → List Reference → Names → Pending → Result A Failure → Output → Output → Type 0
 Resolves unused known pending (Ok _) old new = IsResolved unused known pending old new
-Resolves unused known pending (Err failure) old new = Fails failure (answer_to known pending)
+Resolves unused known pending (Err failure) old new = Fails failure (pending_outcome known pending)

@@ -1,4 +1,4 @@
-//! The bytes of what a line comes to.
+//! The bytes of the outcome of a line.
 
 ghost use Rattle.std.specs.Prelude.{◌≡◌, ◌≤◌, ◌+◌, ◌*◌, map, length, IfOk, OnOk, IsTrue};
 ghost use Rattle.object_tags.specs.Seen.{model_of_ref};

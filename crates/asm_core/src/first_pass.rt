@@ -1,4 +1,4 @@
-//! The first pass over a line: what it comes to by the names that are known.
+//! The first pass over a line: its outcome by the names that are known.
 //!
 //! These are the names of the lines before, so a line that uses its own label (`LOOP JMP LOOP`) is open, and `JMP $` is
 //! not. Values and their ranges come before room, so a line without room is kept while a value of it is open.
@@ -115,7 +115,7 @@ impl FirstPass<'_> {
         vec![in self.alloc; Content::Byte(0); declared_size(&parsed.statement) as usize]
     }
 
-    /// The bytes of what a line comes to. There are none in the part of dummy lines.
+    /// The bytes of the outcome of a line. There are none in the part of dummy lines.
     fn bytes_of(&self, outcome: &Outcome) -> Result<Vec<Content>, AllocError>
         requires { self.now.at.number + memory.bytes_in (model_of_outcome outcome.now) ≤ 65536 }
         ensures { IfOk result (λ bytes. GivesBytes self.now.at (model_of_outcome outcome.now) bytes.items) }

@@ -29,7 +29,7 @@ pub(crate) struct Output {
 }
 
 impl Output {
-    /// Resolves a line that waits: puts what it comes to by all names into its places, or says why the second checks
+    /// Resolves a line that waits: puts its outcome by all names into its places, or says why the second checks
     /// refuse it.
     pub(crate) fn resolve(&mut self, symbols: &Symbols, pending: &Pending) -> Result<(), Failure>
         ensures { (unused : List Reference) → Resolves unused symbols.now pending.now result self.old self.new }
@@ -50,7 +50,7 @@ impl Output {
         Ok(())
     }
 
-    /// Puts what a line comes to into its places.
+    /// Puts the outcome of a line into its places.
     fn fill(&mut self, at: Location, outcome: &Outcome) -> Result<(), AllocError>
         requires { at.number + memory.bytes_in (model_of_outcome outcome.now) ≤ 65536 }
         ensures { OnOk result

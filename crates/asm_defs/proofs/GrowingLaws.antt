@@ -1,4 +1,4 @@
--- A line whose names are known comes to what it comes to when more are known.
+-- A line whose names are known has the same outcome when more are known.
 use Rattle.std.proofs.Common.{◌≡◌, ℕ, List, [], ◌∷◌, Some, Ok, Err, ap}
 use Rattle.std.specs.Prelude.{Option, Result}
 use Rattle.expression_defs.specs.declared.causes.ExprError.{ExprError}

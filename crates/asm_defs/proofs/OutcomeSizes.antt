@@ -1,4 +1,4 @@
--- What a line comes to fills the size that it says.
+-- The outcome of a line fills the size that the line says.
 use Rattle.std.proofs.Common.{◌≡◌, ℕ, ◌*◌, List, [], ◌∷◌, Some, Ok, Err, length, refl, ◌∙◌, arith}
 use Rattle.std.specs.Prelude.{Option, Result, ⊤}
 use Rattle.source_defs.specs.Refusals.{◌>>=◌}

@@ -88,7 +88,7 @@ pub record LocationChange : Type 0 where
 abbrev pub stays_at : Location → ℕ → LocationChange
 stays_at here size = record { origin = None; gap = 0; size = size; label = value_of here }
 
--- Editor/Assembler manual, "Word Boundary": an instruction and DATA are at an even place, and so does their label.
+-- Editor/Assembler manual, "Word Boundary": an instruction and DATA are at an even place, and so is their label.
 abbrev pub stays_even : Location → ℕ → LocationChange
 stays_even here size =
     record { origin = None; gap = to_even here; size = size; label = value_of (after here (to_even here)) }
@@ -254,6 +254,6 @@ line_of number checked =
       last = is_end checked.statement;
     }
 
--- what a line comes to after others
+-- the outcome of a line after others
 abbrev pub check : List Line → ℕ → List ℕ → Result Line AsmCause
 check before number text = checked (known_of before) text >>= λ found. Ok (line_of number found)

@@ -29,7 +29,7 @@ is_own (Absolute number) = true
 is_own (Relocatable number) = true
 is_own (External name) = false
 
--- What a line comes to that stands as it is: it uses no name that others define, and it is not the entry.
+-- The outcome of a line that is final: it uses no name that others define, and it is not the entry.
 abbrev pub is_resolved : Outcome → Bool
 is_resolved Nothing = true
 is_resolved (Words words) = list_all is_own words

@@ -16,7 +16,7 @@ use Rattle.asm_defs.specs.SecondChecks.{Outcome, Words, Bytes}
 use Rattle.base_defs.specs.Counts.{one_if}
 use Rattle.source_defs.specs.Names.{same_text}
 
--- a line by its place and what it came to
+-- a line by its place and its outcome
 pub record AssembledLine : Type 0 where
   pub at : Location
   pub outcome : Outcome

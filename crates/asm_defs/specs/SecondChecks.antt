@@ -99,7 +99,7 @@ module _ (look : List ℕ → Option Value) (at : Location) where
     words ← as_form (first_checks operation field >>= λ skeleton. second_checks look (value_of at) skeleton)
     Ok (Words words)
 
-  -- what a line comes to, or why the second checks refuse it
+  -- the outcome of a line, or why the second checks refuse it
   unfoldable pub outcome : Statement → Result Outcome AsmCause
   outcome (Instruction size operation field) = instruction_outcome operation field
   outcome (Data texts) = as_expr (data_values at texts) >>= λ words. Ok (Words words)

@@ -14,11 +14,11 @@ use Rattle.shelf_defs.specs.Copied.{copied_by}
 use Rattle.shelf_defs.specs.Assembly.{module_by, layout_copied}
 use Rattle.asm_list_defs.specs.Listed.{Shown, Listing, placed_at, paired, listed_names, listing}
 
--- What is shown of a line that came to something. Profile: a line that sets a location is shown at that.
+-- What is shown of a line that has an outcome. Profile: a line that sets a location is shown at that.
 abbrev pub shown_assembled : Line → AssembledLine → Shown
 shown_assembled line found = record { at = set_or line.origin found.at; outcome = placed_at found.at found.outcome }
 
--- lines and what they came to, in the order of the lines
+-- lines and their outcomes, in the order of the lines
 abbrev pub shown_in_order : List Line → List AssembledLine → List Shown
 shown_in_order [] others = []
 shown_in_order (line ∷ before) [] = []
@@ -31,7 +31,7 @@ AreAtTheirPlaces references found =
     → IsTrue (is_placed_in line.at.part) → k < bytes_in line.outcome
     → content_at references found line.at.part (line.at.number + k) ≡ slice_get (contents references before line) k
 
--- A source that is accepted: its module is made of its lines and of what they come to, and so is its listing.
+-- A source that is accepted: its module is made of its lines and of their outcomes, and so is its listing.
 pub record IsListed (module_ : Module) (contents : Contents) (source : List ℕ) (found : Listing) : Type 0 where
   pub lines : List Line
   pub line_layout : layout_copied (copied_by contents source) ≡ Ok lines

@@ -4,7 +4,7 @@ use Rattle.std.proofs.Common.{ℕ, ◌≤◌, ◌∙◌, Some, None, Result, Ok,
 use Rattle.std.specs.Prelude.{nat_lt, IsTrue}
 use Rattle.std.proofs.lemmas.Bool.Decides.{nat_tests}
 use Rattle.bench_io.specs.Stream.{SourceState}
-use Rattle.bench_io.specs.ReadAll.{Took, GaveUp}
+use Rattle.bench_io.specs.ReadAll.{Consumed, GaveUp}
 use Rattle.bench_io.specs.declared.whole.ReadError.{ReadError}
 use Rattle.bench_io.specs.declared.whole.ReadError.TheVariants as error
 use Rattle.report_defs.specs.declared.fault.Fault.TheVariants as fault
@@ -24,15 +24,15 @@ pub reads_whole : (reading : Bool) (before after : SourceState) (bytes : List �
 reads_whole true before after bytes whole =
     let within = whole.within in
     let below : nat_lt spec.largest_input (length bytes) ≡ false = grind (arith, nat_tests) in
-    record { took = rw below whole.took; within = omega arith; whole = λ le. whole.end }
+    record { consumed = rw below whole.consumed; within = omega arith; whole = λ le. whole.end }
 reads_whole false before after bytes nothing = nothing
 
 pub takes_within : (reading : Bool) (before after : SourceState) (bytes : List ℕ) → TakesWhole reading before after bytes → length bytes ≤ spec.largest_input
 takes_within true before after bytes whole = whole.within
 takes_within false before after bytes nothing = rw nothing.1 (omega arith)
 
-took_nothing : (input : SourceState) → Took input input [] 0
-took_nothing input = search rules
+consumed_nothing : (input : SourceState) → Consumed input input [] 0
+consumed_nothing input = search rules
 
 -- no report of a command has the status of words that say no command
 abbrev pub HasNoUsage : {C : Type 0} → InputCommands C → Type 0
@@ -58,16 +58,16 @@ module _ {C : Type 0} (p : InputCommands C) (no_usage : HasNoUsage p) (command :
   -- an input that is too large
   reads_too_much : IsTrue (p.reads command) → GaveUp error.TooLarge spec.largest_input input input'
       → Reports p command input input' (spec.Faulty fault.TooLarge)
-  reads_too_much reading (bytes, long, took, most) =
+  reads_too_much reading (bytes, long, consumed, most) =
       let above : nat_lt spec.largest_input (length bytes) ≡ true = grind (arith, nat_tests) in
-      let reads_it : ReadsInput input input' bytes = record { took = rw above took; within = omega arith; whole = λ le. absurd (omega arith) } in
+      let reads_it : ReadsInput input input' bytes = record { consumed = rw above consumed; within = omega arith; whole = λ le. absurd (omega arith) } in
       (bytes, rw reading reads_it, rw above refl)
 
   -- what was taken of an input that is read
   leaves : (bytes : List ℕ) (empty : ℕ) → IsTrue (p.reads command) → length bytes ≤ spec.largest_input → empty ≤ 1
-      → Took input input' bytes empty → Leaves p command input input'
-  leaves bytes empty reading within one took =
-      (record { bytes = bytes; within = within; empty = empty; one = one; took = took }, λ unread. absurd cc)
+      → Consumed input input' bytes empty → Leaves p command input input'
+  leaves bytes empty reading within one consumed =
+      (record { bytes = bytes; within = within; empty = empty; one = one; consumed = consumed }, λ unread. absurd cc)
 
   wrote_none : Leaves p command input input' → o.out' ≡ o.out → o.err' ≡ o.err → WroteNothing (input_program p) command run_of
   wrote_none leaves out err = record { leaves = leaves; out = out; err = err }
@@ -78,21 +78,21 @@ module _ {C : Type 0} (p : InputCommands C) (no_usage : HasNoUsage p) (command :
   wrote_nothing bytes takes out err = wrote_none (by (p.reads command) refl takes) out err
     where
       by : (reading : Bool) → p.reads command ≡ reading → TakesWhole reading input input' bytes → Leaves p command input input'
-      by true reading whole = leaves bytes 1 reading whole.within (omega arith) whole.took
+      by true reading whole = leaves bytes 1 reading whole.within (omega arith) whole.consumed
       by false reading nothing =
-          let took : Took input input' [] 0 = subst (λ (after : SourceState). Took input after [] 0) (sym nothing.0) (took_nothing input) in
-          (record { bytes = []; within = omega arith; empty = 0; one = omega arith; took = took }, λ unread. nothing.0)
+          let consumed : Consumed input input' [] 0 = subst (λ (after : SourceState). Consumed input after [] 0) (sym nothing.0) (consumed_nothing input) in
+          (record { bytes = []; within = omega arith; empty = 0; one = omega arith; consumed = consumed }, λ unread. nothing.0)
 
   -- the input was not read
   pub by_unread : (unread : ReadError) (end : Status) → IsTrue (p.reads command) → GaveUp unread spec.largest_input input input'
       → Ends o (read_answer unread) end → EndsBy (input_program p) run_of end
   by_unread error.TooLarge end reading gave ends = by_report (spec.Faulty fault.TooLarge) end (reads_too_much reading gave) ends
-  by_unread error.Fault end reading (bytes, within, took, rose) (is, out, err) =
+  by_unread error.Fault end reading (bytes, within, consumed, rose) (is, out, err) =
       subst (EndsBy (input_program p) run_of) (sym is)
-      (wrote_none (leaves bytes 1 reading within (omega arith) took) out err, (reading, rose))
-  by_unread error.Memory end reading (bytes, within, took) (is, out, err) =
+      (wrote_none (leaves bytes 1 reading within (omega arith) consumed) out err, (reading, rose))
+  by_unread error.Memory end reading (bytes, within, consumed) (is, out, err) =
       subst (EndsBy (input_program p) run_of) (sym is)
-      (wrote_none (leaves bytes 0 reading within (omega arith) took) out err)
+      (wrote_none (leaves bytes 0 reading within (omega arith) consumed) out err)
 
   -- the input was taken whole
   module _ (bytes : List ℕ) (takes : TakesWhole (p.reads command) input input' bytes) where

@@ -41,10 +41,10 @@ on_all Accepted before after bytes input report shown reading on = left after.le
 
     left : (l : Option (List ℕ)) → after.left ≡ l → OnInput Accepted input report
     left None is =
-        let e : Some input ≡ None = sym shown ∙ (reading.took.gave ∙ ap (option_map (λ rest. bytes ++ rest)) is) in
+        let e : Some input ≡ None = sym shown ∙ (reading.consumed.gave ∙ ap (option_map (λ rest. bytes ++ rest)) is) in
         absurd (cc)
     left (Some rest) is =
-        let e : Some input ≡ Some (bytes ++ rest) = sym shown ∙ (reading.took.gave ∙ ap (option_map (λ rest. bytes ++ rest)) is) in
+        let e : Some input ≡ Some (bytes ++ rest) = sym shown ∙ (reading.consumed.gave ∙ ap (option_map (λ rest. bytes ++ rest)) is) in
         let all : input ≡ bytes ++ rest = cc in
         by rest is all (nat_lt largest_input (length bytes)) refl on
 

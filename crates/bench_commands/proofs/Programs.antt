@@ -42,7 +42,7 @@ ended_bytes : (stop : Option Reason) (last : GplState) (x : MachineState) → En
 ended_bytes None last x matches = (ap (λ (s : GplState). s.cells) matches.shows, ap (λ (s : GplState). s.vdp) matches.shows)
 ended_bytes (Some reason) last x halted = (halted.cells, halted.vdp)
 
--- what a session has come to after a number of steps
+-- the state of a session after a number of steps
 abbrev pub ran_of : ℕ → SessionState → GplRun
 ran_of made t = record { done = made; last = shown_by t.machine.cpu.memory; stop = t.ended }
 

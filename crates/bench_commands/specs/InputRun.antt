@@ -3,14 +3,14 @@ use Rattle.std.specs.Prelude.{◌≡◌, ℕ, ◌+◌, ◌≤◌, nat_lt, Bool, 
 use Rattle.std.specs.Prelude.{List, [], length, Some}
 use Rattle.base_defs.specs.Counts.{Rose}
 use Rattle.bench_io.specs.Stream.{SourceState, IsAtEnd}
-use Rattle.bench_io.specs.ReadAll.{Took, ReadWhole}
+use Rattle.bench_io.specs.ReadAll.{Consumed, ReadWhole}
 use Rattle.report_defs.specs.Report.{Report, largest_input, OnInput}
 use Rattle.reports.specs.Run.{Program}
 
 -- These bytes of the input were taken: all of them, and then the last call gave none; or one more than the most that an
 -- input may have.
 pub record ReadsInput (before after : SourceState) (bytes : List ℕ) : Type 0 where
-  pub took : Took before after bytes (if nat_lt largest_input (length bytes) then 0 else 1)
+  pub consumed : Consumed before after bytes (if nat_lt largest_input (length bytes) then 0 else 1)
   pub within : length bytes ≤ largest_input + 1
   pub whole : length bytes ≤ largest_input → IsAtEnd after.left
 
@@ -28,12 +28,12 @@ TakesWhole reading before after bytes =
     MatchBool reading (ReadWhole largest_input before after bytes) (ReadsNothing before after bytes)
 
 -- no more was taken of the input than an input may have, by calls of which one at most gave no byte
-pub record TookWithin (before after : SourceState) : Type 0 where
+pub record ConsumedWithin (before after : SourceState) : Type 0 where
   pub bytes : List ℕ
   pub within : length bytes ≤ largest_input
   pub empty : ℕ
   pub one : empty ≤ 1
-  pub took : Took before after bytes empty
+  pub consumed : Consumed before after bytes empty
 
 -- The commands C of such a program.
 pub record InputCommands (C : Type 0) : Type 1 where
@@ -58,7 +58,7 @@ Begins p command before after front =
 
 -- and nothing of it by a command that reads none
 abbrev pub Leaves : {C : Type 0} → InputCommands C → C → SourceState → SourceState → Type 0
-Leaves p command before after = TookWithin before after × (IsFalse (p.reads command) → after ≡ before)
+Leaves p command before after = ConsumedWithin before after × (IsFalse (p.reads command) → after ≡ before)
 
 -- a call of the input failed
 abbrev pub Fails : SourceState → SourceState → Type 0

@@ -8,7 +8,7 @@ use Rattle.gpl_source_defs.specs.Programs.{program_of_source}
 use Rattle.bench_io.specs.Written.{Missed}
 use Rattle.interp_defs.specs.Match.{Matches}
 use Rattle.interp_defs.specs.Turns.{Boots}
-use Rattle.interp_defs.specs.Programs.{RunsSteps, most_of_boot}
+use Rattle.interp_defs.specs.Programs.{RunsSteps, bound_of_boot}
 use Rattle.gpl_run.specs.Sessions.{SessionState, gpl_state_of, image_of, entry_of}
 use Rattle.report_defs.specs.declared.command.Command.{Command}
 use Rattle.report_defs.specs.declared.command.Command.TheVariants as asked
@@ -33,7 +33,7 @@ pub record Started (new : MachineState) (session : SessionState) : Type 0 where
   pub machine : IsMachine new
   pub boot : ℕ
   pub boots : Boots boot new session.machine
-  pub within : boot ≤ most_of_boot
+  pub within : boot ≤ bound_of_boot
   pub matches : Matches (start (image_of new) (entry_of new)) session.machine
   pub running : session.ended ≡ None
 

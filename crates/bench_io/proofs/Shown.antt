@@ -10,10 +10,10 @@ use Rattle.bench_io.specs.Shown.{GoesOn, ShowsStream, Unbuffered, shown_since}
 
 pub shown_gave : (first old new : Option (List ℕ)) (bytes : List ℕ) → GoesOn first old → Consumes old new bytes
     → Gave (shown_since first old) (shown_since first new) bytes
-shown_gave None old new bytes on took = refl
-shown_gave (Some x) None new bytes on took = absurd (omega (arith, on))
-shown_gave (Some x) (Some y) None bytes on took = absurd took
-shown_gave (Some x) (Some y) (Some z) bytes on took = ap Some took
+shown_gave None old new bytes on consumed = refl
+shown_gave (Some x) None new bytes on consumed = absurd (omega (arith, on))
+shown_gave (Some x) (Some y) None bytes on consumed = absurd consumed
+shown_gave (Some x) (Some y) (Some z) bytes on consumed = ap Some consumed
 
 pub shown_end : (first now : Option (List ℕ)) → known.IsAtEnd now → IsAtEnd (shown_since first now)
 shown_end None now end = tt

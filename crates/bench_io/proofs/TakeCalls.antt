@@ -4,7 +4,7 @@ use Rattle.std.proofs.Common.{refl, ap, ◌∙◌, append_assoc, append-nil, len
 use Rattle.std.specs.Option.{option_map}
 use Rattle.base_defs.specs.Counts.{saturating_sum, Rose}
 use Rattle.bench_io.specs.Stream.{SourceState, Gave, GaveMore, GaveNoMore, empty_calls}
-use Rattle.bench_io.specs.ReadAll.{Took}
+use Rattle.bench_io.specs.ReadAll.{Consumed}
 
 -- no bytes are given by no calls
 pub gave_none : (left : Option (List ℕ)) → Gave left left []
@@ -16,7 +16,7 @@ gave_more a b None x y h k = h ∙ ap (option_map (λ rest. x ++ rest)) k
 gave_more a b (Some rest) x y h k = h ∙ (ap (option_map (λ r. x ++ r)) k ∙ ap Some (sym (append_assoc x y rest)))
 
 -- one call that gave the front of a buffer
-pub took_once : (a b : SourceState) (count : ℕ) (buffer : List ℕ)
+pub consumed_once : (a b : SourceState) (count : ℕ) (buffer : List ℕ)
     → count ≤ length buffer
     → Gave a.left b.left (take count buffer)
     → b.calls ≡ saturating_sum a.calls 1
@@ -24,8 +24,8 @@ pub took_once : (a b : SourceState) (count : ℕ) (buffer : List ℕ)
     → b.empty ≡ saturating_sum a.empty (empty_calls count)
     → a.faults ≤ b.faults
     → GaveMore count a b
-    → Took a b (take count buffer) (empty_calls count)
-took_once a b count buffer within gave calls taken empty faults more =
+    → Consumed a b (take count buffer) (empty_calls count)
+consumed_once a b count buffer within gave calls taken empty faults more =
     let size : length (take count buffer) ≡ count = simp length-take (omega arith) in
     record {
       gave = gave;
@@ -46,7 +46,7 @@ pub failed_once : (a b : SourceState)
     → b.empty ≡ saturating_sum a.empty 1
     → a.faults ≤ b.faults
     → GaveNoMore a b
-    → Took a b [] 1
+    → Consumed a b [] 1
 failed_once a b left calls taken empty faults more = record {
   gave = rw left (gave_none a.left);
   number = omega (arith, taken);
@@ -59,8 +59,8 @@ failed_once a b left calls taken empty faults more = record {
 }
 
 -- calls after calls
-pub took_then : (a b c : SourceState) (x y : List ℕ) (m n : ℕ) → Took a b x m → Took b c y n → Took a c (x ++ y) (m + n)
-took_then a b c x y m n first then = record {
+pub consumed_then : (a b c : SourceState) (x y : List ℕ) (m n : ℕ) → Consumed a b x m → Consumed b c y n → Consumed a c (x ++ y) (m + n)
+consumed_then a b c x y m n first then = record {
   gave = gave_more a.left b.left c.left x y first.gave then.gave;
   number = omega (arith, length-append x y, first.number, then.number);
   made = (
@@ -76,24 +76,24 @@ took_then a b c x y m n first then = record {
 }
 
 -- a last call that gave bytes, or found the end
-pub largest_last : (a b c : SourceState) (x : List ℕ) (m n : ℕ) → Took a b x m → GaveMore n b c
+pub largest_last : (a b c : SourceState) (x : List ℕ) (m n : ℕ) → Consumed a b x m → GaveMore n b c
     → c.largest ≡ max a.largest c.given
 largest_last a b c x m n first last = omega (arith, first.later, first.largest, last.given, last.largest)
 
 -- a last call, which gave no byte
-pub took_last : (a b c : SourceState) (x y : List ℕ) (n : ℕ) → y ≡ [] → n ≡ 1 → Took a b x 0 → Took b c y n → Took a c x 1
-took_last a b c x y n nothing one before last = rw (nothing, append-nil x, one) at (took_then a b c x y 0 n before last)
+pub consumed_last : (a b c : SourceState) (x y : List ℕ) (n : ℕ) → y ≡ [] → n ≡ 1 → Consumed a b x 0 → Consumed b c y n → Consumed a c x 1
+consumed_last a b c x y n nothing one before last = rw (nothing, append-nil x, one) at (consumed_then a b c x y 0 n before last)
 
 -- one more call, which gave some bytes
-pub took_more : (a b c : SourceState) (x y : List ℕ) (n : ℕ) → n ≡ 0 → Took a b x 0 → Took b c y n → Took a c (x ++ y) 0
-took_more a b c x y n some before more = rw some at (took_then a b c x y 0 n before more)
+pub consumed_more : (a b c : SourceState) (x y : List ℕ) (n : ℕ) → n ≡ 0 → Consumed a b x 0 → Consumed b c y n → Consumed a c (x ++ y) 0
+consumed_more a b c x y n some before more = rw some at (consumed_then a b c x y 0 n before more)
 
 -- so few calls were made
 pub few_calls : (a b : SourceState) (x : List ℕ) (n limit : ℕ)
-    → Took a b x n
+    → Consumed a b x n
     → length x + n ≤ limit + 1
     → (count : ℕ) × (count ≤ limit + 1) × (b.calls ≡ saturating_sum a.calls count)
-few_calls a b x n limit took few = (took.made.0, omega (arith, took.made.1), took.made.2)
+few_calls a b x n limit consumed few = (consumed.made.0, omega (arith, consumed.made.1), consumed.made.2)
 
 -- what rose in the last call rose since the first
 pub rose_since : (a b c : ℕ) → a ≤ b → Rose b c → Rose a c

@@ -2,7 +2,7 @@
 
 ghost use Rattle.std.specs.Prelude.{◌≡◌, ◌<◌, ◌≤◌, ◌+◌, ℕ, [], length, take, IfOk, IfErr, OnErr};
 ghost use Rattle.base_defs.specs.Counts.{saturating_sum, Rose};
-ghost use Rattle.bench_io.specs.ReadAll.{ReadWhole, GaveUp, Took};
+ghost use Rattle.bench_io.specs.ReadAll.{ReadWhole, GaveUp, Consumed};
 ghost use Rattle.bench_io.specs.Stream.{GaveMore, IsAtEnd, empty_calls};
 ghost use Rattle.bench_io.specs.declared.whole.ReadError.TheVariants.{Fault, Memory};
 
@@ -80,14 +80,14 @@ pub fn read_all<S: Source>(
 
 /// One call of `take`. It is a function of its own, so that its contract says of one call what the contract of
 /// `read_all` says of all: a body that makes a failed call again is refused here.
-#[tactic(auto, using(crate::proofs::TakeCalls::took_once, crate::proofs::TakeCalls::failed_once))]
+#[tactic(auto, using(crate::proofs::TakeCalls::consumed_once, crate::proofs::TakeCalls::failed_once))]
 fn take_once<S: Source>(source: &mut S, buffer: &mut [u8]) -> Result<usize, Failed>
     requires { 0 < length buffer.old }
     ensures within { IfOk result (λ count. count ≤ length buffer.old) }
     ensures end { IfOk result (λ count. count ≡ 0 → IsAtEnd (S.state source.new).left) }
-    ensures took { IfOk result
-        (λ count. Took (S.state source.old) (S.state source.new) (take count buffer.new) (empty_calls count)) }
-    ensures failed { OnErr result (Took (S.state source.old) (S.state source.new) [] 1) }
+    ensures consumed { IfOk result
+        (λ count. Consumed (S.state source.old) (S.state source.new) (take count buffer.new) (empty_calls count)) }
+    ensures failed { OnErr result (Consumed (S.state source.old) (S.state source.new) [] 1) }
     ensures cause { OnErr result (Rose (S.state source.old).faults (S.state source.new).faults) }
     ensures given { IfOk result (λ count. GaveMore count (S.state source.old) (S.state source.new)) }
     ensures kept { S.kept source.new ≡ S.kept source.old }

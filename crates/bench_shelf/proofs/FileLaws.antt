@@ -55,7 +55,7 @@ refuses_none old found place refusal kept error s same memory is refuses =
           (memory, ap (λ refusal. Err (spec.At (model_of_place place) refusal)) (sym same)) (λ done holds. holds));
     })
 
--- what the COPY line of a file comes to, by the file's bytes, if there are any
+-- the outcome of a file's COPY line, by the file's bytes, if there are any
 abbrev pub copied_file : (spec.Place → ℕ → List ℕ → Copied) → spec.Place → ℕ → List ℕ → Option (List ℕ) → Copied
 copied_file copy place copies name found = spec.either (do
   bytes ← ok_or found (refused (copies + 1) (spec.At place (spec.Missing name)))

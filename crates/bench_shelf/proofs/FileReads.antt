@@ -3,7 +3,7 @@ use Rattle.std.proofs.Common.{◌≡◌, ℕ, List, length, Some, None, sym, ◌
 use Rattle.std.specs.Prelude.{Option, IfSome}
 use Rattle.std.specs.FinMap.{get}
 use Rattle.bench_io.specs.Stream.{SourceState}
-use Rattle.bench_io.specs.ReadAll.{Took, GaveUp}
+use Rattle.bench_io.specs.ReadAll.{Consumed, GaveUp}
 use Rattle.bench_io.specs.declared.whole.ReadError.TheVariants as read
 use Rattle.shelf_defs.specs.Files.{Files}
 use Rattle.shelf_defs.specs.Questions.{Unanswered, Fits}
@@ -19,8 +19,8 @@ unanswered (Some files) name limit = tt
 -- A file was asked for and opened, but not read.
 module _ (limit : ℕ) (name : List ℕ) (s t : ShelfState) (anew : StartsAnew s t name) (counts : SameCounts s.source t.source)
     (same : t.files ≡ s.files) (u : ShelfState) (kept : SameFiles t u) where
-  unread : (bytes : List ℕ) (empty : ℕ) → IsTaken limit Unanswered (length bytes) empty → Took t.source u.source bytes empty → AsksOne limit name Unanswered s u
-  unread bytes empty taken took = record {
+  unread : (bytes : List ℕ) (empty : ℕ) → IsTaken limit Unanswered (length bytes) empty → Consumed t.source u.source bytes empty → AsksOne limit name Unanswered s u
+  unread bytes empty taken consumed = record {
     reads = record {
       files = kept.files ∙ same;
       asked = kept.asked ∙ anew.asked;
@@ -28,9 +28,9 @@ module _ (limit : ℕ) (name : List ℕ) (s t : ShelfState) (anew : StartsAnew s
       bytes = length bytes;
       empty = empty;
       amounts = (length bytes, empty, taken, omega arith, omega arith, (omega arith, omega arith));
-      taken = omega (arith, counts.taken, took.number);
-      ends = omega (arith, counts.empty, took.none);
-      calls = omega (arith, counts.calls, took.made.1, took.made.2);
+      taken = omega (arith, counts.taken, consumed.number);
+      ends = omega (arith, counts.empty, consumed.none);
+      calls = omega (arith, counts.calls, consumed.made.1, consumed.made.2);
       none = λ none. absurd cc;
     };
     fits = unanswered s.files name limit;

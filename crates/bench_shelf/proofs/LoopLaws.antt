@@ -25,7 +25,7 @@ use Rattle.bench_shelf.proofs.AskingLaws.{agrees_front, agrees_back, all_given, 
 abbrev pub Numbered : Type 0
 Numbered = List (ℕ × List ℕ)
 
--- what lines of a file come to, by contents
+-- the outcomes of lines of a file, by contents
 abbrev pub lines_by : ℕ → Option (List ℕ) → ℕ → Numbered → Contents → Copied
 lines_by levels file copies lines contents = lines_in (copy_line contents levels) file copies lines
 
@@ -42,7 +42,7 @@ own_copies levels s old new place text error own same ends leads = record {
   leads = λ contents agrees. subst (λ request. CopiesTo old (asked_line (copy_line contents levels) request place old.copies text) error new) (sym own) leads;
 }
 
--- what a line comes to by what it asks for
+-- the outcome of a line by what it asks for
 pub asked_copies : (levels : ℕ) (s t : ShelfState) (old new : Copying) (place : Place) (text : List ℕ) (request : LineKind) (error : Option CopyError) → request ≡ asked text
     → Copies old new (λ contents. asked_line (copy_line contents levels) request place old.copies text) error s t
     → Copies old new (line_by levels place old.copies text) error s t

@@ -1,4 +1,4 @@
-//! Runs over a slice and two vectors of std: what they come to follows from the contracts alone.
+//! Runs over a slice and two vectors of std: their bytes and the status follow from the contracts alone.
 
 ghost use Rattle.std.specs.Prelude.{◌≡◌, IfSome, Some, []};
 ghost use Rattle.report_defs.specs.ProgramCommands.{ProgramCommand, program_command};

@@ -8,7 +8,7 @@ use Rattle.gpl_step_defs.specs.State.{GplState, start}
 use Rattle.gpl_step_defs.specs.Run.{run, turns}
 use Rattle.interp_defs.specs.Boot.{IsBoot}
 use Rattle.interp_defs.specs.Turns.{Boots}
-use Rattle.interp_defs.specs.Programs.{most_of_boot, TurnsWithin, RunsProgram, RunsSteps}
+use Rattle.interp_defs.specs.Programs.{bound_of_boot, TurnsWithin, RunsProgram, RunsSteps}
 use Rattle.gpl_run.specs.Sessions.{SessionState, gpl_state_of}
 use Rattle.report_defs.specs.declared.status.Status.{Status}
 use Rattle.report_defs.specs.declared.status.Status.TheVariants as status
@@ -32,14 +32,14 @@ use Rattle.debug_commands.proofs.Ends.{input_only, no_usage, by_answered}
 
 -- A machine boots, and a run is made from there, which has these machines.
 module _ {image : List ℕ} {entry limit count made : ℕ} {boot first left : MachineState} (is_machine : IsMachine boot)
-    (is_boot : IsBoot image entry boot) (boots : Boots count boot first) (within : count ≤ most_of_boot)
+    (is_boot : IsBoot image entry boot) (boots : Boots count boot first) (within : count ≤ bound_of_boot)
     (r : RunsSteps (start image entry) limit made first left) where
   begins : Boots (count + r.instructions 0) boot (r.machine 0)
   begins =
       subst (λ n. Boots n boot (r.machine 0)) (omega (arith, r.none))
       (subst (λ m. Boots count boot m) (sym r.first) boots)
 
-  few : count + r.instructions 0 ≤ most_of_boot
+  few : count + r.instructions 0 ≤ bound_of_boot
   few = omega (arith, r.none, within)
 
   turns_on : (i : ℕ) → i < turns limit (start image entry)

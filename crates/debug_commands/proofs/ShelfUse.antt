@@ -37,8 +37,8 @@ reporting command.List before after report (source, reads, on) = by (nat_lt larg
 reporting _ before after report on = on.1
 
 leaving : (command : DebugCommand) (before after : Inputs) → Leaves command before after → Takes command before after
-leaving command.List before after (input, took, inl same) = none_taken command.List before.shelf after.shelf same
-leaving command.List before after (input, took, inr (source, whole, questions, dialogue)) =
+leaving command.List before after (input, consumed, inl same) = none_taken command.List before.shelf after.shelf same
+leaving command.List before after (input, consumed, inr (source, whole, questions, dialogue)) =
     dialogue_takes most_bytes most_copies _ before.shelf after.shelf questions dialogue
 leaving _ before after leaves = leaves.1
 

@@ -17,7 +17,7 @@ use Rattle.reports.specs.Run.{Run, EndsParsed}
 use Rattle.reports.proofs.Runs.{by_report}
 use Rattle.reports.proofs.NoUsage.{IsNoUsage, same_no_usage}
 use Rattle.bench_commands.specs.InputRun as plain
-use Rattle.bench_commands.specs.InputRun.{TookWithin}
+use Rattle.bench_commands.specs.InputRun.{ConsumedWithin}
 use Rattle.bench_commands.proofs.Ends.{reads_whole}
 use Rattle.debug_report_defs.specs.declared.command.DebugCommand.{DebugCommand}
 use Rattle.debug_report_defs.specs.declared.command.DebugCommand.TheVariants as command
@@ -50,7 +50,7 @@ module _ (shelf : ShelfState) (input input' : SourceState) where
   reports_input _ report on = (on, refl)
 
   leaves_input : (command : DebugCommand) → plain.Leaves debug_input command input input' → Leaves command (at input shelf) (at input' shelf)
-  leaves_input command.List (took, unread) = (took, inl (none_more shelf), inl refl)
+  leaves_input command.List (consumed, unread) = (consumed, inl (none_more shelf), inl refl)
   leaves_input _ leaves = (leaves, refl)
 
   fails_input : (command : DebugCommand) → plain.ReadFails debug_input command input input' → ReadFails command (at input shelf) (at input' shelf)
@@ -81,8 +81,8 @@ module _ (before after : SourceState) (source : List ℕ) (whole : ReadWhole lar
   is_small : nat_lt largest_input (length source) ≡ false
   is_small = let within = whole.within in grind (arith, nat_tests)
 
-  within : TookWithin before after
-  within = record { bytes = source; within = whole.within; empty = 1; one = omega arith; took = whole.took }
+  within : ConsumedWithin before after
+  within = record { bytes = source; within = whole.within; empty = 1; one = omega arith; consumed = whole.consumed }
 
   module _ (shelf shelf' : ShelfState) (o : Outputs) (end : Status) where
     abbrev run : Run DebugCommand Inputs

@@ -10,12 +10,12 @@ use Rattle.report_defs.specs.Report.{Report, Faulty, largest_input}
 use Rattle.reports.specs.Run.{Program}
 use Rattle.file_commands.specs.Inputs.{Inputs, ShownInputs, ReadsFirst, FaultRose}
 use Rattle.bench_commands.specs.InputRun as plain
-use Rattle.bench_commands.specs.InputRun.{InputCommands, ReadsInput, TookWithin}
+use Rattle.bench_commands.specs.InputRun.{InputCommands, ReadsInput, ConsumedWithin}
 use Rattle.debug_report_defs.specs.declared.command.DebugCommand.{DebugCommand}
 use Rattle.debug_report_defs.specs.declared.command.DebugCommand.TheVariants as command
 use Rattle.debug_report_defs.specs.Words.{debug_usage}
 use Rattle.debug_report_defs.specs.Reports.{InputReport, ReportOn, PrefixOn}
-use Rattle.debug_commands.specs.Listed.{ListReported, ListFails, TookOfFiles}
+use Rattle.debug_commands.specs.Listed.{ListReported, ListFails, ConsumedOfFiles}
 
 -- the commands over the input alone, which each of them reads
 abbrev pub debug_input : InputCommands DebugCommand
@@ -44,7 +44,7 @@ Begins command before after front =
 -- what a command that wrote nothing leaves of the input and of the shelf
 abbrev pub Leaves : DebugCommand → Inputs → Inputs → Type 0
 Leaves command.List before after =
-    TookWithin before.input after.input × TookOfFiles before.shelf after.shelf × ReadsFirst before after
+    ConsumedWithin before.input after.input × ConsumedOfFiles before.shelf after.shelf × ReadsFirst before after
 Leaves command before after =
     plain.Leaves debug_input command before.input after.input × (after.shelf ≡ before.shelf)
 

@@ -48,15 +48,15 @@ pub record ListReported (before after : ShelfState) (source : List ℕ) (report 
   pub is : report ≡ rows_report rows refusal
 
 -- Of no file more bytes were taken than it may have, unless of the last one more, which then is too large.
-abbrev pub TookOfFiles : ShelfState → ShelfState → Type 0
-TookOfFiles before after = ReadWithinLimit most_bytes before after ⊎ ReadOverLimit most_bytes before after
+abbrev pub ConsumedOfFiles : ShelfState → ShelfState → Type 0
+ConsumedOfFiles before after = ReadWithinLimit most_bytes before after ⊎ ReadOverLimit most_bytes before after
 
 -- Why nothing is reported of a source. Where memory ran out there is no cause: it may run out once a file was found too
 -- large, while the rows of the lines before are made.
 abbrev pub ListFails : ShelfState → ShelfState → List ℕ → Status → Type 0
 ListFails before after source status.ReadFault = CopyFails before after source status.ReadFault
 ListFails before after source status.Memory =
-    (questions : List Question) × CopyDialogue before after source questions × TookOfFiles before after
+    (questions : List Question) × CopyDialogue before after source questions × ConsumedOfFiles before after
 ListFails before after source other = ⊥
 
 -- how `list` ends on a source that is not too large: its report was made, or there is none; and it was written

@@ -19,7 +19,7 @@ use std::io::{BufWriter, Read, Write};
 /// Runs the command that the words say, as [`debug`] does, over a reader and two writers. They come back in their
 /// adapters, which show what the reader has left and what the writers hold, if the streams showed that before.
 ///
-/// The laws say in `streams` what this comes to: if the streams show their bytes and the status is 0, 1 or 7, the
+/// The laws say in `streams` what follows: if the streams show their bytes and the status is 0, 1 or 7, the
 /// writers hold what they held and then the one report on the bytes that the reader had left, and nothing else.
 #[tactic(auto, using(reports::proofs::Streams::run_ends))]
 pub fn debug_over<F: Shelf, R: Read + Drop, W: Write + Drop, E: Write + Drop>(

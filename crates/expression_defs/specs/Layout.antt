@@ -9,7 +9,7 @@ use Rattle.source_defs.specs.Refusals.{Refusal, ◌>>=◌, at_line}
 use Rattle.expression_defs.specs.Expression.{Value}
 use Rattle.expression_defs.specs.Symbols.{Names}
 
--- What a line comes to by its first checks: its number; the location that it sets, if it sets one; the bytes that are
+-- What the first checks leave of a line: its number; the location that it sets, if it sets one; the bytes that are
 -- left free before it, so that it is at an even place; its size; the names that it defines; what it says; and
 -- whether the source ends with it.
 pub record LayoutLine (P S : Type 0) : Type 0 where
@@ -75,9 +75,9 @@ module _ {P S C : Type 0} (check : List (LayoutLine P S) → ℕ → List ℕ �
   abbrev pub line_layout : List (ℕ × List ℕ) → Result (List (LayoutLine P S)) (Refusal C)
   line_layout lines = layout_after [] lines
 
--- lines by the second checks, which see what the lines before came to, those lines, and the line
+-- lines by the second checks, which see the outcomes of the lines before, those lines, and the line
 module _ {P S A C : Type 0} (assembled_line : List (LayoutLine P S) → List A → LayoutLine P S → Result A C) where
-  -- what the lines come to, or the first that the checks refuse
+  -- the outcomes of the lines, or the first that the checks refuse
   abbrev pub assembled_lines : List (LayoutLine P S) → Result (List A) (Refusal C)
   assembled_lines [] = Ok []
   assembled_lines (line ∷ before) = do

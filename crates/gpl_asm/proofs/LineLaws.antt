@@ -44,7 +44,7 @@ place_is number found lines =
     let none : (location lines).number + 0 ≡ (location lines).number = omega arith in
     ap (λ number. record { grom = (location lines).grom; number = number }) none
 
--- what lines come to with one more
+-- the outcomes of lines with one more
 module _ (later : Names) where
   abbrev added : List Line → Line → Built → Result Built (Refusal GplCause)
   added lines line built = at_line line.number (outcome (look_up later) (place lines line) line.statement >>= λ found. put (place lines line) found built)
@@ -78,13 +78,13 @@ module _ (later : Names) where
   pub whole_more : (lines : List Line) (line : Line) → whole later (line ∷ lines) ≡ (whole later lines >>= added lines line)
   whole_more lines line = whole_by lines line (assembled_lines (assembled_line later) lines)
 
-  -- a line that comes to nothing
+  -- a line without an outcome
   nothing_put : (number : ℕ) (at : Location) (answer : Result Built (Refusal GplCause))
       → (answer >>= λ built. at_line number (put at (Bytes []) built)) ≡ answer
   nothing_put number at (Ok built) = refl
   nothing_put number at (Err refusal) = refl
 
-  -- one that was kept, or comes to nothing
+  -- one that was kept, or has no outcome
   pub kept_more : (builder : GplLines) (rest : Option Rest)
       → replay later nothing (builder.waiting.items ++ pending_of builder rest)
       ≡ (replay later nothing builder.waiting.items >>= λ built. at_line (builder.taken + 1)

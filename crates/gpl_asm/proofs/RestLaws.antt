@@ -18,7 +18,7 @@ open_again known later at text statement grows e =
     let again : parsed later at text ≡ Ok statement = parse_stays known later grows at text closed ∙ e in
     ap (λ found. found >>= λ statement. outcome (look_up later) at statement) again
 
--- a line without open values comes to what it comes to
+-- a line without open values has its own outcome
 pub closed_again : (known later : Names) (at : Location) (statement : Statement) → Grows known later
     → is_closed is_unresolved (outcome (look_up known) at statement) ≡ true → outcome (look_up later) at statement ≡ outcome (look_up known) at statement
 closed_again known later at statement grows closed = outcome_stays (look_up known) (look_up later) grows at statement closed

@@ -41,7 +41,7 @@ pub all_append : {A : Type 0} (P : A → Type 0) (first second : List A) → All
 all_append P [] second all others = others
 all_append P (item ∷ first) second all others = (all.0, all_append P first second all.1 others)
 
--- what is left of a line comes to what the line does
+-- what is left of a line has the outcome of the line
 abbrev pub AnswersBy : Names → Location → Checked → Option Rest → Type 0
 AnswersBy known at found rest =
     (later : Names) → Grows known later → answer later at rest ≡ outcome (look_up later) at found.statement

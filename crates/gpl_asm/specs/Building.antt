@@ -19,7 +19,7 @@ use Rattle.gpl_lines.specs.Answers.{NoMemory}
 abbrev pub built_of : List AssembledLine → Built
 built_of found = record { image = image found; entry = entry found }
 
--- what lines come to by all names
+-- the outcomes of lines by all names
 abbrev pub whole : Names → List Line → Result Built (Refusal GplCause)
 whole later lines = assembled_lines (assembled_line later) lines >>= λ found. Ok (built_of found)
 
@@ -29,7 +29,7 @@ pub record IsAfter (lines : List Line) (builder : GplLines) : Type 0 where
   pub location : builder.location ≡ location lines
   pub taken : builder.taken ≡ length lines
   pub ended : builder.ended ≡ has_ended lines
-  -- whatever names are still to come, the lines that wait come to what all lines come to
+  -- whatever names are still to come, the outcomes of the lines that wait lead to those of all lines
   pub replays : (later : Names) → Grows builder.symbols later
       → whole later lines ≡ replay later nothing builder.waiting.items
 

@@ -1,4 +1,4 @@
--- What the lines that wait come to by all names.
+-- The outcomes of the lines that wait by all names.
 use Rattle.std.specs.Prelude.{◌≡◌, ⊤, ℕ, if◌then◌else◌, List, [], ◌∷◌, Option, Some, None, Result, Ok, Err}
 use Rattle.std.specs.FinMap.{empty}
 use Rattle.source_defs.specs.Refusals.{Refusal, ◌>>=◌, at_line}
@@ -27,7 +27,7 @@ pub record Built : Type 0 where
 abbrev pub nothing : Built
 nothing = record { image = empty; entry = None }
 
--- what a line comes to is placed after others, or overlaps them
+-- the outcome of a line is placed after others, or overlaps them
 abbrev pub put : Location → Outcome → Built → Result Built GplCause
 put at found built =
     if overlaps built.image at.number (bytes_in found)
@@ -37,11 +37,11 @@ put at found built =
       entry = entry_by built.entry found;
     })
 
--- what a line at a place comes to, by all names
+-- the outcome of a line at a place, by all names
 abbrev pub line_outcome : Names → Location → List ℕ → Result Outcome GplCause
 line_outcome later at text = parsed later at text >>= λ statement. outcome (look_up later) at statement
 
--- what is left of a line comes to, by all names
+-- the outcome of what is left of a line, by all names
 abbrev pub answer_by : Names → Location → Rest → Result Outcome GplCause
 answer_by later at (Resolved found) = Ok (model_of_outcome found)
 answer_by later at (Refused cause) = Err cause

@@ -16,13 +16,13 @@ use Rattle.gpl_asm.specs.declared.pending.Rest.{Rest}
 use Rattle.gpl_asm.specs.declared.pending.Rest.TheVariants.{Resolved, Refused, Unresolved}
 use Rattle.gpl_asm.specs.Replay.{answer_by, WaitsFor}
 
--- what a line comes to ends before the addresses do
+-- the outcome of a line ends before the addresses do
 pub record HasRoom (later : Names) (waiting : Pending) : Type 0 where
   pub room : (found : Outcome) → answer_by later waiting.at waiting.rest ≡ Ok found
       → waiting.at.number + length (bytes_in found) ≤ 65536
   pub waits : WaitsFor waiting.rest
 
--- what all lines come to, whatever names are still to come
+-- the outcomes of all lines, whatever names are still to come
 abbrev pub AllHaveRoom : Names → List Pending → Type 0
 AllHaveRoom known waiting = (later : Names) → Grows known later → AllByRecursion (HasRoom later) waiting
 

@@ -98,7 +98,7 @@ fn resolve(
     }
 }
 
-/// What a line at a place comes to, by all names.
+/// The outcome of a line at a place, by all names.
 pub fn line_outcome(
     alloc: Global,
     symbols: &Symbols,

@@ -22,7 +22,7 @@ use gpl_source_defs::GplCause;
 use std::alloc::AllocError;
 
 /// Assembles a line that the first checks accept by the names that are known: what is left of it for the second
-/// pass; none where it comes to nothing.
+/// pass; none where it has no outcome.
 #[tactic(auto, using(crate::proofs::RestLaws::open_again, crate::proofs::RestLaws::closed_again))]
 pub(crate) fn assemble_line(
     scope: &Scope<'_>,

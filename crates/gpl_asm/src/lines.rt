@@ -11,7 +11,7 @@ use gpl_forms::GromImage;
 use gpl_source_defs::Location;
 use std::alloc::Global;
 
-/// A GPL source, line by line. A line waits for the second pass by what it comes to; its text is kept only where a
+/// A GPL source, line by line. A line waits for the second pass by its outcome; its text is kept only where a
 /// value of it is still open.
 ///
 /// Contracts see it by the lines that it has taken (`HasAccepted`).

@@ -6,7 +6,7 @@
 use gpl_lines::Outcome;
 use gpl_source_defs::{GplCause, Location};
 
-/// A line that waits for the second pass: it comes to something, or the second checks refuse it.
+/// A line that waits for the second pass: it has an outcome, or the second checks refuse it.
 #[derive(Drop)]
 pub(crate) struct Pending {
     /// The number of the line, from 1.
@@ -20,7 +20,7 @@ pub(crate) struct Pending {
 /// What is left of a line.
 #[derive(Drop)]
 pub(crate) enum Rest {
-    /// What it comes to, whatever names are still to come.
+    /// Its outcome, whatever names are still to come.
     Resolved(Outcome),
     /// Why it is refused, whatever names are still to come.
     Refused(GplCause),

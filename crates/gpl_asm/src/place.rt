@@ -1,4 +1,4 @@
-//! How what a line comes to is placed.
+//! How the outcome of a line is placed.
 
 ghost use Rattle.std.specs.Prelude.{◌≡◌, ◌≤◌, ◌+◌, ℕ, length, Ok, Err};
 ghost use Rattle.gpl_defs.specs.Image.{placed};
@@ -11,7 +11,7 @@ use gpl_forms::GromImage;
 use gpl_lines::Outcome;
 use gpl_source_defs::{GplCause, Location};
 
-/// Places what a line comes to, which ends before the addresses do, and gives the entry after it; or refuses it where a
+/// Places the outcome of a line, which ends before the addresses do, and gives the entry after it; or refuses it if a
 /// byte of it was placed before.
 ///
 /// # Errors

@@ -26,7 +26,7 @@ use Rattle.gpl_step_defs.specs.Step.{step, executed, after}
 use Rattle.gpl_step_defs.specs.Run.{run, turns, bound, bound_of, bound_at, bound_by, bytes_or_none, turns_made}
 use Rattle.interp_defs.specs.Programs.{RunsProgram}
 use Rattle.gpl_counts.specs.Counts.{most_shown_steps}
-use Rattle.gpl_counts.specs.Laws.{CountsAreInstructions, CountsAreBounded, most_of_step}
+use Rattle.gpl_counts.specs.Laws.{CountsAreInstructions, CountsAreBounded, bound_of_step}
 use Rattle.gpl_counts.proofs.Counts.{run_by, turns_least, turns_most, counts, shorter, machines}
 
 -- ---- another pc makes no difference to a length
@@ -68,7 +68,7 @@ small_length (Ok n) f g h y is = by (nat_lt 16384 n) refl is
     by true l e = absurd (cc)
     by false l e = grind (arith, nat_tests)
 
-instr_bound : (found : GplInstr) (next : ℕ) (s y : GplState) → after found next s ≡ Ok y → bound_of found s ≤ most_of_step
+instr_bound : (found : GplInstr) (next : ℕ) (s y : GplState) → after found next s ≡ Ok y → bound_of found s ≤ bound_of_step
 unfolding after
 instr_bound (instr.Move l to from) next s y is =
     let small : bytes_or_none (length_of (at_pc s next) l) ≤ 16384 = small_length (length_of (at_pc s next) l) _ _ _ y is in
@@ -78,13 +78,13 @@ instr_bound (instr.Byte ALL value) next s y is = omega arith
 instr_bound (instr.Byte _ value) next s y is = omega arith
 instr_bound _ next s y is = omega arith
 
-read_bound : (read : GplRead) (s y : GplState) → executed read s ≡ Ok y → bound_at read s ≤ most_of_step
+read_bound : (read : GplRead) (s y : GplState) → executed read s ≡ Ok y → bound_at read s ≤ bound_of_step
 read_bound (Instr found next) s y is = instr_bound found next s y is
 read_bound (Refused code) s y is = omega arith
 
-step_bound : (s y : GplState) → step s ≡ Ok y → bound s ≤ most_of_step
+step_bound : (s y : GplState) → step s ≡ Ok y → bound s ≤ bound_of_step
 step_bound s y is =
-    subst (λ (r : Result GplState Reason). bound_by r s ≤ most_of_step) (sym is) (read_bound (reading s.image s.pc) s y is)
+    subst (λ (r : Result GplState Reason). bound_by r s ≤ bound_of_step) (sym is) (read_bound (reading s.image s.pc) s y is)
 
 stop_bound : (s : GplState) (reason : Reason) → step s ≡ Err reason → bound s ≤ 400
 stop_bound s reason is = subst (λ (r : Result GplState Reason). bound_by r s ≤ 400) (sym is) (omega arith)
@@ -151,17 +151,17 @@ module _ {image : List ℕ} {entry limit : ℕ} {left : MachineState} (p : RunsP
   s = start image entry
 
   -- boot and the first steps
-  made_bound : (i : ℕ) → i ≤ (run limit s).done → p.instructions i ≤ 400 + i * most_of_step
+  made_bound : (i : ℕ) → i ≤ (run limit s).done → p.instructions i ≤ 400 + i * bound_of_step
   made_bound zero within = omega (arith, p.within)
   made_bound (suc i) within =
       let least : (run limit s).done ≤ turns limit s = turns_least (run limit s).stop (run limit s).done in
       let t = p.machines.next i (omega (arith, within, least)) in
       let before = made_bound i (omega (arith, within)) in
       let made = step_made limit s i (omega (arith, within)) in
-      let turn : bound (run i s).last ≤ most_of_step = step_bound (run i s).last made.0 made.1 in
+      let turn : bound (run i s).last ≤ bound_of_step = step_bound (run i s).last made.0 made.1 in
       let more : i + 1 ≡ suc i = omega arith in
-      let next : p.instructions (i + 1) ≤ 400 + (i + 1) * most_of_step = omega (arith, before, turn, t.within, t.adds) in
-      subst (λ k. p.instructions k ≤ 400 + k * most_of_step) more next
+      let next : p.instructions (i + 1) ≤ 400 + (i + 1) * bound_of_step = omega (arith, before, turn, t.within, t.adds) in
+      subst (λ k. p.instructions k ≤ 400 + k * bound_of_step) more next
 
   -- a run that goes on has as many turns as steps, and one that stops has one more
   all_made : (run limit s).stop ≡ None → turns limit s ≡ (run limit s).done
@@ -175,23 +175,23 @@ module _ {image : List ℕ} {entry limit : ℕ} {left : MachineState} (p : RunsP
 
   -- and the stop
   all_bound : (stop : Option Reason) → (run limit s).stop ≡ stop
-      → p.instructions (turns limit s) ≤ 400 + (run limit s).done * most_of_step + 400
+      → p.instructions (turns limit s) ≤ 400 + (run limit s).done * bound_of_step + 400
   all_bound None is =
       let all = all_made is in
       let here = made_bound (run limit s).done (omega arith) in
-      subst (λ k. p.instructions k ≤ 400 + (run limit s).done * most_of_step + 400) (sym all) (omega (arith, here))
+      subst (λ k. p.instructions k ≤ 400 + (run limit s).done * bound_of_step + 400) (sym all) (omega (arith, here))
   all_bound (Some reason) is =
       let all = one_stops reason is in
       let here = made_bound (run limit s).done (omega arith) in
       let t = p.machines.next (run limit s).done (omega (arith, all)) in
       let turn = last_bound reason is in
-      subst (λ k. p.instructions k ≤ 400 + (run limit s).done * most_of_step + 400) (sym all) (omega (arith, here, turn, t.within, t.adds))
+      subst (λ k. p.instructions k ≤ 400 + (run limit s).done * bound_of_step + 400) (sym all) (omega (arith, here, turn, t.within, t.adds))
 
   -- the count at the end
   left_is : left.count ≡ (p.machine (turns limit s)).count
   left_is = ap (λ (x : MachineState). x.count) (sym p.last)
 
-  left_bound : left.count ≤ 400 + (run limit s).done * most_of_step + 400
+  left_bound : left.count ≤ 400 + (run limit s).done * bound_of_step + 400
   left_bound =
       let n = turns limit s in
       let same = left_is in
@@ -200,17 +200,17 @@ module _ {image : List ℕ} {entry limit : ℕ} {left : MachineState} (p : RunsP
       let sum = at_most (p.instructions n) in
       omega (arith, same, counted, all, sum)
 
-  limit_bound : left.count ≤ 400 + limit * most_of_step + 400
+  limit_bound : left.count ≤ 400 + limit * bound_of_step + 400
   limit_bound =
       let made = left_bound in
       let within = done_within limit s in
       omega (arith, made, within)
 
   -- after each turn there were no more instructions than at the end
-  turn_bound : (i : ℕ) → i ≤ turns limit s → p.instructions i ≤ 400 + (run limit s).done * most_of_step + 400
+  turn_bound : (i : ℕ) → i ≤ turns limit s → p.instructions i ≤ 400 + (run limit s).done * bound_of_step + 400
   turn_bound i within = by (nat_lt (run limit s).done i) refl
     where
-      by : (late : Bool) → nat_lt (run limit s).done i ≡ late → p.instructions i ≤ 400 + (run limit s).done * most_of_step + 400
+      by : (late : Bool) → nat_lt (run limit s).done i ≡ late → p.instructions i ≤ 400 + (run limit s).done * bound_of_step + 400
       by false is =
           let early : i ≤ (run limit s).done = grind (arith, nat_tests) in
           let here = made_bound i early in
@@ -219,7 +219,7 @@ module _ {image : List ℕ} {entry limit : ℕ} {left : MachineState} (p : RunsP
           let beyond : (run limit s).done < i = grind (arith, nat_tests) in
           let most = turns_most (run limit s).stop (run limit s).done in
           let all : turns limit s ≡ i = omega (arith, beyond, within, most) in
-          subst (λ k. p.instructions k ≤ 400 + (run limit s).done * most_of_step + 400) all (all_bound (run limit s).stop refl)
+          subst (λ k. p.instructions k ≤ 400 + (run limit s).done * bound_of_step + 400) all (all_bound (run limit s).stop refl)
 
   exact : limit ≤ most_shown_steps → (i : ℕ) → i ≤ turns limit s → (p.machine i).count ≡ p.instructions i
   exact few i within =

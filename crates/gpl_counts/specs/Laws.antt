@@ -5,7 +5,7 @@ use Rattle.console_defs.specs.Machine.{MachineState}
 use Rattle.gpl_defs.specs.Image.{Image}
 use Rattle.gpl_step_defs.specs.State.{start}
 use Rattle.gpl_step_defs.specs.Run.{run, turns, bound}
-use Rattle.interp_defs.specs.Programs.{RunsProgram, most_of_boot}
+use Rattle.interp_defs.specs.Programs.{RunsProgram, bound_of_boot}
 use Rattle.report_defs.specs.Report.{Report}
 use Rattle.gpl_counts.specs.Counts.{ReportsCounts, most_shown_steps}
 
@@ -38,20 +38,20 @@ pub record CountsAreInstructions : Type 0 where
       → left.count ≤ (p.machine (run limit (start image entry)).done).count + 400
 
 -- Profile: no step takes more instructions than the longest MOVE, of 16,384 bytes.
-abbrev pub most_of_step : ℕ
-most_of_step = 440 + 64 * 16384
+abbrev pub bound_of_step : ℕ
+bound_of_step = 440 + 64 * 16384
 
 -- The most instructions of a number of steps: boot, the steps, and a step that stops.
-abbrev pub most_of_steps : ℕ → ℕ
-most_of_steps steps = most_of_boot + steps * most_of_step + 400
+abbrev pub bound_of_steps : ℕ → ℕ
+bound_of_steps steps = bound_of_boot + steps * bound_of_step + 400
 
 -- The law, which is proved: the count of the machine that is left of a run is at most this number, of the steps that
 -- were made, and so of their limit.
 pub record CountsAreBounded : Type 0 where
   pub made : (image : List ℕ) (entry limit : ℕ) (left : MachineState) → RunsProgram image entry limit left
-      → left.count ≤ most_of_steps (run limit (start image entry)).done
+      → left.count ≤ bound_of_steps (run limit (start image entry)).done
   pub limited : (image : List ℕ) (entry limit : ℕ) (left : MachineState) → RunsProgram image entry limit left
-      → left.count ≤ most_of_steps limit
+      → left.count ≤ bound_of_steps limit
 
 -- the law, which is proved: there is at most one report of counts
 abbrev pub OneReportOfCounts : Type 0

@@ -1,4 +1,4 @@
-//! The lines of a GPL source: what each says, and what it comes to.
+//! The lines of a GPL source: what each says, and its outcome.
 #![tactic(auto)]
 
 mod directives;

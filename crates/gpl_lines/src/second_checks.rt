@@ -23,7 +23,7 @@ use gpl_defs::{GplInstr, GplSource, MoveLength, MoveSource, MoveTarget};
 use gpl_forms::write_instr;
 use std::alloc::{AllocError, Global};
 
-/// What a line comes to.
+/// The outcome of a line.
 #[derive(Drop)]
 pub enum Outcome {
     /// The bytes that it places, which may be none.
@@ -33,7 +33,7 @@ pub enum Outcome {
 }
 
 impl Scope<'_> {
-    /// What a line comes to that the first checks accepted.
+    /// The outcome of a line that the first checks accepted.
     ///
     /// # Errors
     /// `Refused` carries what its values or their ranges are refused for first, and comes exactly where they are.

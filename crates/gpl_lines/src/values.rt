@@ -30,7 +30,7 @@ pub struct Scope<'a> {
 }
 
 impl Scope<'_> {
-    /// The number that an expression comes to.
+    /// The value of an expression.
     #[tactic(auto, using(crate::proofs::Failures::expr_fails))]
     pub(crate) fn number(&self, text: &[u8]) -> Result<u16, Failure>
         ensures { Gives (λ number. number) result (spec.number (look_up self.now.symbols.now)

@@ -15,7 +15,7 @@ use Rattle.gpl_source_defs.proofs.Sizes.{outcome_size}
 use Rattle.gpl_asm.specs.Replay.{Built, put, line_outcome}
 use Rattle.gpl_list_defs.specs.Rows as spec
 
--- what a line comes to that says something
+-- the outcome of a line that says something
 pub comes_to : (known : Names) (at : Location) (text : List ℕ) (statement : Statement) (answer : Result Outcome GplCause) → parsed known at text ≡ Ok statement
     → line_outcome known at text ≡ answer → outcome (look_up known) at statement ≡ answer
 comes_to known at text statement answer parsed_line is = sym (ap (λ answer. answer >>= λ statement. outcome (look_up known) at statement) parsed_line) ∙ is

@@ -23,7 +23,7 @@ pub none_left : (rows : List Row) → length rows ≡ 0 → rows ≡ []
 none_left [] e = refl
 none_left (row ∷ rows) e = absurd (omega (arith, e))
 
--- ---- what lines come to
+-- ---- outcomes of lines
 
 module _ (known : Names) where
   abbrev Answer : Type 0

@@ -52,7 +52,7 @@ at_address look at (Grom number) to found e = cc e
 at_address look at (Aorg number) to found e = cc e
 at_address look at _ to found e = refl
 
--- what a line came to
+-- the outcome of a line
 record Came (known : Names) (at : Location) (statement : Statement) (line : AssembledLine) : Type 0 where
   at_is : line.at ≡ at.number
   came : outcome (look_up known) at statement ≡ Ok line.outcome

@@ -7,7 +7,7 @@ use Rattle.expression_defs.specs.Expression.{Value, Absolute, Relocatable, Exter
 use Rattle.report_defs.specs.Rows.{spaced_bytes, row_line}
 use Rattle.gpl_list_defs.specs.Rows.{Row, NameRow}
 
--- Profile: bytes are shown by two digits, each after a blank, and blanks are where there are fewer than eight.
+-- Profile: bytes are shown by two digits, each after a blank, and blanks fill the place of fewer than eight.
 unfoldable pub bytes_text : List ℕ → List ℕ
 bytes_text bytes = spaced_bytes bytes ++ replicate (24 - 3 * length bytes) 0x20
 

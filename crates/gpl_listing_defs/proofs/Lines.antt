@@ -29,7 +29,7 @@ use Rattle.listed_lines.proofs.LineTexts.{Cut, Fit, number_fit, cut_listed, in_l
 use Rattle.gpl_listing_defs.proofs.Operands.{Alphabet, word_value, byte_value, tokens_of, tokens_are, few_tokens, shown, shown_all, shown_some, shown_short}
 use Rattle.gpl_listing_defs.proofs.Instructions.{InstrFits, InGromOf, instr_names, left_of, skeleton_back, size_back, instruction_back}
 
--- what some lines come to
+-- the outcomes of some lines
 pub record IsAt (before : List Line) (earlier : List AssembledLine) (at : Location) (bytes : Image) : Type 0 where
   pub names_are : names before ≡ predefined
   pub location_is : location before ≡ at
@@ -40,7 +40,7 @@ pub record IsAt (before : List Line) (earlier : List AssembledLine) (at : Locati
 pub at_first : IsAt [] [] start (image [])
 at_first = search rules
 
--- a line after others that is accepted, with what they then come to
+-- a line after others that is accepted, with the outcome of all
 pub record Taken (before : List Line) (number : ℕ) (text : List ℕ) (last : Bool) (next : Location) (bytes : Image) :
     Type 0 where
   pub line : Line
@@ -205,7 +205,7 @@ module _ {before : List Line} {earlier : List AssembledLine} {at : Location} {he
       taken (codes "END") None (End None) [] _ (number_fit _ _ (omega arith) (omega arith) refl (omega arith) refl) (inl refl)
       refl refl refl refl (omega arith) refl
 
--- lines after others that are accepted to the last, with the image that all come to
+-- lines after others that are accepted to the last, with the image of all
 pub record Ends (before : List Line) (number : ℕ) (texts : List (List ℕ)) (bytes : Image) : Type 0 where
   pub all : List Line
   pub found : List AssembledLine

@@ -3,7 +3,7 @@
 ghost use Rattle.std.specs.Prelude.{◌≡◌, ℕ, None, is_none};
 ghost use Rattle.gpl_step_defs.specs.State.{start};
 ghost use Rattle.interp_defs.specs.Match.{shown_by};
-ghost use Rattle.interp_defs.specs.Programs.{most_of_boot};
+ghost use Rattle.interp_defs.specs.Programs.{bound_of_boot};
 ghost use Rattle.interp_defs.specs.Turned.{Turned, whole_turn};
 ghost use Rattle.sim_steps.specs.Running.{RunsTurns};
 ghost use Rattle.sim_steps.specs.Starting.{StartsProgram};
@@ -43,7 +43,7 @@ impl Session {
     /// the program's first step. It takes no memory.
     pub fn new<L: Ledger>(machine: Machine, steps: &mut Steps<L>) -> Session
         requires { IsNew machine }
-        ensures begins { StartsProgram (start (image_of machine) (entry_of machine)) most_of_boot
+        ensures begins { StartsProgram (start (image_of machine) (entry_of machine)) bound_of_boot
             machine result.machine steps.old steps.new }
         ensures running { result.ended ≡ None }
     {

@@ -1,4 +1,4 @@
--- A line whose values are known says, and comes to, what it does when more names are known.
+-- A line whose values are known says the same, and has the same outcome, when more names are known.
 use Rattle.std.proofs.Common.{◌≡◌, ℕ, Bool, true, false, List, [], ◌∷◌, Some, None, Ok, Err, refl, ap}
 use Rattle.std.specs.Prelude.{Option, Result}
 use Rattle.expression_defs.specs.declared.causes.ExprError.{ExprError}

@@ -92,7 +92,7 @@ line_of here number line =
       last = is_end line.statement;
     }
 
--- what a line comes to after others
+-- the outcome of a line after others
 abbrev pub check : List Line → ℕ → List ℕ → Result Line GplCause
 check before number text = do
   found ← checked (names before) (location before) text

@@ -15,7 +15,7 @@ use Rattle.gpl_source_defs.specs.Locations.{Line, place}
 use Rattle.gpl_source_defs.specs.FirstChecks.{check, names}
 use Rattle.gpl_source_defs.specs.SecondChecks.{Outcome, Bytes, Entry, outcome}
 
--- a line by its address and what it came to
+-- a line by its address and its outcome
 pub record AssembledLine : Type 0 where
   pub at : ℕ
   pub outcome : Outcome

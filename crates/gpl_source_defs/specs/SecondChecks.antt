@@ -91,7 +91,7 @@ module _ (look : List ℕ → Option Value) (at : Location) where
     count ← length_value length
     moved count route
 
-  -- What a line comes to, or why the second checks refuse it. Profile: BSS places nothing.
+  -- The outcome of a line, or why the second checks refuse it. Profile: BSS places nothing.
   -- Editor/Assembler manual, "Initialize Word", "Initialize Byte", "Initialize Text", "Program End".
   unfoldable pub outcome : Statement → Result Outcome GplCause
   outcome (Instruction skeleton) = instruction skeleton >>= λ found. Ok (Bytes (gpl.bytes_of found))

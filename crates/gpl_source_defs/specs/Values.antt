@@ -37,7 +37,7 @@ checked_bytes = numbers_as_bytes BadOperand
 
 -- by what each name stands for, and the address that $ stands for
 module _ (look : List ℕ → Option Value) (here : ℕ) where
-  -- The number that an expression comes to. Profile: every name of a GPL source stands for a number, so other values
+  -- The value of an expression. Profile: every name of a GPL source stands for a number, so other values
   -- do not come.
   abbrev pub number : List ℕ → Result ℕ GplCause
   number text = as_expr (expression look (Absolute here) text >>= absolute)

@@ -15,7 +15,7 @@ use Rattle.gpl_step_defs.proofs.RunLaws.{runs_are_steps}
 use Rattle.interp_defs.specs.Boot.{IsBoot}
 use Rattle.interp_defs.specs.Match.{Matches}
 use Rattle.interp_defs.specs.Turns.{Boots, IsTurn}
-use Rattle.interp_defs.specs.Programs.{EndsAs, most_of_boot, RunsProgram, RunsSteps, TurnsWithin}
+use Rattle.interp_defs.specs.Programs.{EndsAs, bound_of_boot, RunsProgram, RunsSteps, TurnsWithin}
 
 -- what a step from the machine that matches its state gives
 abbrev Turns : GplState → ℕ → ℕ → MachineState → MachineState → Type 0
@@ -199,7 +199,7 @@ counted_on s count before after x y t =
 
 -- A machine boots, and a run is made from there.
 pub runs_program : {image : List ℕ} {entry limit count made : ℕ} {boot first left : MachineState} → IsMachine boot
-    → IsBoot image entry boot → Boots count boot first → count ≤ most_of_boot
+    → IsBoot image entry boot → Boots count boot first → count ≤ bound_of_boot
     → RunsSteps (start image entry) limit made first left → RunsProgram image entry limit left
 runs_program {image} {entry} {limit} {count} {made} {boot} {first} {left} is_machine is_boot boots within r =
     record {

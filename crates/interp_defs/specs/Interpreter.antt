@@ -25,5 +25,5 @@ abbrev pub address_register : ℕ
 address_register = 1
 
 -- No more instructions than these lead to the dispatch from the beginning of a step.
-abbrev pub most_to_dispatch : ℕ
-most_to_dispatch = 16
+abbrev pub bound_to_dispatch : ℕ
+bound_to_dispatch = 16

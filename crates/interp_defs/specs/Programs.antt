@@ -42,8 +42,8 @@ pub record RunsSteps (s : GplState) (limit count : ℕ) (x y : MachineState) : T
   pub ends : EndsAs (run limit s).stop (run limit s).last y
 
 -- Profile: from its start the interpreter takes at most 400 instructions to its first step.
-abbrev pub most_of_boot : ℕ
-most_of_boot = 400
+abbrev pub bound_of_boot : ℕ
+bound_of_boot = 400
 
 -- A program with an image and an entry is run for up to `limit` steps, and a machine is left. A machine with the
 -- interpreter boots: `machine 0` is at GSTEP for the first time, after at most 400 instructions. `machine i` is the
@@ -56,7 +56,7 @@ pub record RunsProgram (image : List ℕ) (entry limit : ℕ) (left : MachineSta
   pub machine : ℕ → MachineState
   pub instructions : ℕ → ℕ
   pub first : Boots (instructions 0) boot (machine 0)
-  pub within : instructions 0 ≤ most_of_boot
+  pub within : instructions 0 ≤ bound_of_boot
   pub machines : AreMachines (start image entry) limit machine instructions
   pub last : machine (turns limit (start image entry)) ≡ left
   pub ends : let r = run limit (start image entry) in

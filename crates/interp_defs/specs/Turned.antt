@@ -7,7 +7,7 @@ use Rattle.gpl_step_defs.specs.Step.{step}
 use Rattle.gpl_step_defs.specs.Run.{bound}
 use Rattle.interp_defs.specs.declared.turn.Turn.{Turn}
 use Rattle.interp_defs.specs.declared.turn.Turn.TheVariants.{Stepped, Stopped}
-use Rattle.interp_defs.specs.Interpreter.{most_to_dispatch}
+use Rattle.interp_defs.specs.Interpreter.{bound_to_dispatch}
 use Rattle.interp_defs.specs.Match.{Matches, IsHalted}
 use Rattle.interp_defs.specs.Turns.{IsTurn}
 
@@ -18,13 +18,13 @@ pub record TurnCount : Type 0 where
   pub before : ℕ
   pub after : ℕ
 
--- a turn from the beginning of its step, and one from its dispatch, to which at most `most_to_dispatch` instructions
+-- a turn from the beginning of its step, and one from its dispatch, to which at most `bound_to_dispatch` instructions
 -- lead
 abbrev pub whole_turn : ℕ → ℕ → TurnCount
 whole_turn before after = record { led_at_most = 0; before = before; after = after }
 
 abbrev pub from_dispatch : ℕ → ℕ → TurnCount
-from_dispatch before after = record { led_at_most = most_to_dispatch; before = before; after = after }
+from_dispatch before after = record { led_at_most = bound_to_dispatch; before = before; after = after }
 
 -- A turn leads from x to y, and a counter shows its instructions. With the instructions that led to x they are at most
 -- `most`.

@@ -1,4 +1,4 @@
--- What a line comes to by itself is what it comes to after others.
+-- The outcome of a line by itself is its outcome after others.
 use Rattle.std.proofs.Common.{◌≡◌, ℕ, Bool, true, false, List, Some, None, Ok, Err, refl, ap, ◌∙◌}
 use Rattle.std.specs.Prelude.{Option, Result}
 use Rattle.std.specs.Ordering.{nat_cmp}

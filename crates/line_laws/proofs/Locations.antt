@@ -1,4 +1,4 @@
--- Each line that is known by itself is where it is known to stand.
+-- Each line that is known by itself has its known place.
 use Rattle.std.proofs.Common.{◌≡◌, ℕ, zero, suc, ◌+◌, ◌*◌, ◌<◌, ◌≤◌, Bool, true, false, List, [], ◌∷◌, ◌++◌, Ok}
 use Rattle.std.proofs.Common.{length, length-append, refl, sym, ap, subst, ◌∙◌, arith}
 use Rattle.std.specs.Prelude.{Option, not, is_some, nat_lt, slice_index_or, take}

@@ -29,7 +29,7 @@ use Rattle.line_laws.proofs.Small.{both}
 abbrev pub as_assembled : KnownLine → AssembledLine
 as_assembled line = record { at = line.at; outcome = line.outcome }
 
--- what lines come to after others
+-- the outcomes of lines after others
 abbrev pub assembled_list : List AssembledLine → List KnownLine → List AssembledLine
 assembled_list earlier [] = earlier
 assembled_list earlier (line ∷ lines) = assembled_list (as_assembled line ∷ earlier) lines

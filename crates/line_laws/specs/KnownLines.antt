@@ -1,4 +1,4 @@
--- What the lines of a source come to by themselves, where their places and what all names stand for are known.
+-- The outcomes of the lines of a source by themselves, where their places and the values of all names are known.
 use Rattle.std.specs.Prelude.{ℕ, ◌+◌, ◌*◌, ◌==◌, Bool, true, false, not, ◌&&◌, ◌||◌, List, [], ◌∷◌, length, is_some}
 use Rattle.std.specs.Prelude.{Option, Some, None, Result, Ok}
 use Rattle.std.specs.Option.{option_map, unwrap_or}
@@ -22,7 +22,7 @@ use Rattle.asm_defs.specs.FirstChecks.{EarlierLines, Checked, moved, label_entry
 use Rattle.asm_defs.specs.SecondChecks as outcome
 use Rattle.asm_defs.specs.SecondChecks.{Outcome, outcome}
 
--- a line by its place, what its first checks leave, and what it comes to
+-- a line by its place, what its first checks leave, and its outcome
 pub record KnownLine : Type 0 where
   pub at : Location
   pub found : Checked
@@ -32,8 +32,8 @@ pub record KnownLine : Type 0 where
 abbrev pub nothing_before : Location → EarlierLines
 nothing_before location = record { names = empty; location = location; reached = 0; defs = []; refs = [] }
 
--- A line by itself at a location, by what each name stands for: its fields, what it says, where it leads, and what
--- it comes to.
+-- A line by itself at a location, by what each name stands for: its fields, what it says, where it leads, and its
+-- outcome.
 abbrev pub known_line : (List ℕ → Option Value) → Location → List ℕ → Result KnownLine AsmCause
 known_line look location text = do
   fields ← as_text (fields text)

@@ -57,7 +57,7 @@ KnownLinesHaveTheirWords =
     → AreKnown (2 * half) texts last defined lines end entry → half + length (all_words lines) ≤ 32768
     → HaveWords (texts ++ last ∷ []) (2 * half) (all_words lines) entry
 
--- A line of a source is at a place, after the lines before it, and comes to something, by the names of all lines.
+-- A line of a source is at a place, after the lines before it, and has an outcome, by the names of all lines.
 pub record IsAssembledAt (texts : List (List ℕ)) (index : ℕ) (at : Location) (come : Outcome) : Type 0 where
   pub before : List Line
   pub earlier_layout : line_layout check (numbered 1 (take index texts)) ≡ Ok before
@@ -68,8 +68,7 @@ pub record IsAssembledAt (texts : List (List ℕ)) (index : ℕ) (at : Location)
   pub whole_layout : line_layout check (numbered 1 texts) ≡ Ok all
   pub comes : outcome (look_up (names all)) at line.statement ≡ Ok come
 
--- The law, which is proved: each of such lines is where it is known to stand, and comes to what it is known to
--- come to.
+-- The law, which is proved: each of such lines has its known place and its known outcome.
 abbrev pub KnownLinesAreAssembled : Type 0
 KnownLinesAreAssembled =
     (half : ℕ) (texts : List (List ℕ)) (last : List ℕ) (defined : List (List ℕ × Value)) (lines : List KnownLine)

@@ -9,7 +9,7 @@ pub fn known_lines_have_their_words()
     ensures { KnownLinesHaveTheirWords }
 {}
 
-/// Each of such lines is where it is known to stand, and comes to what it is known to come to.
+/// Each of such lines has its known place and its known outcome.
 #[tactic(auto, using(crate::proofs::Locations::known_lines_are_assembled))]
 pub fn known_lines_are_assembled()
     ensures { KnownLinesAreAssembled }

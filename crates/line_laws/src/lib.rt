@@ -1,4 +1,4 @@
-//! Lines of a source whose places are known: what each comes to by itself, and the module of them all. The definitions
+//! Lines of a source whose places are known: the outcome of each by itself, and the module of them all. The definitions
 //! and the laws are in `specs/`.
 #![tactic(auto)]
 

@@ -44,10 +44,10 @@ ends = refl
 
 -- lines that are known by their rows
 module _ (from : ℕ) (all : List (List ℕ)) (last : List ℕ) (entries names : List (List ℕ × Value)) (table : List LineRow) (first next : Location) (end : KnownLine) (entry : Spot) (front : Reads (looks entries) first all table names next) where
-  known_by : first ≡ start → names ≡ entries → are_new registers entries ≡ true → close_rows from (map row_shown table) ≡ true → known_line (looks entries) next last ≡ Ok end
+  line_known : first ≡ start → names ≡ entries → are_new registers entries ≡ true → close_rows from (map row_shown table) ≡ true → known_line (looks entries) next last ≡ Ok end
       → end.found.label ≡ None → ((text : Option (List ℕ)) × (end.found.statement ≡ End text)) → end.outcome ≡ Entry entry
       → AreKnown from all last entries front.lines end entry
-  known_by begins named new close closing unnamed ends enters = record {
+  line_known begins named new close closing unnamed ends enters = record {
     known = subst (λ at. known_lines (looks entries) at all ≡ Ok front.lines) begins front.known;
     names = front.as_names ∙ named;
     plain = front.plain;
@@ -80,7 +80,7 @@ all_close = refl
 
 pub are_known : AreKnown (2 * 0x1000) front_texts last defined front_lines ending (spot.Absolute GBOOT)
 are_known =
-    known_by (2 * 0x1000) front_texts last defined (take name_count defined) (take most rows) (place 0) (place most) ending (spot.Absolute GBOOT) to_last
+    line_known (2 * 0x1000) front_texts last defined (take name_count defined) (take most rows) (place 0) (place most) ending (spot.Absolute GBOOT) to_last
     refl all_named all_new all_close ends refl (Some (codes "GBOOT"), refl) refl
 
 table_words : words_shown (map row_shown (take most rows)) ≡ words

@@ -1,5 +1,5 @@
 -- Written by tools/interpreter from crates/native_interp/src/source.
--- Blocks of the source's lines: each line by itself comes to what its row says.
+-- Blocks of the source's lines: each line by itself has the outcome of its row.
 use Rattle.std.proofs.Common.{refl}
 use Rattle.expression_defs.specs.Tokens.{token_at, tokens_from}
 use Rattle.source_defs.specs.Fields.{in_quotes, fields}

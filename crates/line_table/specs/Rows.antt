@@ -18,7 +18,7 @@ use Rattle.line_table.specs.declared.line_row.LineRow.{LineRow}
 use Rattle.line_table.specs.declared.line_row.NameRow.{NameRow}
 use Rattle.line_table.specs.Table.{defined, row_words}
 
--- a line that comes to this places these words
+-- a line of this outcome places these words
 abbrev pub Places : Outcome → List ℕ → Type 0
 Places Nothing placed = placed ≡ []
 Places (Words values) placed = values ≡ map Absolute placed

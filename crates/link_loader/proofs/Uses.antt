@@ -31,7 +31,7 @@ not_used words uses place next e =
     (λ name t. pick_option (find nat_cmp place words) (λ w. let h = rw w at e in absurd cc) (λ word w. let h = rw (w, t) at e in absurd cc))
 
 module _ (words : List (ℕ × ℕ)) (name : List ℕ) (uses : Uses) where
-  -- a chain that comes to 0 ends
+  -- a chain that reaches 0 ends
   pub ends : (left : ℕ) → uses_from left words name uses 0 ≡ Ok uses
   unfolding uses_from
   ends zero = refl
@@ -43,7 +43,7 @@ module _ (words : List (ℕ × ℕ)) (name : List ℕ) (uses : Uses) where
   ends_at_last zero place e = refl
   ends_at_last (suc left) place e = absurd (omega arith)
 
-  -- a chain that comes to another place
+  -- a chain that goes on at another place
   step : (left after place : ℕ) → left ≡ after + 1 → place ≢ 0
       → uses_from left words name uses place ≡ (use_before words uses place >>= λ next. uses_from after words name (uses ++ (place, name) ∷ []) next)
   unfolding uses_from

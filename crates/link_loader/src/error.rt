@@ -16,9 +16,9 @@ pub enum LinkError {
     OutOfMemoryRange(u32),
     /// A word is at the address of another.
     Overlap(u16),
-    /// A chain comes to a place that holds no loaded word.
+    /// A chain reaches a place that holds no loaded word.
     ChainOutside(u16),
-    /// A chain comes to a place that it or an earlier one has passed.
+    /// A chain reaches a place that it or an earlier one has passed.
     ChainCycle(u16),
     /// No module defines a REF name.
     Unresolved(Name),

@@ -13,7 +13,7 @@ abbrev pub with_words : List (ℕ × ℕ) → Memory → Memory
 with_words [] memory = memory
 with_words (word ∷ words) memory = with_words words (word_placed memory word.0 word.1)
 
--- Profile: one word is at >83E0, where no linked word does.
+-- Profile: one word is at >83E0, where no linked word is.
 abbrev pub with_first_word : ℕ → Memory → Memory
 with_first_word word memory = cell_set (cell_set memory 0xE0 (high word)) 0xE1 (low word)
 

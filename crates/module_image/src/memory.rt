@@ -50,7 +50,7 @@ impl Table {
         false
     }
 
-    /// Puts bytes, of which the first comes to a place.
+    /// Puts bytes, of which the first is at a place.
     pub fn put_all(&mut self, from: usize, contents: &[Content])
         requires { from + length contents.now ≤ 65536 }
         ensures { self.new.cells.items ≡ put_from self.old.cells.items from contents.now }

@@ -165,10 +165,10 @@ fn ends_as(
 {
     let mut machine = loaded(alloc, words)?;
     let ended = run::<Brand>(Blank::new(1), &mut machine, stop, limit);
-    Ok(ended == end && is_after(&machine, after))
+    Ok(ended == end && has_registers(&machine, after))
 }
 
-fn is_after(machine: &Machine, after: [u16; 5]) -> bool {
+fn has_registers(machine: &Machine, after: [u16; 5]) -> bool {
     let [pc, status, count, first, second] = after;
     machine.pc() == pc
         && machine.st() == status

@@ -23,7 +23,7 @@ number_word limit word =
 abbrev pub most_instructions : ℕ
 most_instructions = 10000000
 
--- Profile: run and trace make at most 100,000 steps.
+-- Profile: run, trace and watch make at most 100,000 steps; commands that show more are not of this program.
 abbrev pub most_steps : ℕ
 most_steps = 100000
 

@@ -29,7 +29,7 @@ unfoldable pub counted_line : List ℕ → ℕ → List ℕ
 counted_line label count = label ++ (decimal count ++ codes "\n")
 
 -- Profile: a program that leaves is reported by a word, and one that is stopped by the number of the reason, which is
--- one digit. One that did neither has come to the most steps.
+-- one digit. One that did neither has made the most steps.
 abbrev pub ended_line : Option Reason → List ℕ
 ended_line None = codes "limit\n"
 ended_line (Some Exit) = codes "exit\n"

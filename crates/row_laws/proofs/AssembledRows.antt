@@ -29,7 +29,7 @@ use Rattle.row_laws.proofs.StillImage.{run_still}
 use Rattle.row_laws.proofs.RowsInRuns.{row_shows, all_show, rows_are_in}
 use Rattle.row_laws.proofs.ValidLines.{FitsStatement, instruction_valid, IsLaid, AreLaidOut, lines_laid, line_found}
 
--- what each of the lines comes to
+-- the outcome of each of the lines
 module _ (known : Names) where
   came : (later before lines : List Line) (line : Line) (found : List AssembledLine) → lines ≡ later ++ line ∷ before
       → assembled_lines (assembled_line known) lines ≡ Ok found → (some : Outcome) × (outcome (look_up known) (place before line) line.statement ≡ Ok some)

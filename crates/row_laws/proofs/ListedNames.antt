@@ -267,16 +267,17 @@ all_uses P (use_of ∷ uses) all = (all.0, all_uses P uses all.1)
 -- ---- the names of DEF
 
 module _ (known : Names) where
-  known_by : (name : List ℕ) (answer : Option Value) (value : Value) → look_up known name ≡ answer → as_expr (known_value answer) ≡ Ok value → Stands known name
-  known_by name (Some found) value is e = (found, is)
-  known_by name None value is e = cc e
+  value_found : (name : List ℕ) (answer : Option Value) (value : Value) → look_up known name ≡ answer → as_expr (known_value answer) ≡ Ok value
+      → Stands known name
+  value_found name (Some found) value is e = (found, is)
+  value_found name None value is e = cc e
 
   defs_stand : (at : Location) (some : List (List ℕ)) (found : Outcome) → defs_known (look_up known) at some ≡ Ok found → AllKnown known some
   defs_stand at [] found e = tt
   defs_stand at (name ∷ some) found e =
       let a = bound (as_expr (known_value (look_up known name))) _ found e in
       let b = bound (defined_here a.0) _ found a.2 in
-      (known_by name (look_up known name) a.0 refl a.1, defs_stand at some found b.2)
+      (value_found name (look_up known name) a.0 refl a.1, defs_stand at some found b.2)
 
   statement_defs : (at : Location) (statement : Statement) (found : Outcome) → outcome (look_up known) at statement ≡ Ok found
       → AllKnown known (defs_in statement)

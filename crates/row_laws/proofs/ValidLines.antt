@@ -202,7 +202,7 @@ module _ (look : List ℕ → Option Value) (at : Location) where
       any_then HasBytes (value look at first) _
       (λ number. any_then HasBytes (value look at address) _ (λ start. any_then HasBytes (register_of number) _ (λ register. refl)))
 
-  -- an instruction that a line comes to has bytes
+  -- an instruction that is the outcome of a line has bytes
   pub instruction_valid : (found : Skeleton) → FitsSkeleton found → IfOk (instruction look at found) HasBytes
   instruction_valid (Plain op) fits = refl
   instruction_valid (Byte op text) fits =

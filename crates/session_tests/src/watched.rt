@@ -53,7 +53,7 @@ fn find<L: Ledger>(
     }
 }
 
-/// Whether one run after the other finds what it should, and the program comes to an address.
+/// Whether one run after the other finds what it should, and the program reaches an address.
 fn finds<L: Ledger>(
     blank: Blank,
     alloc: Global,

@@ -93,29 +93,29 @@ own_line place copies text =
       ending = if ends_source text then Ended else Open;
     }
 
--- by what the COPY line at a place comes to, after a number of others, that copies a file of this name
+-- by the outcome of the COPY line at a place, after a number of others, that copies a file of this name
 module _ (copy : Place → ℕ → List ℕ → Copied) where
   abbrev pub asked_line : LineKind → Place → ℕ → List ℕ → Copied
   asked_line Itself place copies text = own_line place copies text
   asked_line (File name) place copies text = copy place copies name
   asked_line Bad place copies text = refused copies (At place BadCopy)
 
-  -- what a line comes to
+  -- the outcome of a line
   abbrev pub one_line : Place → ℕ → List ℕ → Copied
   one_line place copies text = asked_line (asked text) place copies text
 
-  -- what lines of a file come to, by their numbers
+  -- the outcomes of lines of a file, by their numbers
   abbrev pub lines_in : Option (List ℕ) → ℕ → List (ℕ × List ℕ) → Copied
   lines_in file copies [] = nothing copies
   lines_in file copies (line ∷ lines) =
       followed (one_line (record { file = file; line = line.0 }) copies line.1) (λ copies. lines_in file copies lines)
 
--- what a COPY line comes to where it is not refused, or where it is
+-- the outcome of a COPY line that is not refused, and of one that is
 abbrev pub either : Result Copied Copied → Copied
 either (Ok found) = found
 either (Err found) = found
 
--- What a COPY line comes to, by the number of levels of files that may still be copied. It counts among the COPY lines
+-- The outcome of a COPY line, by the number of levels of files that may still be copied. It counts among the COPY lines
 -- once its file is asked for.
 module _ (contents : Contents) where
   abbrev pub copy_line : ℕ → Place → ℕ → List ℕ → Copied

@@ -35,7 +35,8 @@ module _ (limit : ℕ) where
   Agrees contents number (question ∷ questions) =
       Fits question.answer (contents number question.name) × Agrees contents (number + 1) questions
 
--- nothing more is asked after an answer other than the bytes of a file
+-- Nothing more is asked after an answer other than the bytes of a file: without this rule a missing file could be asked
+-- for twice.
 abbrev pub MayFollow : FileAnswer → List Question → Type 0
 MayFollow (Bytes bytes) rest = ⊤
 MayFollow answer rest = rest ≡ []

@@ -2,7 +2,7 @@
 use Rattle.std.proofs.Common.{ℕ, ⊎_elim, ◌∙◌, ◌≡◌, ap, arith, List, refl, Result, slice_set, Some, subst, sym, true}
 use Rattle.sim_rows.proofs.Common.{ShowsChanges, ChangedFrom, Changes, ReachesWithin, comes, comes_as, comes_on, comes_then, EndsRow, even, Exits, Goes}
 use Rattle.sim_rows.proofs.Common.{gone_on}
-use Rattle.sim_rows.proofs.Common.{GplOperation, GSTEP, high, idle_again, is_view, join, MachineState, most_of_alu_row, most_of_store, PortsAreIdle, Reason}
+use Rattle.sim_rows.proofs.Common.{GplOperation, GSTEP, high, idle_again, is_view, join, MachineState, bound_of_alu_row, bound_of_store, PortsAreIdle, Reason}
 use Rattle.sim_rows.proofs.Common.{row_width, RunsRow, SeesFinished, SeesResult, SHOW, IsAt, STATB, STATUS, STO, store_then, stored_idle, StoresResult}
 use Rattle.sim_rows.proofs.Common.{StoresValue, Storing, unchanged, View, view, with_status, with_value}
 use Rattle.sim_alu.specs.Family.{is_alu, result_piece}
@@ -37,8 +37,8 @@ pub with_status_stored : (x y z q : MachineState) (t u w p : ℕ) → (view x).r
     EndsRow z q w p → StoresWithStatus x q t p
 with_status_stored x y z q t u w p link d e f c width place number status h r12 =
     let done : Changes = with_value width place number c in
-    let a : ReachesWithin most_of_store x y t u STATB (ChangedFrom done (view x)) =
-    subst (λ (n : ℕ). ReachesWithin most_of_store x y t u n (ChangedFrom done (view x))) (ap even link)
+    let a : ReachesWithin bound_of_store x y t u STATB (ChangedFrom done (view x)) =
+    subst (λ (n : ℕ). ReachesWithin bound_of_store x y t u n (ChangedFrom done (view x))) (ap even link)
     (store_then c width place number x y t u h d) in
     let b = comes_then 15 1 a e (status_stored done status (view y) a.holds.changed (a.holds.keeps.r12 ∙ r12)) refl in
     comes_on 16 28 b (f (with_status status done) b.holds) refl
@@ -59,7 +59,7 @@ result_idle op x y t u f i e =
 
 module _ (op : GplOperation) (x y z : MachineState) (t u w : ℕ) (f : is_alu (Some op) ≡ true) (start : ℕ) (is_at : IsAt x start)
     (e : Exits x y t u (result_piece op (view x))) where
-  pub by_sto : y.cpu.pc ≡ STO → StoresResult y z u w → RunsRow op most_of_alu_row x z t w
+  pub by_sto : y.cpu.pc ≡ STO → StoresResult y z u w → RunsRow op bound_of_alu_row x z t w
   by_sto at d s place source o a operands =
       let v : View = view x in
       let c : Changes = unchanged (gone_on s) in
@@ -72,7 +72,7 @@ module _ (op : GplOperation) (x y z : MachineState) (t u w : ℕ) (f : is_alu (S
       (λ (m : Flagged op s place source (result_piece op v)). let pc = e.is_at.pc in let to = m.to in absurd (omega arith))
       (MadeResults.made v (is_view x is_at.machine) s place source a op f o operands)
 
-  pub by_store : (y.cpu.pc ≡ STO → ⊥) → StoresWithStatus y z u w → RunsRow op most_of_alu_row x z t w
+  pub by_store : (y.cpu.pc ≡ STO → ⊥) → StoresWithStatus y z u w → RunsRow op bound_of_alu_row x z t w
   by_store away d s place source o a operands =
       let v : View = view x in
       let c : Changes = unchanged (gone_on s) in

@@ -21,7 +21,7 @@ is_alu (Some (Two XOR)) = true
 is_alu (Some (Two ST)) = true
 is_alu _ = false
 
--- What the piece at the entry of each row comes to. The rows of other operations stay where they are.
+-- What the piece at the entry of each row does. The rows of other operations stay where they are.
 abbrev pub result_piece : GplOperation → View → Exit
 result_piece (One ABS) v = piece.make_absolute v
 result_piece (One NEG) v = piece.negate v

@@ -1,4 +1,4 @@
--- What the pieces of these rows come to: how many instructions they have, where they end, and what they change of the
+-- What the pieces of these rows do: how many instructions they have, where they end, and what they change of the
 -- view, in the words of the processor. Registers, cells and ports that are not named stay.
 use Rattle.std.specs.Prelude.{ℕ, ◌+◌, slice_set}
 use Rattle.sim_rows.specs.Prelude.{absolute_flags, absolute_of, complement_of, difference_flags, difference_of}

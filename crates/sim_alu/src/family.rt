@@ -7,7 +7,7 @@ ghost use Rattle.sim_rows.specs.Prelude.{view};
 ghost use Rattle.sim_alu.specs.Family.{is_alu, result_piece};
 ghost use Rattle.sim_alu.specs.Tails.{StoresWithStatus};
 ghost use Rattle.sim_rows.specs.native_interp.declared.addresses.TheConstants as address;
-ghost use Rattle.sim_rows.specs.sim_view.Bounds.{most_of_alu_row};
+ghost use Rattle.sim_rows.specs.sim_view.Bounds.{bound_of_alu_row};
 
 use crate::pieces::{
     add_source, add_twice, clear, exclude_ones, invert, keep_common_ones, make_absolute, negate,
@@ -90,7 +90,7 @@ fn finish_with_status<L: Ledger>(machine: &mut Machine, steps: &mut Steps<L>)
 /// Runs the row of an operation of this family, from its entry to the end of the step.
 fn run_row<L: Ledger>(machine: &mut Machine, steps: &mut Steps<L>, operation: GplOperation)
     requires { AtEntry is_alu operation machine.old }
-    ensures { RunsRow operation most_of_alu_row machine.old machine.new steps.old steps.new }
+    ensures { RunsRow operation bound_of_alu_row machine.old machine.new steps.old steps.new }
 {
     make_result(machine, steps, operation);
     if machine.pc() == STO {

@@ -2,7 +2,7 @@
 use Rattle.std.proofs.Common.{ℕ, ◌<◌, ◌==◌, ◌∙◌, ◌≡◌, ap, arith, Bool, false, List, Ok, Option, refl, Result, slice_index, Some, subst, true}
 use Rattle.sim_rows.proofs.Common.{after, AtDispatch, after_code, bound, bound_at, bound_by, CARRY, Changes, code_byte, ReachesWithin, comes, CTRUE, executed, Exits}
 use Rattle.sim_rows.proofs.Common.{finished, Goes, GplOperation, GplRead, GplState, GT, H, is_turn_end, is_set, is_view, IsView, join, last_out, low, MachineState}
-use Rattle.sim_rows.proofs.Common.{matches, most_to_dispatch, operation_entry, operation_in, operation_in_view, OVF, Plain, PlainOp, reaches}
+use Rattle.sim_rows.proofs.Common.{matches, bound_to_dispatch, operation_entry, operation_in, operation_in_view, OVF, Plain, PlainOp, reaches}
 use Rattle.sim_rows.proofs.Common.{from_dispatch, read_by, Reason, shifted, ShowsState, SLA, state_at_dispatch, status_of, step, Stepped, Turned, turned_by, unchanged}
 use Rattle.sim_rows.proofs.Common.{View, view, with_tested}
 use Rattle.sim_rows.specs.Prelude.{CARRY_BIT, GREATER_BIT, HIGHER_BIT, OVERFLOW_BIT}
@@ -116,9 +116,9 @@ module _ {x a : MachineState} {t u : ℕ} (name : PlainOp) (is : operation_in_vi
       let next = finished (changed s o) in
       let c = decides 4 s (after_code s) flag at_flag second in
       let b = bound_is s o e is in
-      turned_by x y t v most_to_dispatch Stepped s (Ok next) (step_is s o e is) (
+      turned_by x y t v bound_to_dispatch Stepped s (Ok next) (step_is s o e is) (
         refl,
-        reaches most_to_dispatch (bound s) c (ap is_turn_end at.is_at.pc ∙ ap (λ (p : Option GplOperation). is_turn_end (operation_entry p)) is ∙ starts o e) refl
+        reaches bound_to_dispatch (bound s) c (ap is_turn_end at.is_at.pc ∙ ap (λ (p : Option GplOperation). is_turn_end (operation_entry p)) is ∙ starts o e) refl
             (omega arith),
         matches next y c.is_at c.holds,
       )

@@ -1,4 +1,4 @@
--- What the pieces of the comparisons and the tests come to: how many instructions they have, where they end, and what
+-- What the pieces of the comparisons and the tests do: how many instructions they have, where they end, and what
 -- they change of the view, in the words of the processor. Registers, cells and ports that are not named stay.
 use Rattle.std.specs.Prelude.{ℕ, ◌==◌, bit_and, Bool, false, if◌then◌else◌, int_lt, nat_lt, not, slice_index}
 use Rattle.std.specs.Prelude.{slice_set, true}

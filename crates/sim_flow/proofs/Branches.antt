@@ -2,7 +2,7 @@
 use Rattle.std.proofs.Common.{ℕ, ◌%◌, ◌<◌, ◌∙◌, ◌≡◌, ◌≤◌, ap, arith, Bool, false, if◌then◌else◌, List, not, Ok, refl, slice_index, slice_set, Some, subst, true}
 use Rattle.sim_rows.proofs.Common.{after_code, bound, bound_made, BRANCH, Branch, branched, BTARG, Byte, CFALSE, Changes, code_byte, ReachesWithin, comes, comes_on}
 use Rattle.sim_rows.proofs.Common.{comes_then, condition, Dispatched, exclusive_or_of, Exits, finished, Goes, goes_in, GplState, GromState, GSTEP, high}
-use Rattle.sim_rows.proofs.Common.{in_grom_of, is_turn_end, is_set, is_taken, is_view, IsView, join, last_out, MachineState, matches, most_to_dispatch, next_in_grom}
+use Rattle.sim_rows.proofs.Common.{in_grom_of, is_turn_end, is_set, is_taken, is_view, IsView, join, last_out, MachineState, matches, bound_to_dispatch, next_in_grom}
 use Rattle.sim_rows.proofs.Common.{from_dispatch, ones_cleared, operation_in, past, reaches, SeesFinished, ShowsState, SRL, IsAt, step_branch, Stepped, TAKE, Turned, turned_by}
 use Rattle.sim_rows.proofs.Common.{unchanged, View, view, with_condition}
 use Rattle.sim_jumps.specs.Jumps.{TakesBranch}
@@ -110,8 +110,8 @@ module _ {s : GplState} {x a : MachineState} {t t1 : ℕ} (on : Bool) (is : oper
       let same : branched on (target s) (unchanged (passed s)) ≡ changed_by s c = ap (changed_by s) e in
       let step_is = step_branch s on is ∙ ap (λ (c : Changes). Ok (finished c)) same in
       let m = bound_made s (finished (changed_by s c)) (Some (Branch on)) is step_is in
-      turned_by x y t t2 most_to_dispatch Stepped s (Ok (finished (changed_by s c))) step_is
-      (refl, reaches most_to_dispatch (bound s) run (ap is_turn_end is_at.pc) refl (omega arith), matches (finished (changed_by s c)) y run.is_at run.holds)
+      turned_by x y t t2 bound_to_dispatch Stepped s (Ok (finished (changed_by s c))) step_is
+      (refl, reaches bound_to_dispatch (bound s) run (ap is_turn_end is_at.pc) refl (omega arith), matches (finished (changed_by s c)) y run.is_at run.holds)
 
   -- what holds where it ended
   left_at : (c : Bool) → taken ≡ c → ReachesWithin 5 x a t t1 (end_of c) (left_by s c)

@@ -2,7 +2,7 @@
 use Rattle.std.proofs.Common.{ℕ, ◌*◌, ◌<◌, ◌==◌, ◌∙◌, ◌≡◌, ap, arith, Option, refl, Some, subst}
 use Rattle.sim_rows.proofs.Common.{AtRow, bytes_by, CASE, CASEN, CASET, CASEV, ReachesWithin, comes, comes_on, comes_then, destination_bytes, Exit, exit, Exits, from}
 use Rattle.sim_rows.proofs.Common.{Goes, GplOperation, GplState, grom_at, GromState, GSTEP, in_register, is_view, IsView, just, known, loaded_of, located_at}
-use Rattle.sim_rows.proofs.Common.{lost, MachineState, most_of_case_row, next_of, One, operation_in, Place, plus, reads_destination, return_of, row_result}
+use Rattle.sim_rows.proofs.Common.{lost, MachineState, bound_of_case_row, next_of, One, operation_in, Place, plus, reads_destination, return_of, row_result}
 use Rattle.sim_rows.proofs.Common.{row_width, RunsRow, SEEK, ShowsState, SeesResult, set_is, size_of, Source, IsAt, sum_of, TAKE, value_at, View, view, WHERE}
 use Rattle.sim_rows.proofs.Common.{where_found, Width, width_again, width_in, Word}
 use Rattle.sim_jumps.specs.Jumps.{TakesBranch}
@@ -13,7 +13,8 @@ use Rattle.sim_flow.specs.Pieces as pieces
 
 -- ---- where the two routines return to
 
-pub at_target : {x a b : MachineState} {t t1 t2 : ℕ} → Exits x a t t1 (pieces.ask_table (view x)) → Exits a b t1 t2 (rows.where_next (view a)) → IsAt b CASEN
+pub at_target : {x a b : MachineState} {t t1 t2 : ℕ} → Exits x a t t1 (pieces.request_table (view x)) → Exits a b t1 t2 (rows.where_next (view a))
+    → IsAt b CASEN
 at_target {b = b} e1 e2 = subst (λ (p : ℕ). IsAt b p) (ap return_of e1.shows) e2.is_at
 
 pub at_end : {b c d : MachineState} {t2 t3 t4 : ℕ} → Exits b c t2 t3 (pieces.find_branch (view b)) → Exits c d t3 t4 (operands.seek (view c)) → IsAt d CASET
@@ -43,7 +44,7 @@ module _ (s : GplState) (place : Place) (source : Source) (v : View) (e : operat
 
   -- the view after each piece
   abbrev asked : View
-  asked = (pieces.ask_table v).left
+  asked = (pieces.request_table v).left
 
   value_is : asked.r.r9 ≡ number
   value_is = number_is (row_width s) v.r.r3 v.r.r9 number row.holds.bytes_are (row.destination (ap reads_destination e) ∙ loaded_is s place e) (i.r 9)
@@ -82,22 +83,22 @@ module _ (s : GplState) (place : Place) (source : Source) (v : View) (e : operat
         };
       }
 
-  asks : Goes (pieces.ask_table v) 4 WHERE (λ w. w ≡ asked)
-  asks = just (pieces.ask_table v) 4 WHERE (let m = most_is (v.r.r3 == 1) in omega arith) refl
+  asks : Goes (pieces.request_table v) 4 WHERE (λ w. w ≡ asked)
+  asks = just (pieces.request_table v) 4 WHERE (let m = most_is (v.r.r3 == 1) in omega arith) refl
 
-  selects : {x a b c d f y : MachineState} {t t1 t2 t3 t4 t5 t6 : ℕ} → view x ≡ v → Exits x a t t1 (pieces.ask_table (view x)) →
+  selects : {x a b c d f y : MachineState} {t t1 t2 t3 t4 t5 t6 : ℕ} → view x ≡ v → Exits x a t t1 (pieces.request_table (view x)) →
       Exits a b t1 t2 (rows.where_next (view a)) → Exits b c t2 t3 (pieces.find_branch (view b)) → Exits c d t3 t4 (operands.seek (view c)) →
       Exits d f t4 t5 (pieces.go_to_branch (view d)) → TakesBranch f y t5 t6 → ReachesWithin 25 x y t t6 GSTEP (SeesResult (row_result (One CASE) s place source))
   selects is e1 e2 e3 e4 e5 goes =
-      let c1 = comes e1 (from pieces.ask_table is asks) in
+      let c1 = comes e1 (from pieces.request_table is asks) in
       let c2 = comes_then 4 8 c1 e2 (from rows.where_next c1.holds where_is) refl in
       let c3 = comes_then 12 3 c2 e3 (from pieces.find_branch c2.holds (just (pieces.find_branch located) 3 SEEK (omega arith) refl)) refl in
       let c4 = comes_then 15 3 c3 e4 (from operands.seek c3.holds (known seek_is (just (exit 3 CASET after_seek) 3 CASET (omega arith) refl))) refl in
       let c5 = comes_then 18 2 c4 e5 (from pieces.go_to_branch c4.holds ends) refl in
       comes_on 20 5 c5 (goes taken (next_of s) c5.holds.sees c5.holds.to) refl
 
-pub runs : {x a b c d f y : MachineState} {t t1 t2 t3 t4 t5 t6 : ℕ} → IsAt x CASEV → Exits x a t t1 (pieces.ask_table (view x)) →
+pub runs : {x a b c d f y : MachineState} {t t1 t2 t3 t4 t5 t6 : ℕ} → IsAt x CASEV → Exits x a t t1 (pieces.request_table (view x)) →
     Exits a b t1 t2 (rows.where_next (view a)) → Exits b c t2 t3 (pieces.find_branch (view b)) → Exits c d t3 t4 (operands.seek (view c)) →
-    Exits d f t4 t5 (pieces.go_to_branch (view d)) → TakesBranch f y t5 t6 → RunsRow (One CASE) most_of_case_row x y t t6
+    Exits d f t4 t5 (pieces.go_to_branch (view d)) → TakesBranch f y t5 t6 → RunsRow (One CASE) bound_of_case_row x y t t6
 runs {x = x} is_at e1 e2 e3 e4 e5 goes s place source e row is =
     selects s place source (view x) e row (is_view x is_at.machine) refl e1 e2 e3 e4 e5 goes

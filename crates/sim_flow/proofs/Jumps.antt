@@ -2,7 +2,7 @@
 use Rattle.std.proofs.Common.{ℕ, ◌≡◌, ap, arith, Err, Ok, refl, Some}
 use Rattle.sim_rows.proofs.Common.{B, after_code, bound, bound_made, bound_stop, comes, comes_on, Dispatched, ShowsEnd, EXIT, exit, Exit as Ending, Exits, from}
 use Rattle.sim_rows.proofs.Common.{GEXIT, GOB, Goes, goes_in, GOEXIT, GOTO, GplState, grom_at, GromState, is_turn_end, Jump, known, leaves, MachineState, matches}
-use Rattle.sim_rows.proofs.Common.{from_dispatch, most_to_dispatch, operation_in, Plain, reaches, ShowsState, IsAt, step_jump, step_plain, Stepped, Stopped, Turned, turned_by}
+use Rattle.sim_rows.proofs.Common.{from_dispatch, bound_to_dispatch, operation_in, Plain, reaches, ShowsState, IsAt, step_jump, step_plain, Stepped, Stopped, Turned, turned_by}
 use Rattle.sim_rows.proofs.Common.{View, view, word_at}
 use Rattle.sim_rows.specs.gpl_step_defs.declared.reason.Reason.TheVariants.{Exit}
 use Rattle.sim_jumps.specs.Jumps.{GoesOn}
@@ -24,8 +24,8 @@ exits {s = s} {x = x} {y = y} {t = t} {u = u} d e is_at run =
     }) in
     let c = comes run ended in
     let b = bound_stop s Exit is in
-    turned_by x y t u most_to_dispatch (Stopped Exit) s (Err Exit) is
-    (refl, reaches most_to_dispatch (bound s) c (ap is_turn_end is_at.pc) refl (omega arith), leaves s y c.is_at c.holds)
+    turned_by x y t u bound_to_dispatch (Stopped Exit) s (Err Exit) is
+    (refl, reaches bound_to_dispatch (bound s) c (ap is_turn_end is_at.pc) refl (omega arith), leaves s y c.is_at c.holds)
 
 -- B
 module _ (s : GplState) (v : View) (d : Dispatched s v) where
@@ -61,5 +61,5 @@ module _ (s : GplState) (v : View) (d : Dispatched s v) where
       let c2 = comes_on 2 2 c1 (goes next after c1.holds.sees c1.holds.to) refl in
       let step_is = step_jump s B e in
       let m = bound_made s next (Some (Jump B)) e step_is in
-      turned_by x y t t2 most_to_dispatch Stepped s (Ok next) step_is
-      (refl, reaches most_to_dispatch (bound s) c2 (ap is_turn_end is_at.pc) refl (omega arith), matches next y c2.is_at c2.holds)
+      turned_by x y t t2 bound_to_dispatch Stepped s (Ok next) step_is
+      (refl, reaches bound_to_dispatch (bound s) c2 (ap is_turn_end is_at.pc) refl (omega arith), matches next y c2.is_at c2.holds)

@@ -25,8 +25,8 @@ test_branch v i = record {
 pub read_branch_target : (v : View) → IsView v → Leads (TAKE ∷ []) v BTARG (pieces.read_branch_target v)
 read_branch_target v i = record { by = λ f q. rw (byte_is v.grom.fetched i.grom.fetched) refl }
 
-pub ask_table : (v : View) → Leads (WHERE ∷ []) v CASEV (pieces.ask_table v)
-ask_table v = record { by = λ f q. pick (v.r.r3 == 1) (λ c. rw c refl) (λ c. rw c refl) }
+pub request_table : (v : View) → Leads (WHERE ∷ []) v CASEV (pieces.request_table v)
+request_table v = record { by = λ f q. pick (v.r.r3 == 1) (λ c. rw c refl) (λ c. rw c refl) }
 
 pub find_branch : (v : View) → Leads (SEEK ∷ []) v CASEN (pieces.find_branch v)
 find_branch v = record { by = λ f q. refl }

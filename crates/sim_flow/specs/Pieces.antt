@@ -1,4 +1,4 @@
--- What the pieces of EXIT, B, BR, BS and CASE come to: how many instructions they have, where they end, and what they
+-- What the pieces of EXIT, B, BR, BS and CASE do: how many instructions they have, where they end, and what they
 -- change of the view, in the words of the processor. Registers, cells and ports that are not named stay.
 use Rattle.std.specs.Prelude.{◌==◌, if◌then◌else◌, slice_index}
 use Rattle.sim_rows.specs.Prelude.{BTARG, CASEN, CASET, CFALSE, exclusive_or_of, Exit, exit, GEXIT, GOTO, high, join}
@@ -33,8 +33,8 @@ read_branch_target v =
     exit 8 TAKE (record v { r = record v.r { r4 = base; r6 = sum_of Word offset base }; grom = past v.grom })
 
 -- CASEV: a byte comes down, and the address after the operand is asked for.
-abbrev pub ask_table : View → Exit
-ask_table v =
+abbrev pub request_table : View → Exit
+request_table v =
     exit (if v.r.r3 == 1 then 4 else 3) WHERE (record v {
       r = record v.r { r9 = (if v.r.r3 == 1 then shifted SRL v.r.r9 8 else v.r.r9); r11 = CASEN };
     })
@@ -46,6 +46,6 @@ find_branch v =
       r = record v.r { r9 = sum_of Word (sum_of Word v.r.r9 v.r.r9) v.r.r6; r11 = CASET };
     })
 
--- CASET: the target comes to where a branch has it.
+-- CASET: the target is moved to where a branch has it.
 abbrev pub go_to_branch : View → Exit
 go_to_branch v = exit 2 TAKE (record v { r = record v.r { r6 = v.r.r9 } })

@@ -6,10 +6,10 @@ ghost use Rattle.sim_rows.specs.Prelude.{from_dispatch, operation_in_view, RunsR
 ghost use Rattle.sim_rows.specs.Prelude.{Stepped, Turned, view};
 ghost use Rattle.sim_flow.specs.Family.{is_case, is_flow};
 ghost use Rattle.sim_rows.specs.native_interp.declared.addresses.TheConstants as address;
-ghost use Rattle.sim_rows.specs.sim_view.Bounds.{most_of_case_row};
+ghost use Rattle.sim_rows.specs.sim_view.Bounds.{bound_of_case_row};
 
 use crate::pieces::{
-    ask_table, find_branch, go_to_branch, leave, read_branch_target, read_target, test_branch,
+    find_branch, go_to_branch, leave, read_branch_target, read_target, request_table, test_branch,
 };
 use sim_compare::clear_condition;
 use sim_jumps::{jump, take_jump};
@@ -52,9 +52,9 @@ fn run_branch<L: Ledger>(machine: &mut Machine, steps: &mut Steps<L>, _on: bool)
 /// Runs CASE from its row to the end of the step.
 fn run_case<L: Ledger>(machine: &mut Machine, steps: &mut Steps<L>)
     requires { IsAt machine.old address.CASEV }
-    ensures { RunsRow (One CASE) most_of_case_row machine.old machine.new steps.old steps.new }
+    ensures { RunsRow (One CASE) bound_of_case_row machine.old machine.new steps.old steps.new }
 {
-    ask_table(machine, steps);
+    request_table(machine, steps);
     where_next(machine, steps);
     find_branch(machine, steps);
     seek_address(machine, steps);

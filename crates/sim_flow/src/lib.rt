@@ -7,5 +7,5 @@ mod pieces;
 
 pub use family::run_flow;
 pub use pieces::{
-    ask_table, find_branch, go_to_branch, leave, read_branch_target, read_target, test_branch,
+    find_branch, go_to_branch, leave, read_branch_target, read_target, request_table, test_branch,
 };

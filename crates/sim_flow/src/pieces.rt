@@ -42,9 +42,9 @@ pub fn read_branch_target<L: Ledger>(machine: &mut Machine, steps: &mut Steps<L>
 }
 
 /// The piece of CASE that takes its number and asks WHERE for the address of the table.
-pub fn ask_table<L: Ledger>(machine: &mut Machine, steps: &mut Steps<L>)
+pub fn request_table<L: Ledger>(machine: &mut Machine, steps: &mut Steps<L>)
     requires { IsAt machine.old address.CASEV }
-    ensures { Exits machine.old machine.new steps.old steps.new (piece.ask_table (view machine.old)) }
+    ensures { Exits machine.old machine.new steps.old steps.new (piece.request_table (view machine.old)) }
 {
     run_piece(machine, steps, &[WHERE]);
 }

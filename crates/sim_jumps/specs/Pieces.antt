@@ -1,4 +1,4 @@
--- What the pieces of a jump come to: how many instructions they have, where they end, and what they change of the view,
+-- What the pieces of a jump do: how many instructions they have, where they end, and what they change of the view,
 -- in the words of the processor. Registers, cells and ports that are not named stay.
 use Rattle.std.specs.Prelude.{slice_index, slice_set}
 use Rattle.sim_rows.specs.Prelude.{Byte, CONDITION_BIT, Exit, exit, GOTO, GSTEP, join, ones_cleared, with_grom_address}

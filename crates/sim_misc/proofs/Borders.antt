@@ -1,7 +1,7 @@
 -- BACK from its dispatch to the end of the step.
 use Rattle.std.proofs.Common.{ℕ, ◌∙◌, ◌≡◌, ap, arith, None, Ok, refl, slice_index, slice_set, Some}
 use Rattle.sim_rows.proofs.Common.{BACK, after_code, bound, bound_made, comes, Dispatched, Exits, finished, GOBACK, Goes, GplState, GromState, GSTEP, is_turn_end}
-use Rattle.sim_rows.proofs.Common.{from_dispatch, MachineState, matches, most_to_dispatch, next_in_grom, operation_in, past, reaches, ShowsState, IsAt, step_byte, Stepped, Turned}
+use Rattle.sim_rows.proofs.Common.{from_dispatch, MachineState, matches, bound_to_dispatch, next_in_grom, operation_in, past, reaches, ShowsState, IsAt, step_byte, Stepped, Turned}
 use Rattle.sim_rows.proofs.Common.{turned_by, unchanged, vdp_address_written, VdpState, View, view, with_register}
 use Rattle.sim_rows.specs.gpl_defs.declared.instruction.GplOperation.TheVariants.{Byte}
 use Rattle.sim_misc.specs.Pieces as pieces
@@ -38,5 +38,5 @@ borders {s = s} {x = x} {y = y} {t = t} {u = u} d is is_at set =
     let c = comes set (border_goes s (view x) d) in
     let step_is = step_byte s BACK is in
     let b = bound_made s (next s) (Some (Byte BACK)) is step_is in
-    turned_by x y t u most_to_dispatch Stepped s (Ok (next s)) step_is
-    (refl, reaches most_to_dispatch (bound s) c (ap is_turn_end is_at.pc) refl (omega arith), matches (next s) y c.is_at c.holds)
+    turned_by x y t u bound_to_dispatch Stepped s (Ok (next s)) step_is
+    (refl, reaches bound_to_dispatch (bound s) c (ap is_turn_end is_at.pc) refl (omega arith), matches (next s) y c.is_at c.holds)

@@ -2,7 +2,7 @@
 use Rattle.std.proofs.Common.{ℕ, ◌<◌, ◌∙◌, ◌≡◌, ap, arith, Option, refl, Some, subst, sym, true}
 use Rattle.sim_rows.specs.Prelude.{AtEntry, HasStarted}
 use Rattle.sim_rows.proofs.Common.{AtDispatch, Byte, EX, GplOperation, GplState, is_row, IsVisible, LoadsFrom, LoadsFromSource, MachineState}
-use Rattle.sim_rows.proofs.Common.{most_of_exchange_row, operation_entry, operation_in_view, Place, row_width, RunsRow, size_of, space_small}
+use Rattle.sim_rows.proofs.Common.{bound_of_exchange_row, operation_entry, operation_in_view, Place, row_width, RunsRow, size_of, space_small}
 use Rattle.sim_rows.proofs.Common.{from_dispatch, IsAt, state_at_dispatch, Stepped, Turned, Two, TwoName, view, visible_of, Width, Word}
 use Rattle.sim_rows.proofs.WholeRows.{source_visible}
 use Rattle.sim_misc.specs.Family.{is_exchange, is_misc}
@@ -67,6 +67,6 @@ module _ {x y : MachineState} {t u : ℕ} {op : GplOperation} {found : Option Gp
       visible_of from.0 (size_of (row_width s)) (view y).r.r5 (view y).r.r2 (view y).r.r3 loads.space loads.address b.comes.holds.holds.bytes_are
       (some_bytes (row_width s)) lies
 
-  pub turned : {z : MachineState} {v : ℕ} → RunsRow (Two EX) most_of_exchange_row y z u v → Turned s x z (from_dispatch t v) Stepped
+  pub turned : {z : MachineState} {v : ℕ} → RunsRow (Two EX) bound_of_exchange_row y z u v → Turned s x z (from_dispatch t v) Stepped
   turned {z = z} {v = v} r =
-      family.turned rows at is l 67 (omega arith) (subst (λ (o : GplOperation). RunsRow o most_of_exchange_row y z u v) (sym alone) r)
+      family.turned rows at is l 67 (omega arith) (subst (λ (o : GplOperation). RunsRow o bound_of_exchange_row y z u v) (sym alone) r)

@@ -5,7 +5,7 @@ use Rattle.std.proofs.lemmas.Bool.{agree_below_at}
 use Rattle.sim_rows.proofs.Common.{◌>>=◌, AtRow, after_first, both, Byte, bytes_by, changed_again, ChangedFrom, Changes, code_byte, code_fits, ReachesWithin, comes}
 use Rattle.sim_rows.proofs.Common.{comes_on, comes_then, destination_bytes, EX, EXB, exchanged, Exits, gone_on, GplOperation, GplState, GSTEP, has_source}
 use Rattle.sim_rows.proofs.Common.{idle_again, in_register, is_immediate, is_view, IsMachine, IsVisible, LoadsFrom, LoadsFromSource, MachineState}
-use Rattle.sim_rows.proofs.Common.{most_of_store, of_register, operand_at, operands_of, operation_at, operation_in, Place, place_of, PortsAreIdle}
+use Rattle.sim_rows.proofs.Common.{bound_of_store, of_register, operand_at, operands_of, operation_at, operation_in, Place, place_of, PortsAreIdle}
 use Rattle.sim_rows.proofs.Common.{reads_destination, Reason, return_of, row_changed, row_result, row_width, second_by, SeesFinished, SeesResult, size_of}
 use Rattle.sim_rows.proofs.Common.{Source, source_at, source_of, IsAt, STO, STORE, store_then, stored_idle, StoresResult, StoresValue, Storing, Two}
 use Rattle.sim_rows.proofs.Common.{two_above, unchanged, value_at, View, view, Width, width_again, width_in, with_value, Word, word_of}
@@ -137,8 +137,8 @@ module _ {x y z p : MachineState} {t u v w : ℕ} (e1 : Exits x y t u (pieces.ke
     first =
         let c1 : ReachesWithin 3 x y t u STORE (λ b. b ≡ (pieces.keep_destination (view x)).left) =
         comes e1 (record { within = omega arith; to_is = refl; holds = refl }) in
-        let c2 : ReachesWithin most_of_store y z u v EXB (ChangedFrom between (view y)) =
-        subst (λ (n : ℕ). ReachesWithin most_of_store y z u v n (ChangedFrom between (view y))) (ap return_of e1.shows)
+        let c2 : ReachesWithin bound_of_store y z u v EXB (ChangedFrom between (view y)) =
+        subst (λ (n : ℕ). ReachesWithin bound_of_store y z u v n (ChangedFrom between (view y))) (ap return_of e1.shows)
         (store_then before width place source.number y z u v storing_first stored) in
         comes_on 3 15 c1 c2 refl
 

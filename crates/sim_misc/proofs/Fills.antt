@@ -3,7 +3,7 @@ use Rattle.std.proofs.Common.{[], ℕ, ◌*◌, ◌++◌, ◌+◌, ◌<◌, ◌=
 use Rattle.std.proofs.Common.{replicate, slice_index, slice_set, Some, subst, suc, sym, true, zero}
 use Rattle.std.proofs.lemmas.Bool.{eqb-false, eqb-true, ne_eqb}
 use Rattle.sim_rows.proofs.Common.{ALL, after_code, bound, bound_made, ReachesWithin, comes, comes_as, comes_then, difference_of, Dispatched, Exits, FILL, finished}
-use Rattle.sim_rows.proofs.Common.{GOALL, Goes, GplState, grom_at, GromState, GSTEP, high, high-join, is_turn_end, is_view, MachineState, matches, most_to_dispatch}
+use Rattle.sim_rows.proofs.Common.{GOALL, Goes, GplState, grom_at, GromState, GSTEP, high, high-join, is_turn_end, is_view, MachineState, matches, bound_to_dispatch}
 use Rattle.sim_rows.proofs.Common.{from_dispatch, next_in_grom, operation_in, past, pick, reaches, ShowsState, IsAt, step_byte, Stepped, Turned, turned_by, with_video_address}
 use Rattle.sim_rows.proofs.Common.{unchanged, vdp_data_written, VdpState, View, view, with_immediate, Word}
 use Rattle.sim_rows.specs.gpl_defs.declared.instruction.GplOperation.TheVariants.{Byte}
@@ -152,5 +152,5 @@ fills {s = s} {x = x} {z = z} {t = t} {u = u} is_at d is made all h =
     let seen = all_seen s made (view z) all c.holds in
     let step_is = step_byte s ALL is in
     let b = bound_made s (next s) (Some (Byte ALL)) is step_is in
-    turned_by x z t u most_to_dispatch Stepped s (Ok (next s)) step_is
-    (refl, reaches most_to_dispatch (bound s) h (ap is_turn_end is_at.pc) (ap is_turn_end (ap place all)) (omega arith), matches (next s) z there seen)
+    turned_by x z t u bound_to_dispatch Stepped s (Ok (next s)) step_is
+    (refl, reaches bound_to_dispatch (bound s) h (ap is_turn_end is_at.pc) (ap is_turn_end (ap place all)) (omega arith), matches (next s) z there seen)

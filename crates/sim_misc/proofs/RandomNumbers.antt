@@ -1,7 +1,7 @@
 -- RAND from its dispatch to the end of the step.
 use Rattle.std.proofs.Common.{ℕ, ◌%◌, ◌+◌, ◌∙◌, ◌≡◌, ap, arith, List, Ok, refl, slice_index, slice_set, Some}
 use Rattle.sim_rows.proofs.Common.{after_code, bound, bound_made, comes, comes_then, Dispatched, drawn, Exits, finished, from, Goes, GORAND, GplState}
-use Rattle.sim_rows.proofs.Common.{GromState, GSTEP, is_turn_end, just, MachineState, matches, most_to_dispatch, next_in_grom, next_seed, operation_in, past, RAND}
+use Rattle.sim_rows.proofs.Common.{GromState, GSTEP, is_turn_end, just, MachineState, matches, bound_to_dispatch, next_in_grom, next_seed, operation_in, past, RAND}
 use Rattle.sim_rows.proofs.Common.{from_dispatch, RANDL, RANDOM, reaches, SEED, ShowsState, IsAt, step_byte, Stepped, swapped, Turned, turned_by, unchanged, View, view}
 use Rattle.sim_rows.proofs.Common.{with_word_in, word_in}
 use Rattle.sim_rows.specs.gpl_defs.declared.instruction.GplOperation.TheVariants.{Byte}
@@ -40,5 +40,5 @@ draws {s = s} {x = x} {y = y} {t = t} {v = v} d is is_at first second =
     let c2 = comes_then 9 8 c1 second (from pieces.draw_number c1.holds (drawn_goes s (view x) d)) refl in
     let step_is = step_byte s RAND is in
     let b = bound_made s (next s) (Some (Byte RAND)) is step_is in
-    turned_by x y t v most_to_dispatch Stepped s (Ok (next s)) step_is
-    (refl, reaches most_to_dispatch (bound s) c2 (ap is_turn_end is_at.pc) refl (omega arith), matches (next s) y c2.is_at c2.holds)
+    turned_by x y t v bound_to_dispatch Stepped s (Ok (next s)) step_is
+    (refl, reaches bound_to_dispatch (bound s) c2 (ap is_turn_end is_at.pc) refl (omega arith), matches (next s) y c2.is_at c2.holds)

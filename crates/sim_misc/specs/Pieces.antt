@@ -1,4 +1,4 @@
--- What the pieces of EX, RAND, BACK and ALL come to: how many instructions they have, where they end, and what they
+-- What the pieces of EX, RAND, BACK and ALL do: how many instructions they have, where they end, and what they
 -- change of the view, in the words of the processor. Registers, cells and ports that are not named stay.
 use Rattle.std.specs.Prelude.{ℕ, ◌%◌, ◌+◌, ◌/◌, ◌==◌, if◌then◌else◌, slice_set}
 use Rattle.sim_rows.specs.Prelude.{difference_of, EXB, Exit, exit, FILL, GSTEP, high, join, low, past, product_of}

@@ -4,7 +4,7 @@ ghost use Rattle.std.specs.Prelude.{◌<◌};
 ghost use Rattle.sim_rows.specs.Prelude.{AtDispatch, AtEntry, EX, IsVisible, RunsRow};
 ghost use Rattle.sim_rows.specs.Prelude.{from_dispatch, state_at_dispatch, Turned, Two, view};
 ghost use Rattle.sim_misc.specs.Family.{is_exchange, is_misc};
-ghost use Rattle.sim_rows.specs.sim_view.Bounds.{most_of_exchange_row};
+ghost use Rattle.sim_rows.specs.sim_view.Bounds.{bound_of_exchange_row};
 
 use crate::border::run_border;
 use crate::pieces::{keep_destination, turn_to_source};
@@ -21,7 +21,7 @@ fn run_exchange<L: Ledger>(machine: &mut Machine, steps: &mut Steps<L>)
     requires entry { AtEntry is_exchange (Two EX) machine.old }
     requires source_space { (view machine.old).r.r5 < 2 }
     requires source_visible { let r = (view machine.old).r in IsVisible r.r5 r.r2 r.r3 }
-    ensures { RunsRow (Two EX) most_of_exchange_row machine.old machine.new steps.old steps.new }
+    ensures { RunsRow (Two EX) bound_of_exchange_row machine.old machine.new steps.old steps.new }
 {
     keep_destination(machine, steps);
     run_store(machine, steps);

@@ -5,7 +5,7 @@ use Rattle.std.proofs.lemmas.Bool.{eqb-false, eqb-true, le-ltb, lt-ltb}
 use Rattle.std.proofs.Math.Nat.{pos_of_ne-zero}
 use Rattle.sim_rows.proofs.Common.{byte_from, byte_in, Changes, ReachesWithin, comes_as, COPY, Cpu, difference_of, From, FromGrom, FromMemory, GplState}
 use Rattle.sim_rows.proofs.Common.{grom_at}
-use Rattle.sim_rows.proofs.Common.{GromState, idle_grom, ports_are_idle, idle_video, is_view, IsFetched, LoadsFrom, MachineState, most_of_byte}
+use Rattle.sim_rows.proofs.Common.{GromState, idle_grom, ports_are_idle, idle_video, is_view, IsFetched, LoadsFrom, MachineState, bound_of_byte}
 use Rattle.sim_rows.proofs.Common.{next_from, next_in_grom, next_to, pick, Place, place_in, place_is, previous-next, Space}
 use Rattle.sim_rows.proofs.Common.{space_small, state_of, sum_of, To, ToMemory, ToRegisters, Vdp, View, view, with_byte_to, Word}
 use Rattle.sim_move.specs.Copying.{Copying, InGrom, HoldsSource, HoldsTarget}
@@ -103,7 +103,7 @@ all_made c from to v k = by from k.holds_source
 -- ---- on the machine
 
 module _ {x y : MachineState} {t u : ℕ} (h : AtCopy x) (here : x.cpu.pc ≡ COPY) (some : ByRoutines (view x))
-    (goes : ReachesWithin most_of_byte x y t u y.cpu.pc (Counted (view x))) (there : y.cpu.pc ≡ (if (view y).r.r12 == 0 then COPYE else COPY)) where
+    (goes : ReachesWithin bound_of_byte x y t u y.cpu.pc (Counted (view x))) (there : y.cpu.pc ≡ (if (view y).r.r12 == 0 then COPYE else COPY)) where
   abbrev v : View
   v = view x
 
@@ -189,8 +189,8 @@ module _ {x y : MachineState} {t u : ℕ} (h : AtCopy x) (here : x.cpu.pc ≡ CO
           (ap (λ (u : View). u.grom.half_written) goes.holds.is ∙ idle_after (source_in v) v.grom (idle_grom x.cpu.memory h.idle));
     };
     left = left_is;
-    most = most_of_byte;
-    comes = comes_as most_of_byte (λ (u : View). Unit {0}) goes (omega arith) (λ u q. tt);
+    most = bound_of_byte;
+    comes = comes_as bound_of_byte (λ (u : View). Unit {0}) goes (omega arith) (λ u q. tt);
     within = let none : charged x.cpu.pc ≡ 0 = ap charged here in omega arith;
     copies = λ c from o bytes k. copying (with_byte_to o (byte_from from c.state) c) (next_from from) (next_to o) bytes
         (copied_one c from o bytes (copying_by_routines k here));

@@ -65,7 +65,7 @@ module _ (v : View) (i : IsView v) (held : v.vdp.held ≡ None) (fetched : IsFet
       (ap (λ (u : View). u.cells) same ∙ k.cells) (ap (λ (u : View). u.vdp.memory) same ∙ k.vdp) (ap (λ (u : View). u.vdp.registers) same ∙ k.registers)
       (ap (λ (u : View). u.vdp.held) same ∙ held) (ap (λ (u : View). u.grom) same ∙ grom) f g (ap (λ (u : View). u.r.r12) same ∙ k.left) m a b
 
-  -- a copy that has come to its way
+  -- a copy that has reached its way
   on_way : (way : CopyPath) (count : ℕ) (w : View) (source : ℕ) → count ≤ 18 → MayGo way w → Same w → source_in v ≡ from_on way source →
       target_in v ≡ to_on way v.r.r7 →
       ((c : Changes) → (bytes : ℕ) → Copying c (from_on way source) (to_on way v.r.r7) bytes v → GoesBack c (from_on way source) w

@@ -1,7 +1,7 @@
 -- MOVE from its dispatch to the end of the step.
 use Rattle.std.proofs.Common.{ℕ, ◌*◌, ◌+◌, ◌≡◌, ap, arith, Err, false, None, Ok, refl, Some, subst, sym, true}
 use Rattle.sim_rows.proofs.Common.{bound, bound_stop, Changes, comes_on, fetched_of, finished, From, FromGrom, FromMemory, GOMOVE, GplState, grom_at, GSTOP}
-use Rattle.sim_rows.proofs.Common.{idle_of, is_exit, is_turn_end, MachineState, matches, most_to_dispatch, Move, MOVEB, MoveKind, Moving, never_exits}
+use Rattle.sim_rows.proofs.Common.{idle_of, is_exit, is_turn_end, MachineState, matches, bound_to_dispatch, Move, MOVEB, MoveKind, Moving, never_exits}
 use Rattle.sim_rows.proofs.Common.{number_of, operation_in, reaches, ReachesWithin, Reason, StoppedBy}
 use Rattle.sim_rows.proofs.Common.{from_dispatch, ShowsState, IsAt, Stepped, Stopped, stops, Turned, turned_by, View, view, WORKSPACE}
 use Rattle.sim_move.specs.Copying.{CopiesBytes, MayCopy, HoldsSource}
@@ -60,8 +60,8 @@ module _ (s : GplState) {x a : MachineState} {t t1 : ℕ} (is_at : IsAt x GOMOVE
           let same : given ≡ m.0 = cc in
           let P : Reason → Type 0 = λ r. Turned s x a (from_dispatch t t1) (Stopped r) in
           subst P (sym same)
-          (turned_by x a t t1 most_to_dispatch (Stopped m.0) s (Err m.0) e
-          (refl, reaches most_to_dispatch (bound s) m.2 start refl (omega arith), stops s m.0 a (never_exits s m.0 (ap is_exit known) e) m.2.is_at m.2.holds))
+          (turned_by x a t t1 bound_to_dispatch (Stopped m.0) s (Err m.0) e
+          (refl, reaches bound_to_dispatch (bound s) m.2 start refl (omega arith), stops s m.0 a (never_exits s m.0 (ap is_exit known) e) m.2.is_at m.2.holds))
 
     -- all is found
     module _ (away : a.cpu.pc ≡ GSTOP → ⊥) where
@@ -95,4 +95,4 @@ module _ (s : GplState) {x a : MachineState} {t t1 : ℕ} (is_at : IsAt x GOMOVE
           let c = comes_on 160 (31 * bytes + 41) g.2 (copies (begun kind s) g.0.from g.0.to bytes g.2.holds) refl in
           let e = step_copies s kind known g.0 g.1 in
           let b = bound_is s kind known g.0 g.1 in
-          turned_by x y t t2 most_to_dispatch Stepped s (Ok next) e (refl, reaches most_to_dispatch (bound s) c start refl (omega arith), matches next y c.is_at c.holds)
+          turned_by x y t t2 bound_to_dispatch Stepped s (Ok next) e (refl, reaches bound_to_dispatch (bound s) c start refl (omega arith), matches next y c.is_at c.holds)

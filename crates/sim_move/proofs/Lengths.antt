@@ -26,7 +26,7 @@ abbrev following : View → View
 following v = record v { r = record v.r { r3 = 2; r4 = shifted SRL v.r.r0 1; r5 = 2; r13 = 0 } }
 
 -- The first piece never stops.
-pub asks_on : (v : View) → is_turn_end (pieces.ask_length v).to ≡ false
+pub asks_on : (v : View) → is_turn_end (pieces.request_length v).to ≡ false
 asks_on v = pick (last_out SRL v.r.r0 1) (λ a. rw a refl) (λ a. rw a refl)
 
 -- ---- the length is loaded

@@ -8,8 +8,8 @@ use Rattle.sim_move.specs.Pieces as pieces
 use Rattle.sim_rows.specs.native_interp.declared.addresses.TheConstants.{MOVERC}
 use Rattle.sim_rows.proofs.Facts.{from_limit}
 
-pub ask_length : (v : View) → Leads (ADDR ∷ MOVEN ∷ []) v GOMOVE (pieces.ask_length v)
-ask_length v = record { by = λ f q. pick (last_out SRL v.r.r0 1) (λ c. rw c refl) (λ c. rw c refl) }
+pub request_length : (v : View) → Leads (ADDR ∷ MOVEN ∷ []) v GOMOVE (pieces.request_length v)
+request_length v = record { by = λ f q. pick (last_out SRL v.r.r0 1) (λ c. rw c refl) (λ c. rw c refl) }
 
 pub load_length : (v : View) → Leads (LOAD ∷ []) v MOVEN (pieces.load_length v)
 load_length v = record { by = λ f q. refl }
@@ -50,14 +50,14 @@ registers_checked v = record {
 pub check_registers : (v : View) → IsView v → Leads (MOVES ∷ []) v MOVER (pieces.check_registers v)
 check_registers v i = leads (MOVES ∷ []) (part_then (MOVES ∷ []) 3 0 13 (number_read v i) (registers_checked v))
 
-pub ask_source : (v : View) → Leads (STREAM ∷ []) v MOVES (pieces.ask_source v)
-ask_source v = record { by = λ f q. refl }
+pub request_source : (v : View) → Leads (STREAM ∷ []) v MOVES (pieces.request_source v)
+request_source v = record { by = λ f q. refl }
 
-pub ask_index : (v : View) → Leads (INDEX ∷ []) v MOVEA (pieces.ask_index v)
-ask_index v = record { by = λ f q. refl }
+pub request_index : (v : View) → Leads (INDEX ∷ []) v MOVEA (pieces.request_index v)
+request_index v = record { by = λ f q. refl }
 
-pub ask_next : (v : View) → Leads (WHERE ∷ []) v MOVEX (pieces.ask_next v)
-ask_next v = record { by = λ f q. refl }
+pub request_next : (v : View) → Leads (WHERE ∷ []) v MOVEX (pieces.request_next v)
+request_next v = record { by = λ f q. refl }
 
 pub seek_source : (v : View) → Leads (SEEK ∷ []) v MOVEW (pieces.seek_source v)
 seek_source v = record { by = λ f q. refl }

@@ -4,13 +4,13 @@ use Rattle.std.proofs.Common.{slice_set, subst, sym}
 use Rattle.std.proofs.lemmas.Bool.{ltb-false, ltb-true}
 use Rattle.sim_rows.proofs.Common.{byte_from, Changes, ReachesWithin, comes, comes_as, comes_on, comes_then, COPY, COPYN, COPYS, difference_of, Exits, From}
 use Rattle.sim_rows.proofs.Common.{FromGrom, FromMemory, grom_at, GromState, high, idle_again, idle_grom, ports_are_idle, idle_video, in_register}
-use Rattle.sim_rows.proofs.Common.{IsFetched, IsVisible, join, LOAD, Loaded, LoadsStream, LoadsValue, MachineState, Memory, most_of_byte}
-use Rattle.sim_rows.proofs.Common.{most_of_load, next_at, next_in_grom, pick, Place, place_in, PortsAreIdle, return_of}
+use Rattle.sim_rows.proofs.Common.{IsFetched, IsVisible, join, LOAD, Loaded, LoadsStream, LoadsValue, MachineState, Memory, bound_of_byte}
+use Rattle.sim_rows.proofs.Common.{bound_of_load, next_at, next_in_grom, pick, Place, place_in, PortsAreIdle, return_of}
 use Rattle.sim_rows.proofs.Common.{IsAt, state_of, STORE, Stored, StoresRegister, streamed, sum_of, To, ToMemory, ToRegisters, unchanged}
 use Rattle.sim_rows.proofs.Common.{value_at, View, view, view_of, width_in, with_register, Word}
 use Rattle.sim_rows.specs.gpl_defs.Reading.{value_at as value_in}
 use Rattle.sim_move.specs.Bytes.{AtCopy, ByRoutines}
-use Rattle.sim_rows.specs.sim_view.Bounds.{most_of_register_store}
+use Rattle.sim_rows.specs.sim_view.Bounds.{bound_of_register_store}
 use Rattle.sim_move.specs.CopyPieces as pieces
 use Rattle.sim_rows.specs.native_interp.declared.addresses.TheConstants.{COPYE}
 
@@ -96,11 +96,11 @@ stream_read v w one e =
 
 loads : (a b : MachineState) (t u : ℕ) → (view a).r.r3 ≡ 1 → IsFetched a.cpu.memory.grom → ((view a).r.r5 < 2 → LoadsValue a b t u) →
     (1 < (view a).r.r5 → IsFetched a.cpu.memory.grom → LoadsStream a b t u)
-    → ReachesWithin most_of_load a b t u (return_of (view a)) (ReadFrom (view a) (source_in (view a)))
+    → ReachesWithin bound_of_load a b t u (return_of (view a)) (ReadFrom (view a) (source_in (view a)))
 loads a b t u one fetched near far =
     let v : View = view a in
     let place : Place = place_in v.r.r5 v.r.r2 in
-    let to : Bool → Type 0 = λ c. ReachesWithin most_of_load a b t u (return_of v) (ReadFrom v (if c then FromMemory place else FromGrom (next_at v))) in
+    let to : Bool → Type 0 = λ c. ReachesWithin bound_of_load a b t u (return_of v) (ReadFrom v (if c then FromMemory place else FromGrom (next_at v))) in
     pick (nat_lt v.r.r5 2)
     (λ c. subst to (sym c) (comes_as 15 (ReadFrom v (FromMemory place)) (near (ltb-true v.r.r5 2 c)) (omega arith) (λ w l. value_read v w place one l)))
     (λ c. let above : 1 < v.r.r5 = let le = ltb-false v.r.r5 2 c in omega arith in
@@ -146,8 +146,8 @@ module _ {x a : MachineState} {t t1 : ℕ} (h : AtCopy x) (left : ByRoutines (vi
 
   module _ {b : MachineState} {t2 : ℕ} (near : (view a).r.r5 < 2 → LoadsValue a b t1 t2) (far : 1 < (view a).r.r5 → IsFetched a.cpu.memory.grom →
       LoadsStream a b t1 t2) where
-    loaded : ReachesWithin most_of_load a b t1 t2 COPYS (ReadFrom (view a) (source_in (view a)))
-    loaded = subst (λ (p : ℕ). ReachesWithin most_of_load a b t1 t2 p (ReadFrom (view a) (source_in (view a)))) (ap return_of e.shows)
+    loaded : ReachesWithin bound_of_load a b t1 t2 COPYS (ReadFrom (view a) (source_in (view a)))
+    loaded = subst (λ (p : ℕ). ReachesWithin bound_of_load a b t1 t2 p (ReadFrom (view a) (source_in (view a)))) (ap return_of e.shows)
         (loads a b t1 t2 one_asked fetched_asked near far)
 
     pub at_read : IsAt b COPYS
@@ -195,10 +195,10 @@ module _ {x a : MachineState} {t t1 : ℕ} (h : AtCopy x) (left : ByRoutines (vi
 
       module _ {k : MachineState} {t4 : ℕ}
           (register : 1 < (view d).r.r8 → (view d).r.r7 < 8 → StoresRegister d k t3 t4) where
-        stored : ReachesWithin most_of_register_store d k t3 t4 COPYN (Stored (view d) (stored_in (view d)))
+        stored : ReachesWithin bound_of_register_store d k t3 t4 COPYN (Stored (view d) (stored_in (view d)))
         stored =
             let after : View → Type 0 = Stored (view d) (stored_in (view d)) in
-            subst (λ (p : ℕ). ReachesWithin most_of_register_store d k t3 t4 p after) (ap return_of seen_d)
+            subst (λ (p : ℕ). ReachesWithin bound_of_register_store d k t3 t4 p after) (ap return_of seen_d)
             (register beyond there)
 
         pub at_stored : IsAt k COPYN
@@ -236,7 +236,7 @@ module _ {x a : MachineState} {t t1 : ℕ} (h : AtCopy x) (left : ByRoutines (vi
                 is = seen_y;
               }
 
-          pub goes : ReachesWithin most_of_byte x y t t5 y.cpu.pc (Counted v)
+          pub goes : ReachesWithin bound_of_byte x y t t5 y.cpu.pc (Counted v)
           goes =
               let c1 : ReachesWithin 1 x a t t1 LOAD (λ u. u ≡ asked v) = comes e (record { within = omega arith; to_is = refl; holds = refl }) in
               let c2 = comes_on 1 15 c1 loaded refl in

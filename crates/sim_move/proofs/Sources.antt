@@ -29,7 +29,7 @@ returns_by w video =
 
 pub source_returns : (v : View) → ((index_source v).to == GSTOP) ≡ false → (index_source v).to ≡ MOVEX
 source_returns v on =
-    returns_by (pieces.ask_index (operands.stream (pieces.ask_source v).left).left).left (form_odd v.r.r0) on
+    returns_by (pieces.request_index (operands.stream (pieces.request_source v).left).left).left (form_odd v.r.r0) on
 
 module _ (s : GplState) (next : ℕ) (found : ℕ × To) (u : View) (fits : code_byte s < 256) where
   abbrev at_source : View

@@ -5,7 +5,7 @@ use Rattle.sim_move.proofs.Places.{all_copied, at_end, runs_on}
 use Rattle.sim_move.specs.Bytes.{AtCopy, charged, Copied, CopiesByte, CopiesRest, CopyingAt}
 use Rattle.sim_rows.specs.native_interp.declared.addresses.TheConstants.{COPYE}
 
--- What is left of a copy, of which some bytes are made: it comes to the same as the whole.
+-- What is left of a copy, of which some bytes are made: it does the same as the whole.
 pub record Rest (whole : Changes) (z : MachineState) : Type 0 where
   pub changes : Changes
   pub from : From

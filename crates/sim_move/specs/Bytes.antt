@@ -8,7 +8,7 @@ use Rattle.sim_rows.specs.Prelude.{sum_of, VISIBLE_CELLS, with_byte_to, with_pc,
 use Rattle.sim_move.specs.Copying.{Copying}
 use Rattle.sim_move.specs.CopyPieces.{CellsToCells, CellsToVideo, first_cell, GromToCells, GromToVideo, head_of}
 use Rattle.sim_move.specs.CopyPieces.{VideoToCells, VideoToVideo, CopyPath}
-use Rattle.sim_rows.specs.sim_view.Bounds.{most_of_byte, most_to_end_copy}
+use Rattle.sim_rows.specs.sim_view.Bounds.{bound_of_byte, bound_to_end_copy}
 use Rattle.sim_rows.specs.native_interp.declared.addresses.TheConstants.{COPYE}
 
 -- A pointer to cells, at which a number of bytes may be, one at least.
@@ -141,7 +141,7 @@ pub record CopiesByte (x y : MachineState) (before after : ℕ) : Type 0 where
   pub left : (view y).r.r12 ≡ (view x).r.r12 - 1
   pub most : ℕ
   pub comes : ReachesWithin most x y before after y.cpu.pc (λ v. Unit {0})
-  pub within : most + charged x.cpu.pc ≤ most_of_byte + charged y.cpu.pc
+  pub within : most + charged x.cpu.pc ≤ bound_of_byte + charged y.cpu.pc
   pub copies : (c : Changes) → (from : From) → (to : To) → (bytes : ℕ)
       → CopyingAt x.cpu.pc c from to (suc bytes) (view x)
       → CopyingAt y.cpu.pc (with_byte_to to (byte_from from c.state) c) (next_from from) (next_to to) bytes (view y)
@@ -150,7 +150,7 @@ pub record CopiesByte (x y : MachineState) (before after : ℕ) : Type 0 where
 pub record CopiesRest (x y : MachineState) (before after : ℕ) : Type 0 where
   pub most : ℕ
   pub comes : ReachesWithin most x y before after COPYE (λ v. Unit {0})
-  pub within : most + charged x.cpu.pc ≤ most_of_byte * (view x).r.r12
+  pub within : most + charged x.cpu.pc ≤ bound_of_byte * (view x).r.r12
   pub copies : (c : Changes) → (from : From) → (to : To) → (bytes : ℕ)
       → CopyingAt x.cpu.pc c from to bytes (view x) → (view x).r.r12 ≡ bytes
       → Copied (copied bytes from to c) (view y)
@@ -158,4 +158,4 @@ pub record CopiesRest (x y : MachineState) (before after : ℕ) : Type 0 where
 -- The step ends with what was copied.
 abbrev pub EndsCopy : MachineState → MachineState → ℕ → ℕ → Type 0
 EndsCopy x y before after =
-    (c : Changes) → Copied c (view x) → ReachesWithin most_to_end_copy x y before after GSTEP (SeesFinished c)
+    (c : Changes) → Copied c (view x) → ReachesWithin bound_to_end_copy x y before after GSTEP (SeesFinished c)

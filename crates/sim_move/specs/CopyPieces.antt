@@ -1,4 +1,4 @@
--- What the pieces of MOVE's copy come to: how many instructions they have, where they end, and what they change of the
+-- What the pieces of MOVE's copy do: how many instructions they have, where they end, and what they change of the
 -- view, in the words of the processor. Registers, cells and ports that are not named stay.
 use Rattle.std.specs.Prelude.{ℕ, ◌+◌, ◌-◌, ◌==◌, Bool, if◌then◌else◌, nat_lt, slice_index, slice_set}
 use Rattle.sim_rows.specs.Prelude.{CHARACTER, conjunction_of, COPY, COPYN, COPYS, difference_of, Exit, exit, high, join}

@@ -3,7 +3,7 @@ use Rattle.std.specs.Prelude.{ℕ, ◌*◌, ◌+◌, ◌<◌, ◌≡◌, ◌≤�
 use Rattle.sim_rows.specs.Prelude.{Changes, ReachesWithin, copied, From, FromGrom, FromMemory, grom_at, GSTEP}
 use Rattle.sim_rows.specs.Prelude.{IsFetched, LoadsFrom, MachineState, marked_by, MOVEB, Place, PortsAreIdle}
 use Rattle.sim_rows.specs.Prelude.{SeesFinished, IsAt, StoresTo, To, ToMemory, ToRegisters, View, view, VISIBLE_CELLS}
-use Rattle.sim_rows.specs.sim_view.Bounds.{most_beside_bytes, most_of_byte}
+use Rattle.sim_rows.specs.sim_view.Bounds.{most_beside_bytes, bound_of_byte}
 
 -- A source in memory: its place is in registers 2 and 5, and GROM gives the byte of the next instruction.
 pub record InMemory (c : Changes) (place : Place) (w : View) : Type 0 where
@@ -56,5 +56,5 @@ pub record MayCopy (x : MachineState) : Type 0 where
 abbrev pub CopiesBytes : MachineState → MachineState → ℕ → ℕ → Type 0
 CopiesBytes x y before after =
     (c : Changes) → (from : From) → (to : To) → (bytes : ℕ) → Copying c from to bytes (view x)
-    → ReachesWithin (most_of_byte * bytes + most_beside_bytes) x y before after GSTEP
+    → ReachesWithin (bound_of_byte * bytes + most_beside_bytes) x y before after GSTEP
     (SeesFinished (copied bytes from to c))

@@ -4,7 +4,7 @@ use Rattle.sim_rows.specs.Prelude.{after_code, Changes, code_byte, from_at, GplS
 use Rattle.sim_rows.specs.Prelude.{Move, move_found, MOVEB, MoveKind, MoveLength, MoveSource, MoveTarget, Moving}
 use Rattle.sim_rows.specs.Prelude.{operation_in, ReachesWithin, Reason, StoppedBy, target_at, unchanged, View}
 use Rattle.sim_move.specs.Copying.{Copying}
-use Rattle.sim_rows.specs.sim_view.Bounds.{most_to_copy}
+use Rattle.sim_rows.specs.sim_view.Bounds.{bound_to_copy}
 
 -- What the bytes after the code byte say, each part with the address after it.
 abbrev pub length_read : GplState → MoveLength × ℕ
@@ -36,4 +36,4 @@ BeforeCopy kind s found w = Copying (begun kind s) found.from found.to found.byt
 
 pub record FindsCopy (s : GplState) (x y : MachineState) (before after : ℕ) : Type 0 where
   pub by : (kind : MoveKind) → operation_in s ≡ Some (Move kind)
-      → Arrives most_to_copy s x y before after MOVEB (BeforeCopy kind s) (found_in kind s)
+      → Arrives bound_to_copy s x y before after MOVEB (BeforeCopy kind s) (found_in kind s)

@@ -1,4 +1,4 @@
--- What the pieces of MOVE come to up to the copy: how many instructions they have, where they end, and what they change
+-- What the pieces of MOVE do up to the copy: how many instructions they have, where they end, and what they change
 -- of the view, in the words of the processor. Registers, cells and ports that are not named stay.
 use Rattle.std.specs.Prelude.{ℕ, if◌then◌else◌, nat_lt}
 use Rattle.sim_rows.specs.Prelude.{ADDR, conjunction_of, Exit, exit, GSTOP, INDEX, last_out, LOAD, MOVEA, MOVEB}
@@ -6,8 +6,8 @@ use Rattle.sim_rows.specs.Prelude.{MOVED, MOVEK, MOVEL, MOVEN, MOVER, MOVES, MOV
 use Rattle.sim_rows.specs.Prelude.{STREAM, sum_of, View, WHERE, Word}
 
 -- GOMOVE: where the code byte is even, ADDR is asked for the operand that holds the length.
-abbrev pub ask_length : View → Exit
-ask_length v =
+abbrev pub request_length : View → Exit
+request_length v =
     let begun = record v { r = record v.r { r3 = 2; r4 = shifted SRL v.r.r0 1; r5 = 2; r13 = 0 } } in
     if last_out SRL v.r.r0 1
     then exit 6 MOVEN begun
@@ -46,20 +46,20 @@ check_registers v =
     else exit 8 MOVES (record read { r = record read.r { r8 = 2 } })
 
 -- MOVES: STREAM is asked for the address in GROM.
-abbrev pub ask_source : View → Exit
-ask_source v = exit 2 STREAM (record v { r = record v.r { r3 = 2; r11 = MOVEA } })
+abbrev pub request_source : View → Exit
+request_source v = exit 2 STREAM (record v { r = record v.r { r3 = 2; r11 = MOVEA } })
 
 -- MOVEA: INDEX is asked for the address with its index, if the second lowest bit of the code byte says
 -- so, as a place that has no range.
 abbrev pub form_of : ℕ → ℕ
 form_of code = sum_of Word (conjunction_of code 2) 1
 
-abbrev pub ask_index : View → Exit
-ask_index v = exit 5 INDEX (record v { r = record v.r { r2 = v.r.r6; r5 = form_of v.r.r0; r11 = MOVEX } })
+abbrev pub request_index : View → Exit
+request_index v = exit 5 INDEX (record v { r = record v.r { r2 = v.r.r6; r5 = form_of v.r.r0; r11 = MOVEX } })
 
 -- MOVEX: WHERE is asked for the next address.
-abbrev pub ask_next : View → Exit
-ask_next v = exit 1 WHERE (record v { r = record v.r { r11 = MOVEW } })
+abbrev pub request_next : View → Exit
+request_next v = exit 1 WHERE (record v { r = record v.r { r11 = MOVEW } })
 
 -- MOVEW: it is kept, and SEEK is asked for the address of the source.
 abbrev pub seek_source : View → Exit

@@ -20,7 +20,7 @@ load_placed v = go_on MOVEN (find_operand v) load_count
 
 unfoldable pub find_length : View → Exit
 find_length v =
-    let asked = piece.ask_length v in
+    let asked = piece.request_length v in
     on_at ADDR asked load_placed (asked >> load_count)
 
 -- the target, and a source in memory
@@ -37,7 +37,7 @@ find_places v =
 
 -- a source in GROM: its address with the index, and the turn to it
 abbrev pub index_source : View → Exit
-index_source v = piece.ask_source v >> subroutine.stream >> piece.ask_index >> check_index
+index_source v = piece.request_source v >> subroutine.stream >> piece.request_index >> check_index
 
 abbrev pub turn_to_source : View → Exit
-turn_to_source v = piece.ask_next v >> step.where_next >> piece.seek_source >> subroutine.seek >> piece.turn_to_grom
+turn_to_source v = piece.request_next v >> step.where_next >> piece.seek_source >> subroutine.seek >> piece.turn_to_grom

@@ -7,7 +7,7 @@ ghost use Rattle.sim_rows.specs.native_interp.declared.addresses.TheConstants as
 ghost use Rattle.sim_move.specs.Rows.{IsReady};
 ghost use Rattle.sim_move.specs.Rows as row;
 
-use crate::pieces::{ask_length, load_length};
+use crate::pieces::{load_length, request_length};
 use sim_rows::labels::{ADDR, MOVEN};
 use sim_rows::processor::{Machine, Steps};
 use sim_rows::subroutines::{address_routine, load_routine};
@@ -42,7 +42,7 @@ pub(crate) fn find_length<L: Ledger>(machine: &mut Machine, steps: &mut Steps<L>
     requires dispatched { let v = view machine.old in Dispatched (state_at_dispatch v) v }
     ensures { Exits machine.old machine.new steps.old steps.new (row.find_length (view machine.old)) }
 {
-    ask_length(machine, steps);
+    request_length(machine, steps);
     if machine.pc() == ADDR {
         load_placed(machine, steps);
     } else {

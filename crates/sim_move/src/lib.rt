@@ -17,6 +17,6 @@ pub use copy_pieces::{
 };
 pub use family::run_move;
 pub use pieces::{
-    ask_index, ask_length, ask_next, ask_source, check_registers, keep_length, keep_target,
-    load_length, seek_source, turn_to_grom,
+    check_registers, keep_length, keep_target, load_length, request_index, request_length,
+    request_next, request_source, seek_source, turn_to_grom,
 };

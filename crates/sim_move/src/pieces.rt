@@ -10,9 +10,9 @@ use sim_rows::run_piece;
 use std::sync::ledger::Ledger;
 
 /// The piece of MOVE that asks ADDR for the operand that holds the length, where the code byte is even.
-pub fn ask_length<L: Ledger>(machine: &mut Machine, steps: &mut Steps<L>)
+pub fn request_length<L: Ledger>(machine: &mut Machine, steps: &mut Steps<L>)
     requires { IsAt machine.old address.GOMOVE }
-    ensures { Exits machine.old machine.new steps.old steps.new (piece.ask_length (view machine.old)) }
+    ensures { Exits machine.old machine.new steps.old steps.new (piece.request_length (view machine.old)) }
 {
     run_piece(machine, steps, &[ADDR, MOVEN]);
 }
@@ -51,25 +51,25 @@ pub fn check_registers<L: Ledger>(machine: &mut Machine, steps: &mut Steps<L>)
 }
 
 /// The piece of MOVE that asks STREAM for the address of a source in GROM.
-pub fn ask_source<L: Ledger>(machine: &mut Machine, steps: &mut Steps<L>)
+pub fn request_source<L: Ledger>(machine: &mut Machine, steps: &mut Steps<L>)
     requires { IsAt machine.old address.MOVES }
-    ensures { Exits machine.old machine.new steps.old steps.new (piece.ask_source (view machine.old)) }
+    ensures { Exits machine.old machine.new steps.old steps.new (piece.request_source (view machine.old)) }
 {
     run_piece(machine, steps, &[STREAM]);
 }
 
 /// The piece of MOVE that asks INDEX for that address with its index.
-pub fn ask_index<L: Ledger>(machine: &mut Machine, steps: &mut Steps<L>)
+pub fn request_index<L: Ledger>(machine: &mut Machine, steps: &mut Steps<L>)
     requires { IsAt machine.old address.MOVEA }
-    ensures { Exits machine.old machine.new steps.old steps.new (piece.ask_index (view machine.old)) }
+    ensures { Exits machine.old machine.new steps.old steps.new (piece.request_index (view machine.old)) }
 {
     run_piece(machine, steps, &[INDEX]);
 }
 
 /// The piece of MOVE that asks WHERE for the next address.
-pub fn ask_next<L: Ledger>(machine: &mut Machine, steps: &mut Steps<L>)
+pub fn request_next<L: Ledger>(machine: &mut Machine, steps: &mut Steps<L>)
     requires { IsAt machine.old address.MOVEX }
-    ensures { Exits machine.old machine.new steps.old steps.new (piece.ask_next (view machine.old)) }
+    ensures { Exits machine.old machine.new steps.old steps.new (piece.request_next (view machine.old)) }
 {
     run_piece(machine, steps, &[WHERE]);
 }

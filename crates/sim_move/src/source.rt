@@ -4,7 +4,7 @@ ghost use Rattle.sim_rows.specs.Prelude.{Exits, IsAt, view};
 ghost use Rattle.sim_rows.specs.native_interp.declared.addresses.TheConstants as address;
 ghost use Rattle.sim_move.specs.Rows as row;
 
-use crate::pieces::{ask_index, ask_next, ask_source, seek_source, turn_to_grom};
+use crate::pieces::{request_index, request_next, request_source, seek_source, turn_to_grom};
 use sim_rows::processor::{Machine, Steps};
 use sim_rows::subroutines::{check_index, seek_address, stream_value};
 use sim_rows::where_next;
@@ -15,9 +15,9 @@ pub(crate) fn index_source<L: Ledger>(machine: &mut Machine, steps: &mut Steps<L
     requires { IsAt machine.old address.MOVES }
     ensures { Exits machine.old machine.new steps.old steps.new (row.index_source (view machine.old)) }
 {
-    ask_source(machine, steps);
+    request_source(machine, steps);
     stream_value(machine, steps);
-    ask_index(machine, steps);
+    request_index(machine, steps);
     check_index(machine, steps);
 }
 
@@ -26,7 +26,7 @@ pub(crate) fn turn_to_source<L: Ledger>(machine: &mut Machine, steps: &mut Steps
     requires { IsAt machine.old address.MOVEX }
     ensures { Exits machine.old machine.new steps.old steps.new (row.turn_to_source (view machine.old)) }
 {
-    ask_next(machine, steps);
+    request_next(machine, steps);
     where_next(machine, steps);
     seek_source(machine, steps);
     seek_address(machine, steps);

@@ -1,7 +1,7 @@
 -- What is known of rows on views holds on the machine.
 use Rattle.std.proofs.Common.{ℕ, ◌≡◌, arith, Option, refl, Some, true}
 use Rattle.sim_rows.proofs.Common.{DIV, Exits, GplOperation, is_row, is_view, IsMachine, MachineState}
-use Rattle.sim_rows.proofs.Common.{most_of_quotient_row}
+use Rattle.sim_rows.proofs.Common.{bound_of_quotient_row}
 use Rattle.sim_rows.proofs.Common.{MUL, One, RunsRow, Two, view}
 use Rattle.sim_rows.proofs.sim_view.Routines.{comes_by, ends_in}
 use Rattle.sim_muldiv.specs.Family.{is_muldiv}
@@ -17,7 +17,7 @@ rows _ e = absurd (cc)
 
 pub runs_row : {x y : MachineState} {before after : ℕ} → IsMachine x → (op : GplOperation) →
     is_muldiv (Some op) ≡ true →
-    Exits x y before after (row op (view x)) → RunsRow op most_of_quotient_row x y before after
+    Exits x y before after (row op (view x)) → RunsRow op bound_of_quotient_row x y before after
 runs_row {x = x} machine (Two MUL) e run = λ s place source is at operands.
     comes_by run (ends_in (product (view x)) (multiplies s place source (view x) (is_view x machine) is at operands)
     (omega arith))

@@ -1,12 +1,12 @@
 -- MUL means the product: on views alone.
 use Rattle.std.proofs.Common.{ℕ, ◌*◌, ◌/◌, ◌∙◌, ◌≡◌, ap, arith, Ok, refl, Some, subst, sym}
 use Rattle.sim_rows.proofs.Common.{AtRow, further, Byte, byte_at, Changes, gone_on, GplState, GSTEP, IsView}
-use Rattle.sim_rows.proofs.Common.{most_of_product_row, MUL, operands_of, operation_in, Place, reads_destination}
+use Rattle.sim_rows.proofs.Common.{bound_of_product_row, MUL, operands_of, operation_in, Place, reads_destination}
 use Rattle.sim_rows.proofs.Common.{row_width}
 use Rattle.sim_rows.proofs.Common.{SeesFinished, Source, Two, unchanged, value_at, View, Width, with_double, with_value}
 use Rattle.sim_rows.proofs.Common.{Word}
 use Rattle.sim_rows.proofs.sim_view.Routines.{Ends, ends_in, first}
-use Rattle.sim_rows.proofs.Routines.{ask_store_first, row_finishes}
+use Rattle.sim_rows.proofs.Routines.{request_store_first, row_finishes}
 use Rattle.sim_rows.proofs.RowViews.{asks, row_view, seen_with}
 use Rattle.sim_rows.specs.Routines.{finish_row}
 use Rattle.sim_muldiv.specs.Family.{is_muldiv}
@@ -23,7 +23,7 @@ module _ (s : GplState) (place : Place) (source : ℕ) (u : View) where
   c = unchanged (gone_on s)
 
   abbrev Means : Width → Type 0
-  Means width = IsView (at width) → AreVisible (at width) → Ends (product (at width)) most_of_product_row GSTEP
+  Means width = IsView (at width) → AreVisible (at width) → Ends (product (at width)) bound_of_product_row GSTEP
       (SeesFinished (with_double width place (value_at s width place * source) c))
 
   multiplies_by : (width : Width) → Means width
@@ -41,7 +41,7 @@ module _ (s : GplState) (place : Place) (source : ℕ) (u : View) where
       let number = value_at s Word place * source in
       let left = (pieces.multiply_words (at Word)).left in
       let half = with_value Word place (number / 65536) c in
-      ask_store_first (pieces.multiply_words (at Word)) pieces.low_product finish_row (asks c Word place left refl)
+      request_store_first (pieces.multiply_words (at Word)) pieces.low_product finish_row (asks c Word place left refl)
       (i.r 7) (first_visible (at Word) visible)
       (λ r4 address byte. let low_word = pieces.low_product (seen_with half left r4 address byte) in
       first low_word finish_row (row_finishes (asks half Word (further 2 place) low_word.left refl) (omega arith)
@@ -49,12 +49,12 @@ module _ (s : GplState) (place : Place) (source : ℕ) (u : View) where
 
 pub multiplies : (s : GplState) (place : Place) (source : Source) (v : View) → IsView v →
     operation_in s ≡ Some (Two MUL) → AtRow s place source v →
-    operands_of s ≡ Ok (place, source) → Ends (product v) most_of_product_row GSTEP
+    operands_of s ≡ Ok (place, source) → Ends (product v) bound_of_product_row GSTEP
     (SeesFinished (with_double (row_width s) place (value_at s (row_width s) place * source.number)
     (unchanged (gone_on s))))
 multiplies s place source v i is row operands =
     let e = is_row_view s place source v (ap is_muldiv is) row (ap reads_destination is) in
-    subst (λ (w : View). Ends (product w) most_of_product_row GSTEP
+    subst (λ (w : View). Ends (product w) bound_of_product_row GSTEP
     (SeesFinished (with_double (row_width s) place (value_at s (row_width s) place * source.number)
     (unchanged (gone_on s))))) (sym e)
     (multiplies_by s place source.number v (row_width s) (subst IsView e i)

@@ -4,13 +4,13 @@ use Rattle.std.proofs.Common.{Some, subst, sym, true}
 use Rattle.sim_rows.proofs.Common.{AtRow, further, Byte, Changes, DIV, DIVBY, divided, DIVW, double_at, double_word}
 use Rattle.sim_rows.proofs.Common.{exit}
 use Rattle.sim_rows.proofs.Common.{goes_in, gone_on, GplState, GSTEP, has_quotient, high, in_register, IsView, join}
-use Rattle.sim_rows.proofs.Common.{most_of_quotient_row, number_of_space, operands_of, operation_in, pick, Place}
+use Rattle.sim_rows.proofs.Common.{bound_of_quotient_row, number_of_space, operands_of, operation_in, pick, Place}
 use Rattle.sim_rows.proofs.Common.{place_is}
 use Rattle.sim_rows.proofs.Common.{reads_destination, row_width, SeesFinished, Source, space_small, state_of, Storing}
 use Rattle.sim_rows.proofs.Common.{storing_again, sum_of, swapped, Two, unchanged, value_at, value_same, View, Width}
 use Rattle.sim_rows.proofs.Common.{with_byte, with_overflow, with_quotient, with_value, Word}
 use Rattle.sim_rows.proofs.sim_view.Routines.{Ends, ends_in, first, regroup}
-use Rattle.sim_rows.proofs.Routines.{ask_store_first, load_first, loaded, row_ends, store_first}
+use Rattle.sim_rows.proofs.Routines.{request_store_first, load_first, loaded, row_ends, store_first}
 use Rattle.sim_rows.proofs.RowViews.{asking, asks, row_view, seen_with}
 use Rattle.sim_rows.specs.sim_view.Routines.{◌>>◌}
 use Rattle.sim_rows.specs.sim_operands.Routines.{CanStore, load, store}
@@ -30,7 +30,7 @@ unfolding end_division
 division_ends {c = c} {width = width} {place = place} {number = number} {v = v} h fits can =
     let left = (pieces.store_last v).left in
     let asks = storing_again c width place number v left h refl refl refl refl refl refl refl refl in
-    ask_store_first (pieces.store_last v) pieces.clear_overflow end_row asks fits can
+    request_store_first (pieces.store_last v) pieces.clear_overflow end_row asks fits can
     (λ r4 address byte. let w = seen_with (with_value width place number c) left r4 address byte in
     first (pieces.clear_overflow w) end_row
     (row_ends (with_overflow false (with_value width place number c)) (pieces.clear_overflow w).left
@@ -157,7 +157,7 @@ module _ (s : GplState) (place : Place) (divisor : ℕ) (u : View) where
 
 pub divides : (s : GplState) (place : Place) (source : Source) (v : View) → IsView v → operation_in s ≡ Some (Two DIV) →
     AtRow s place source v →
-    operands_of s ≡ Ok (place, source) → Ends (quotient v) most_of_quotient_row GSTEP
+    operands_of s ≡ Ok (place, source) → Ends (quotient v) bound_of_quotient_row GSTEP
     (SeesFinished (divided (row_width s) place (double_at (gone_on s) (row_width s) place) source.number
     (unchanged (gone_on s))))
 divides s place source v i is row operands =

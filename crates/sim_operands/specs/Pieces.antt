@@ -1,4 +1,4 @@
--- What the pieces of the subroutines come to: how many instructions they have, where they end, and what they change of
+-- What the pieces of the subroutines do: how many instructions they have, where they end, and what they change of
 -- the view, in the words of the processor. Registers, cells and ports that are not named stay.
 use Rattle.std.specs.Prelude.{ℕ, ◌+◌, ◌==◌, if◌then◌else◌, nat_lt, slice_index, slice_set}
 pub use Rattle.sim_view.specs.base_defs.Counts.{one_if}

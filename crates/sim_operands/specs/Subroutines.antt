@@ -1,4 +1,4 @@
--- What the subroutines come to, in the words of GPL.
+-- What the subroutines do, in the words of GPL.
 use Rattle.std.specs.Prelude.{ℕ, ◌==◌, ◌≡◌, Bool, Err, false, if◌then◌else◌, List, not, Ok, Result}
 use Rattle.std.specs.Prelude.{slice_index}
 use Rattle.sim_view.specs.Prelude.{Byte, Changes, ReachesWithin, Cpu, Exit, GplState, GromState, GSTOP, join}
@@ -8,7 +8,8 @@ use Rattle.sim_view.specs.Prelude.{Space, unchanged, value_at, Vdp, View, view, 
 use Rattle.sim_view.specs.gpl_defs.Reading.{value_at as value_in}
 use Rattle.sim_operands.specs.Values.{in_register, number_of_space, of_register, width_in}
 use Rattle.sim_operands.specs.Pieces.{exit, return_of}
-use Rattle.sim_view.specs.Bounds.{most_of_address, most_of_load, most_of_register_store, most_of_store, most_of_stream}
+use Rattle.sim_view.specs.Bounds.{bound_of_address, bound_of_load}
+use Rattle.sim_view.specs.Bounds.{bound_of_register_store, bound_of_store, bound_of_stream}
 
 -- the state of GPL that a view shows
 abbrev pub state_of : View → GplState
@@ -71,9 +72,9 @@ pub record OperandStop (v : View) (reason : Reason) (w : View) : Type 0 where
 -- The place is found, or the reason is given at GSTOP, within as many instructions as ADDR may take.
 abbrev pub Finds : MachineState → MachineState → ℕ → ℕ → ℕ → Result Place Reason → Type 0
 Finds x y before after next (Ok place) =
-    ReachesWithin most_of_address x y before after (return_of (view x)) (Placed (view x) next place)
+    ReachesWithin bound_of_address x y before after (return_of (view x)) (Placed (view x) next place)
 Finds x y before after next (Err reason) =
-    ReachesWithin most_of_address x y before after GSTOP (OperandStop (view x) reason)
+    ReachesWithin bound_of_address x y before after GSTOP (OperandStop (view x) reason)
 
 -- The place of the operand that follows in GROM, for as many bytes as register 3 says.
 abbrev pub FindsOperand : MachineState → MachineState → ℕ → ℕ → Type 0
@@ -103,7 +104,7 @@ pub record Loaded (v : View) (number : ℕ) (w : View) : Type 0 where
 abbrev pub LoadsValue : MachineState → MachineState → ℕ → ℕ → Type 0
 LoadsValue x y before after =
     let v = view x in
-    ReachesWithin most_of_load x y before after (return_of v)
+    ReachesWithin bound_of_load x y before after (return_of v)
     (Loaded v (value_at (state_of v) (width_in v.r.r3) (place_in v.r.r5 v.r.r2)))
 
 -- The value that follows in GROM, of the width in register 3, after which GROM goes on.
@@ -117,7 +118,7 @@ streamed v =
 
 abbrev pub LoadsStream : MachineState → MachineState → ℕ → ℕ → Type 0
 LoadsStream x y before after =
-    let v = view x in ReachesWithin most_of_stream x y before after (return_of v) (λ w. w ≡ streamed v)
+    let v = view x in ReachesWithin bound_of_stream x y before after (return_of v) (λ w. w ≡ streamed v)
 
 -- Register 13 is a mark once a byte was stored at the character's cell.
 abbrev pub marked_by : Bool → ℕ → ℕ
@@ -140,12 +141,12 @@ abbrev pub StoresValue : MachineState → MachineState → ℕ → ℕ → Type 
 StoresValue x y before after =
     let v = view x in
     let width = width_in v.r.r3 in
-    ReachesWithin most_of_store x y before after (return_of v)
+    ReachesWithin bound_of_store x y before after (return_of v)
     (Stored v (with_value width (place_in v.r.r8 v.r.r7) (of_register width v.r.r9) (unchanged (state_of v))))
 
 -- The high byte of register 9, in the register of the video processor whose number is in register 7.
 abbrev pub StoresRegister : MachineState → MachineState → ℕ → ℕ → Type 0
 StoresRegister x y before after =
     let v = view x in
-    ReachesWithin most_of_register_store x y before after (return_of v)
+    ReachesWithin bound_of_register_store x y before after (return_of v)
     (Stored v (with_register v.r.r7 (of_register Byte v.r.r9) (unchanged (state_of v))))

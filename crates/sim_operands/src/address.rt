@@ -95,7 +95,7 @@ pub fn address_routine<L: Ledger>(machine: &mut Machine, steps: &mut Steps<L>)
 
 /// Runs ADDR: finds the place of the operand that follows in GROM, for as many bytes as register 3 says, in registers 2
 /// and 5, or stops by reason 2. It takes at most 38 instructions, changes registers 4 and 6 too, leaves GROM after the
-/// operand where there is a place, and comes to the address in register 11, or to GSTOP.
+/// operand where there is a place, and returns to the address in register 11, or goes to GSTOP.
 pub fn run_address<L: Ledger>(machine: &mut Machine, steps: &mut Steps<L>)
     requires is_at { IsAt machine.old address.ADDR }
     requires idle { PortsAreIdle machine.old.cpu.memory }

@@ -17,7 +17,7 @@ pub fn fetch_byte<L: Ledger>(machine: &mut Machine, steps: &mut Steps<L>)
 }
 
 /// Runs FETCH: the next GPL byte comes into the high half of register 6, with 0 below it, and GROM goes on by one. It
-/// takes 3 instructions, changes nothing else, and comes to the address in register 11.
+/// takes 3 instructions, changes nothing else, and returns to the address in register 11.
 pub fn run_fetch<L: Ledger>(machine: &mut Machine, steps: &mut Steps<L>)
     requires is_at { IsAt machine.old FETCH }
     requires idle { PortsAreIdle machine.old.cpu.memory }

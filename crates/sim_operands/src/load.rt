@@ -40,7 +40,7 @@ pub fn stream_value<L: Ledger>(machine: &mut Machine, steps: &mut Steps<L>)
 }
 
 /// LOAD, whole. It does what its pieces do, and keeps all but registers 4 and 6, the video processor and the GROMs; it
-/// comes to the address in register 11.
+/// returns to the address in register 11.
 pub fn load_routine<L: Ledger>(machine: &mut Machine, steps: &mut Steps<L>)
     requires is_at { IsAt machine.old address.LOAD }
     requires visible { CanLoad (view machine.old) }
@@ -58,7 +58,7 @@ pub fn load_routine<L: Ledger>(machine: &mut Machine, steps: &mut Steps<L>)
 /// Runs LOAD: the value at the place in registers 2 and 5, of the width in register 3, comes into
 /// register 6. Where register 5 is above 1 it is the value that follows in GROM, which goes on after it.
 /// It takes at most 15 instructions, changes register 4 and the address of the video processor too, and
-/// comes to the address in register 11.
+/// returns to the address in register 11.
 pub fn run_load<L: Ledger>(machine: &mut Machine, steps: &mut Steps<L>)
     requires is_at { IsAt machine.old address.LOAD }
     requires idle { PortsAreIdle machine.old.cpu.memory }

@@ -17,7 +17,7 @@ pub fn seek_address<L: Ledger>(machine: &mut Machine, steps: &mut Steps<L>)
 }
 
 /// Runs SEEK: GROM is set to the address in register 6, and so gives the byte there next. It takes 3 instructions,
-/// changes nothing else, and comes to the address in register 11.
+/// changes nothing else, and returns to the address in register 11.
 pub fn run_seek<L: Ledger>(machine: &mut Machine, steps: &mut Steps<L>)
     requires is_at { IsAt machine.old SEEK }
     requires idle { PortsAreIdle machine.old.cpu.memory }

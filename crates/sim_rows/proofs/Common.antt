@@ -2,8 +2,9 @@
 pub use Rattle.sim_view.proofs.Common.{comes, comes_as, comes_on, comes_then, given, Goes, goes_in, high-join, is_view, IsView, join-bytes, Leads, leads, off}
 pub use Rattle.sim_view.proofs.Common.{no_turns, on, one_more_turn, Part, part_then, pick, piece, previous-next, reg_word, Rest, runs_steps, TurnsMade}
 pub use Rattle.sim_view.proofs.Routines.{just}
-pub use Rattle.sim_view.specs.Bounds.{most_of_address, most_of_alu_row, most_of_byte, most_of_case_row, most_of_exchange_row, most_of_load, most_of_product_row}
-pub use Rattle.sim_view.specs.Bounds.{most_of_quotient_row, most_of_shift_row, most_of_store, most_to_copy}
+pub use Rattle.sim_view.specs.Bounds.{bound_of_address, bound_of_alu_row, bound_of_byte, bound_of_case_row}
+pub use Rattle.sim_view.specs.Bounds.{bound_of_exchange_row, bound_of_load, bound_of_product_row}
+pub use Rattle.sim_view.specs.Bounds.{bound_of_quotient_row, bound_of_shift_row, bound_of_store, bound_to_copy}
 pub use Rattle.sim_operands.proofs.AddressPieces.{Answers, index_read, IndexRead, range_read, RangeRead}
 pub use Rattle.sim_operands.proofs.Facts.{at_most, byte_is, down, no_other, not_limit, spot_cell}
 pub use Rattle.sim_operands.proofs.Paths.{rest_is}
@@ -38,7 +39,7 @@ pub use Rattle.sim_rows.specs.Prelude.{GromToRegisters, grown_by, GSTEP, GSTOP, 
 pub use Rattle.sim_rows.specs.Prelude.{in_register, INCTV, INDEX, index_by, indexed, INVV, is_turn_end, is_grom_idle, is_immediate, is_row, is_set, is_taken}
 pub use Rattle.sim_rows.specs.Prelude.{is_vdp_idle, is_visible, IsFetched, IsMachine, IsMatching, IsMemory, IsNewVdp, IsStatus, IsTurn, IsVisible, join, Jump}
 pub use Rattle.sim_rows.specs.Prelude.{last_out, Length, length_at, length_of, LOAD, Loaded, loaded_of, LoadsFrom, LoadsFromSource, LoadsStream, LoadsValue}
-pub use Rattle.sim_rows.specs.Prelude.{low, MachineState, marked_by, Matches, Memory, MemoryToMemory, modulus, most_to_dispatch, Move, move_found, MOVEA, MOVEB, MOVED}
+pub use Rattle.sim_rows.specs.Prelude.{low, MachineState, marked_by, Matches, Memory, MemoryToMemory, modulus, bound_to_dispatch, Move, move_found, MOVEA, MOVEB, MOVED}
 pub use Rattle.sim_rows.specs.Prelude.{MOVEK, MoveKind, MOVEL, MoveLength, MOVEN, MOVER, MOVES, MoveSource, MoveTarget, MOVEW, MOVEX, Moving, MUL, MULB, MULV}
 pub use Rattle.sim_rows.specs.Prelude.{negation_flags, negation_of, NEGV, new_grom, next_at, next_from, next_in_grom, next_in_vdp, next_of, next_seed, next_to}
 pub use Rattle.sim_rows.specs.Prelude.{number_of, number_of_space, of_register, on_stack, One, one_more, OneName, ones_cleared, ones_set, Opcode}

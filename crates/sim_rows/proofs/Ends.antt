@@ -8,7 +8,7 @@ use Rattle.sim_rows.specs.Prelude.{IsFetched, IsHalted, MachineState, Matches, M
 use Rattle.sim_rows.specs.Prelude.{from_dispatch, previous_in_grom, Reaches, Reason, Runs, shown_by, ShowsState, IsAt, IsStoppedBy, state_at_dispatch, state_of, whole_turn}
 use Rattle.sim_rows.specs.Prelude.{step, StoppedBy, Turn, Turned, TurnedBy, VdpState, View, view, view_of}
 use Rattle.sim_view.specs.gpl_step_defs.declared.reason.Reason.TheVariants.{Exit}
-use Rattle.sim_view.specs.interp_defs.Interpreter.{most_to_dispatch}
+use Rattle.sim_view.specs.interp_defs.Interpreter.{bound_to_dispatch}
 
 -- a state of parts
 abbrev pub made : List ℕ → List ℕ → List ℕ → ℕ → List ℕ → GplState
@@ -103,7 +103,7 @@ operand_list : (count : ℕ) (x y : MachineState) → Runs count x y → is_turn
 operand_list zero x y r a b = absurd (not_both (is_turn_end x.cpu.pc) (ap (λ (z : MachineState). is_turn_end z.cpu.pc) (given x y r.leads) ∙ b) a)
 operand_list (suc count) x y r a b = omega arith
 
--- what is come to from a dispatch
+-- what is reached from a dispatch
 pub reaches : {x y : MachineState} {before after most to : ℕ} {Q : View → Type 0} (led bound : ℕ) → ReachesWithin most x y before after to Q →
     is_turn_end x.cpu.pc ≡ false → is_turn_end to ≡ true → led + most ≤ bound → Reaches bound x y (record { led_at_most = led; before = before; after = after })
 reaches {x = x} {y = y} led bound c start end fits =
@@ -117,7 +117,7 @@ reaches {x = x} {y = y} led bound c start end fits =
     }
 
 -- the beginning of a step before a turn from its dispatch
-pub reaches_from : {x y z : MachineState} {before middle after to bound : ℕ} {Q : View → Type 0} → ReachesWithin most_to_dispatch x y before middle to Q →
+pub reaches_from : {x y z : MachineState} {before middle after to bound : ℕ} {Q : View → Type 0} → ReachesWithin bound_to_dispatch x y before middle to Q →
     Reaches bound y z (from_dispatch middle after) → is_turn_end to ≡ false → Reaches bound x z (whole_turn before after)
 reaches_from {x = x} {y = y} {z = z} c r start =
     let w = c.within in
@@ -133,13 +133,13 @@ reaches_from {x = x} {y = y} {z = z} c r start =
     }
 
 from_by : {x y : MachineState} {before middle to : ℕ} {Q : View → Type 0} (z : MachineState) (after : ℕ) (s : GplState) (r : Result GplState Reason)
-    (turn : Turn) → ReachesWithin most_to_dispatch x y before middle to Q → is_turn_end to ≡ false →
+    (turn : Turn) → ReachesWithin bound_to_dispatch x y before middle to Q → is_turn_end to ≡ false →
     TurnedBy r s y z (from_dispatch middle after) turn → TurnedBy r s x z (whole_turn before after) turn
 from_by z after s (Ok next) turn c e t = (t.0, reaches_from c t.1 e, t.2)
 from_by z after s (Err reason) turn c e t = (t.0, reaches_from c t.1 e, t.2)
 
 pub turned_from : {x y : MachineState} {before middle to : ℕ} {Q : View → Type 0} (z : MachineState) (after : ℕ) (s : GplState) (turn : Turn) →
-    ReachesWithin most_to_dispatch x y before middle to Q → is_turn_end to ≡ false →
+    ReachesWithin bound_to_dispatch x y before middle to Q → is_turn_end to ≡ false →
     Turned s y z (from_dispatch middle after) turn → Turned s x z (whole_turn before after) turn
 turned_from z after s turn c e t = from_by z after s (step s) turn c e t
 

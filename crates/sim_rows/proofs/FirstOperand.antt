@@ -13,7 +13,7 @@ use Rattle.sim_rows.proofs.Entries.{Kind, narrow, storer, wide}
 use Rattle.sim_rows.proofs.Steps.{place_same}
 use Rattle.sim_rows.specs.Pieces as pieces
 use Rattle.sim_view.specs.native_interp.declared.addresses.TheConstants.{OPSDST, STDST, STROW, WIDDST}
-use Rattle.sim_view.specs.Bounds.{most_of_address}
+use Rattle.sim_view.specs.Bounds.{bound_of_address}
 
 -- ---- numbers
 
@@ -133,13 +133,13 @@ wide_is s v e h = ap pieces.twice_of_code e ∙ twice_is (code_byte s) h ∙ ap 
 
 -- ADDR is asked for it
 asks : (s : GplState) (v : View) (count bytes link : ℕ) → count ≤ 6 → Dispatched s v → bytes ≡ destination_bytes s →
-    Goes (pieces.ask_place count bytes link v) 6 ADDR (Asking s (destination_bytes s) (after_code s) link)
+    Goes (pieces.request_place count bytes link v) 6 ADDR (Asking s (destination_bytes s) (after_code s) link)
 asks s v count bytes link within d e = record {
   within = within;
   to_is = refl;
   holds = record {
     holds = record {
-      sees = sees_again s (after_code s) v (pieces.ask_place count bytes link v).left d.sees refl refl refl;
+      sees = sees_again s (after_code s) v (pieces.request_place count bytes link v).left d.sees refl refl refl;
       code = d.code;
       address = d.address;
       bytes_are = e;
@@ -160,20 +160,20 @@ module _ {x : MachineState} (at : AtDispatch is_row x) where
   Asks y t u = ReachesWithin 6 x y t u ADDR (Asking s (destination_bytes s) (after_code s) (return_of_destination (operation_in s)))
 
   asks_at : {y : MachineState} {t u : ℕ} (count bytes link : ℕ) → count ≤ 6 → bytes ≡ destination_bytes s → return_of_destination (operation_in s) ≡ link →
-      Exits x y t u (pieces.ask_place count bytes link (view x)) → Asks y t u
+      Exits x y t u (pieces.request_place count bytes link (view x)) → Asks y t u
   asks_at {y = y} {t = t} {u = u} count bytes link within size is e =
       subst (λ (n : ℕ). ReachesWithin 6 x y t u ADDR (Asking s (destination_bytes s) (after_code s) n)) (sym is)
       (comes e (asks s (view x) count bytes link within at.dispatched size))
 
   module _ {y : MachineState} {t u : ℕ} where
-    pub asks_stored : x.cpu.pc ≡ STROW → Exits x y t u (pieces.ask_stored (view x)) → Asks y t u
+    pub asks_stored : x.cpu.pc ≡ STROW → Exits x y t u (pieces.request_stored (view x)) → Asks y t u
     asks_stored here e =
         let k = (storer (operation_in s) at.family (sym at.is_at.pc ∙ here)).kind in
         let n = narrow_is s (view x) at.dispatched.code in
         let b = k.bytes (row_width s) in
         asks_at 5 (pieces.width_of_code (view x).r.r0) STDST (omega arith) (omega arith) k.label_is e
 
-    pub asks_wide : x.cpu.pc ≡ WIDE → Exits x y t u (pieces.ask_wide (view x)) → Asks y t u
+    pub asks_wide : x.cpu.pc ≡ WIDE → Exits x y t u (pieces.request_wide (view x)) → Asks y t u
     asks_wide here e =
         let k = (wide (operation_in s) at.family (sym at.is_at.pc ∙ here)).kind in
         let n = wide_is s (view x) at.dispatched.code fits in
@@ -184,7 +184,7 @@ module _ {x : MachineState} (at : AtDispatch is_row x) where
     pub narrow_here : Kind (operation_in s) ROW OPSDST 1
     narrow_here = narrow (operation_in s) at.family (λ e. not_wide (at.is_at.pc ∙ e)) (λ e. not_stored (at.is_at.pc ∙ e))
 
-    pub asks_first : {y : MachineState} {t u : ℕ} → Exits x y t u (pieces.ask_first (view x)) → Asks y t u
+    pub asks_first : {y : MachineState} {t u : ℕ} → Exits x y t u (pieces.request_first (view x)) → Asks y t u
     asks_first e =
         let k = narrow_here in
         let n = narrow_is s (view x) at.dispatched.code in
@@ -198,17 +198,17 @@ pub record Located (s : GplState) (bytes : ℕ) (place : Place) (next : ℕ) (w 
 
 pub located : (s : GplState) (bytes at next to most : ℕ) (x y z : MachineState) (t u w : ℕ) (place : Place) → even to ≡ to →
     ReachesWithin most x y t u ADDR (Asking s bytes at to) →
-    ReachesWithin most_of_address y z u w (return_of (view y)) (Placed (view y) next place) → ReachesWithin (most + most_of_address) x z t w to (Located s bytes place next)
+    ReachesWithin bound_of_address y z u w (return_of (view y)) (Placed (view y) next place) → ReachesWithin (most + bound_of_address) x z t w to (Located s bytes place next)
 located s bytes at next to most x y z t u w place even_to c d =
     let e : return_of (view y) ≡ to = ap even c.holds.link ∙ even_to in
-    let d2 : ReachesWithin most_of_address y z u w to (Placed (view y) next place) =
-    subst (λ (p : ℕ). ReachesWithin most_of_address y z u w p (Placed (view y) next place)) e d in
-    comes_as (most + most_of_address) (Located s bytes place next) (comes_on most 38 c d2 refl) (omega arith)
+    let d2 : ReachesWithin bound_of_address y z u w to (Placed (view y) next place) =
+    subst (λ (p : ℕ). ReachesWithin bound_of_address y z u w p (Placed (view y) next place)) e d in
+    comes_as (most + bound_of_address) (Located s bytes place next) (comes_on most 38 c d2 refl) (omega arith)
     (λ v a. record { holds = holds_addressed s bytes at next (view y) v c.holds.holds a; from = from_placed next place (view y) v a })
 
 pub operand_stop : (s : GplState) (bytes at to most : ℕ) (reason : Reason) (x y z : MachineState) (t u w : ℕ) → ReachesWithin most x y t u ADDR (Asking s bytes at to) →
-    ReachesWithin most_of_address y z u w GSTOP (OperandStop (view y) reason) →
-    ReachesWithin (most + most_of_address) x z t w GSTOP (StoppedBy s reason)
+    ReachesWithin bound_of_address y z u w GSTOP (OperandStop (view y) reason) →
+    ReachesWithin (most + bound_of_address) x z t w GSTOP (StoppedBy s reason)
 operand_stop s bytes at to most reason x y z t u w c d =
-    comes_as (most + most_of_address) (StoppedBy s reason)
+    comes_as (most + bound_of_address) (StoppedBy s reason)
     (comes_on most 38 c d refl) (omega arith) (λ v a. rejected_stops s bytes at reason (view y) v c.holds.holds a)

@@ -13,7 +13,7 @@ use Rattle.sim_rows.proofs.Codes.{row_is}
 use Rattle.sim_rows.proofs.FirstOperand.{rejected_stops, from_placed, holds_addressed, holds_again, holds_loaded, Located, place_is}
 use Rattle.sim_rows.specs.Pieces as pieces
 use Rattle.sim_view.specs.native_interp.declared.addresses.TheConstants.{OPSTWO}
-use Rattle.sim_view.specs.Bounds.{most_of_address, most_of_load}
+use Rattle.sim_view.specs.Bounds.{bound_of_address, bound_of_load}
 
 -- ---- a value is one of cells and video memory alone
 
@@ -76,7 +76,7 @@ loads s bytes place kept next to most x y z t u w even_to c d =
     let h = c.holds.holds in
     let e : return_of v ≡ to = ap even c.holds.link ∙ even_to in
     let number = value_at (state_of v) (width_in v.r.r3) (place_in v.r.r5 v.r.r2) in
-    let d2 : ReachesWithin most_of_load y z u w to (Loaded v number) = subst (λ (p : ℕ). ReachesWithin most_of_load y z u w p (Loaded v number)) e d in
+    let d2 : ReachesWithin bound_of_load y z u w to (Loaded v number) = subst (λ (p : ℕ). ReachesWithin bound_of_load y z u w p (Loaded v number)) e d in
     comes_as (most + 15) _ (comes_on most 15 c d2 refl) (omega arith) (λ q a. record {
       holds = holds_loaded s bytes next number v q h a;
       from = record { address = ap (λ (u : View). u.r.r2) a.is ∙ c.holds.from.address; space = ap (λ (u : View). u.r.r5) a.is ∙ c.holds.from.space };
@@ -216,15 +216,15 @@ kept_addressed s kept at next v w q a = record {
 }
 
 module _ (s : GplState) (kept : Place) (at : ℕ) {x y z : MachineState} {t u w : ℕ} (c : ReachesWithin 4 x y t u ADDR (Operand s kept at)) where
-  pub finds_second : (place : Place) (next : ℕ) → ReachesWithin most_of_address y z u w (return_of (view y)) (Placed (view y) next place) →
+  pub finds_second : (place : Place) (next : ℕ) → ReachesWithin bound_of_address y z u w (return_of (view y)) (Placed (view y) next place) →
       ReachesWithin 42 x z t w OPVAL (Found s kept place next)
   finds_second place next d =
-      let d2 : ReachesWithin most_of_address y z u w OPVAL (Placed (view y) next place) =
-      subst (λ (p : ℕ). ReachesWithin most_of_address y z u w p (Placed (view y) next place)) (ap even c.holds.link) d in
+      let d2 : ReachesWithin bound_of_address y z u w OPVAL (Placed (view y) next place) =
+      subst (λ (p : ℕ). ReachesWithin bound_of_address y z u w p (Placed (view y) next place)) (ap even c.holds.link) d in
       comes_as 42 (Found s kept place next) (comes_on 4 38 c d2 refl) (omega arith)
       (λ v a. record { kept = kept_addressed s kept at next (view y) v c.holds.kept a; from = from_placed next place (view y) v a })
 
-  pub bars_second : (reason : Reason) → ReachesWithin most_of_address y z u w GSTOP (OperandStop (view y) reason) → ReachesWithin 42 x z t w GSTOP (StoppedBy s reason)
+  pub bars_second : (reason : Reason) → ReachesWithin bound_of_address y z u w GSTOP (OperandStop (view y) reason) → ReachesWithin 42 x z t w GSTOP (StoppedBy s reason)
   bars_second reason d =
       comes_as 42 (StoppedBy s reason) (comes_on 4 38 c d refl) (omega arith) (λ v a. rejected_stops s (size_of (row_width s)) at reason
       (view y) v c.holds.kept.holds a)

@@ -11,14 +11,14 @@ use Rattle.sim_rows.specs.Pieces as pieces
 use Rattle.sim_view.specs.native_interp.declared.addresses.TheConstants.{GBACK, GCODE, OPSDST, OPSTWO, OPSVAL, STDST, STROW, WIDDST, WIDVAL}
 use Rattle.sim_view.specs.base_defs.declared.size.TheConstants.{GROM_SIZE}
 
-pub ask_first : (v : View) → Leads (ADDR ∷ []) v ROW (pieces.ask_first v)
-ask_first v = record { by = λ f q. refl }
+pub request_first : (v : View) → Leads (ADDR ∷ []) v ROW (pieces.request_first v)
+request_first v = record { by = λ f q. refl }
 
-pub ask_stored : (v : View) → Leads (ADDR ∷ []) v STROW (pieces.ask_stored v)
-ask_stored v = record { by = λ f q. refl }
+pub request_stored : (v : View) → Leads (ADDR ∷ []) v STROW (pieces.request_stored v)
+request_stored v = record { by = λ f q. refl }
 
-pub ask_wide : (v : View) → Leads (ADDR ∷ []) v WIDE (pieces.ask_wide v)
-ask_wide v = record { by = λ f q. refl }
+pub request_wide : (v : View) → Leads (ADDR ∷ []) v WIDE (pieces.request_wide v)
+request_wide v = record { by = λ f q. refl }
 
 pub load_first : (v : View) → Leads (LOAD ∷ []) v OPSDST (pieces.load_first v)
 load_first v = record { by = λ f q. refl }
@@ -42,8 +42,8 @@ keep_first v = record {
 pub keep_wide : (v : View) → Leads (OPSTWO ∷ []) v WIDVAL (pieces.keep_wide v)
 keep_wide v = record { by = λ f q. refl }
 
-pub ask_second : (v : View) → Leads (STREAM ∷ ADDR ∷ []) v OPSTWO (pieces.ask_second v)
-ask_second v = record { by = λ f q. pick (last_out SRL v.r.r0 2) (λ c. rw c refl) (λ c. rw c refl) }
+pub request_second : (v : View) → Leads (STREAM ∷ ADDR ∷ []) v OPSTWO (pieces.request_second v)
+request_second v = record { by = λ f q. pick (last_out SRL v.r.r0 2) (λ c. rw c refl) (λ c. rw c refl) }
 
 pub load_second : (v : View) → Leads (LOAD ∷ []) v OPVAL (pieces.load_second v)
 load_second v = record { by = λ f q. refl }

@@ -57,13 +57,13 @@ store_first {c = c} {width = width} {place = place} {number = number} {v = v} f 
     record { within = omega arith; to_is = k.to_is; holds = k.holds }
 
 -- STORE after a stretch that asks for it, and two more after it
-pub ask_store_first : {c : Changes} {width : Width} {place : Place} {number : ℕ} (e : Exit)
+pub request_store_first : {c : Changes} {width : Width} {place : Place} {number : ℕ} (e : Exit)
     (f g : View → Exit) {b to : ℕ}
     {R : View → Type 0} → Storing c width place number e.left → e.left.r.r7 < 65536 → CanStore e.left →
     ((r4 address byte : ℕ) → Ends (f
     (seen_with (with_value width place number c) e.left r4 address byte) >> g) b to R) →
     Ends (e >> store >> f >> g) (e.count + (15 + b)) to R
-ask_store_first e f g h fits can next =
+request_store_first e f g h fits can next =
     regroup (e >> store) f g
     (regroup e store (λ w. f w >> g)
     (first e (λ w. store w >> (λ u. f u >> g)) (store_first (λ w. f w >> g) h fits can next)))

@@ -27,7 +27,7 @@ word_is : (w : Bool) → not (size_of (word_or_byte w) == 1) ≡ w
 word_is true = refl
 word_is false = refl
 
-module _ {x a : MachineState} {t t1 : ℕ} (e : Exits x a t t1 (pieces.ask_second (view x))) where
+module _ {x a : MachineState} {t t1 : ℕ} (e : Exits x a t t1 (pieces.request_second (view x))) where
   abbrev v : View
   v = view x
 

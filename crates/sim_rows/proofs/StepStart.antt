@@ -10,7 +10,7 @@ use Rattle.sim_operands.proofs.Ready.{set_is}
 use Rattle.sim_operands.specs.Pieces.{one_if}
 use Rattle.sim_view.proofs.Routines.{just}
 use Rattle.sim_rows.specs.Pieces as pieces
-use Rattle.sim_view.specs.interp_defs.Interpreter.{most_to_dispatch}
+use Rattle.sim_view.specs.interp_defs.Interpreter.{bound_to_dispatch}
 
 -- the first table's word for each code byte is the address of its instruction, and even
 abbrev leads : ℕ → Bool
@@ -81,7 +81,7 @@ module _ (s : GplState) (v : View) (sees : ShowsState s s.pc v) (fits : s.pc < 6
       let to : ℕ → Exit = λ at. by_code at (with_grom_address at (lost s.image s.pc)) in
       ap by sees.grom ∙ ap to (back_is s.pc fits) ∙ ap (by_code s.pc) (set_is (lost s.image s.pc) s.pc refl fits)
 
-  begun : Goes (by_code s.pc (grom_at s.image s.pc)) most_to_dispatch (operation_entry (operation_at code)) (Dispatched s)
+  begun : Goes (by_code s.pc (grom_at s.image s.pc)) bound_to_dispatch (operation_entry (operation_at code)) (Dispatched s)
   begun = record {
     within = let most = tested_at_most (next_in_grom s.pc) in omega arith;
     to_is = entry_is code byte;
@@ -94,5 +94,5 @@ module _ (s : GplState) (v : View) (sees : ShowsState s s.pc v) (fits : s.pc < 6
 
   -- The step up to its dispatch.
   pub begins : (x y : MachineState) (t u : ℕ) → view x ≡ v → Exits x y t u (pieces.dispatch (view x)) →
-      ReachesWithin most_to_dispatch x y t u (operation_entry (operation_at code)) (Dispatched s)
+      ReachesWithin bound_to_dispatch x y t u (operation_entry (operation_at code)) (Dispatched s)
   begins x y t u is e = comes e (from pieces.dispatch is (known dispatch_is begun))

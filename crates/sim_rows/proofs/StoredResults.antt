@@ -10,7 +10,7 @@ use Rattle.sim_operands.proofs.Ready.{idle_grom, idle_video}
 use Rattle.sim_rows.proofs.Again.{ports_are_idle}
 use Rattle.sim_rows.proofs.FirstOperand.{place_is}
 use Rattle.sim_rows.proofs.Ends.{same_state}
-use Rattle.sim_view.specs.Bounds.{most_of_store}
+use Rattle.sim_view.specs.Bounds.{bound_of_store}
 
 pub width_again : (w : Width) → width_in (size_of w) ≡ w
 width_again Byte = refl
@@ -96,12 +96,12 @@ pub record ChangedFrom (c : Changes) (v w : View) : Type 0 where
 -- A number is stored after some changes.
 pub store_then : (c : Changes) (width : Width) (place : Place) (number : ℕ) (x y : MachineState) (t u : ℕ) → Storing c width place number (view x) →
     StoresValue x y t u →
-    ReachesWithin most_of_store x y t u (return_of (view x)) (ChangedFrom (with_value width place number c) (view x))
+    ReachesWithin bound_of_store x y t u (return_of (view x)) (ChangedFrom (with_value width place number c) (view x))
 store_then c width place number x y t u h l =
     let v : View = view x in
     let alone : Changes = with_value width place number (unchanged c.state) in
     let both : Changes = with_value width place number c in
-    let l1 : ReachesWithin most_of_store x y t u (return_of v) (Stored v alone) = subst (λ (k : Changes). ReachesWithin most_of_store x y t u (return_of v) (Stored v k))
+    let l1 : ReachesWithin bound_of_store x y t u (return_of v) (Stored v alone) = subst (λ (k : Changes). ReachesWithin bound_of_store x y t u (return_of v) (Stored v k))
     (changes_are c width place number v h) l in
     let splits = value_splits width place number c in
     let keeps = value_keeps width place number c in

@@ -14,8 +14,8 @@ use Rattle.sim_rows.proofs.Steps.{bound_made, bound_stop, row_after, step_row}
 use Rattle.sim_rows.proofs.Ends.{matches, reaches, stops, turned_by}
 use Rattle.sim_rows.proofs.Destinations.{first_visible}
 use Rattle.sim_rows.proofs.Operands.{value_same}
-use Rattle.sim_view.specs.Bounds.{most_to_row, most_to_row_stop}
-use Rattle.sim_view.specs.interp_defs.Interpreter.{most_to_dispatch}
+use Rattle.sim_view.specs.Bounds.{bound_to_row, bound_to_row_stop}
+use Rattle.sim_view.specs.interp_defs.Interpreter.{bound_to_dispatch}
 
 -- A row that may stop, with its answer: from its entry to the end of the step.
 abbrev pub TurnsBy : ℕ → GplState → MachineState → MachineState → ℕ → ℕ → Turn → Result Changes Reason → Type 0
@@ -146,7 +146,7 @@ module _ (s : GplState) (x : MachineState) (t : ℕ) (fits : code_byte s < 256) 
     pub source : Source
     pub is_both : operands_of s ≡ Ok (place, source)
     pub is_operation : operation_in s ≡ Some op
-    pub comes : ReachesWithin most_to_row x y t u (row_entry (Some op)) (AtRow s place source)
+    pub comes : ReachesWithin bound_to_row x y t u (row_entry (Some op)) (AtRow s place source)
 
   started_by : (op : GplOperation) (y : MachineState) (u : ℕ) (returned : Option GplOperation) → returned ≡ Some op → (r : Result (Place × Source) Reason) →
       operands_of s ≡ r → StartsRow s x y t u returned r → Started op y u
@@ -158,7 +158,7 @@ module _ (s : GplState) (x : MachineState) (t : ℕ) (fits : code_byte s < 256) 
         is_both = is;
         is_operation = same;
         comes =
-            subst (λ (p : Option GplOperation). ReachesWithin most_to_row x y t u (row_entry p) (AtRow s o.0 o.1)) same l.1;
+            subst (λ (p : Option GplOperation). ReachesWithin bound_to_row x y t u (row_entry p) (AtRow s o.0 o.1)) same l.1;
       }
   started_by op y u returned e (Err reason) is l = absurd (none_some op (sym l.0 ∙ e))
 
@@ -173,13 +173,13 @@ module _ (s : GplState) (x : MachineState) (t : ℕ) (fits : code_byte s < 256) 
   stopped_by y u returned none (Err reason) e l =
       let op = some_is (operation_in s) row in
       let cell : reason ≡ Cell = reason_is (operands_of s) reason (operands_alone s) e in
-      let run : ReachesWithin most_to_row_stop x y t u GSTOP (StoppedBy s Cell) =
-      subst (λ (r : Reason). ReachesWithin most_to_row_stop x y t u GSTOP (StoppedBy s r)) cell l.1 in
+      let run : ReachesWithin bound_to_row_stop x y t u GSTOP (StoppedBy s Cell) =
+      subst (λ (r : Reason). ReachesWithin bound_to_row_stop x y t u GSTOP (StoppedBy s r)) cell l.1 in
       let is : step s ≡ Err Cell = step_row s op.0 fits op.1 (subst (λ (o : Option GplOperation). is_row o ≡ true) op.1 row)
       ∙ ap (λ (r : Result (Place × Source) Reason). r >>= row_after s op.0) (e ∙ ap Err cell) in
       let b = bound_stop s Cell is in
-      turned_by x y t u most_to_dispatch (Stopped Cell) s (Err Cell) is
-      (refl, reaches most_to_dispatch (bound s) run start refl (omega arith), stops s Cell y (λ e. cc) run.is_at run.holds)
+      turned_by x y t u bound_to_dispatch (Stopped Cell) s (Err Cell) is
+      (refl, reaches bound_to_dispatch (bound s) run start refl (omega arith), stops s Cell y (λ e. cc) run.is_at run.holds)
 
   pub stopped_row : (y : MachineState) (u : ℕ) (returned : Option GplOperation) → returned ≡ None → StartsRow s x y t u returned (operands_of s) →
       Turned s x y (from_dispatch t u) (Stopped Cell)
@@ -201,8 +201,8 @@ module _ (s : GplState) (x : MachineState) (t : ℕ) (fits : code_byte s < 256) 
   made y u most place source op e is le (Ok c) f run =
       let step_is = step_of place source op e is (Ok c) f in
       let b = bound_row s (finished c) op e (subst (λ (o : Option GplOperation). is_row o ≡ true) e row) step_is in
-      turned_by x y t u most_to_dispatch Stepped s (Ok (finished c)) step_is
-      (refl, reaches most_to_dispatch (bound s) run start refl (omega arith), matches (finished c) y run.is_at run.holds)
+      turned_by x y t u bound_to_dispatch Stepped s (Ok (finished c)) step_is
+      (refl, reaches bound_to_dispatch (bound s) run start refl (omega arith), matches (finished c) y run.is_at run.holds)
   made y u most place source op e is le (Err reason) f run = absurd (run.holds)
 
   -- a row that may stop, by what was made of the operands
@@ -215,11 +215,11 @@ module _ (s : GplState) (x : MachineState) (t : ℕ) (fits : code_byte s < 256) 
       let step_is = step_of place source op e is (Err reason) f in
       let b = bound_stop s reason step_is in
       let other = never_exits s reason (row_stays (operation_in s) row) step_is in
-      turned_by x y t u most_to_dispatch turn s (Err reason) step_is
-      (run.0, reaches most_to_dispatch (bound s) run.1 start refl (omega arith), stops s reason y other run.1.is_at run.1.holds)
+      turned_by x y t u bound_to_dispatch turn s (Err reason) step_is
+      (run.0, reaches bound_to_dispatch (bound s) run.1 start refl (omega arith), stops s reason y other run.1.is_at run.1.holds)
 
   ends_as : (op : GplOperation) (y z : MachineState) (u v most : ℕ) (place : Place) (source : Source) (turn : Turn) →
-      ReachesWithin most_to_row x y t u (row_entry (Some op)) (AtRow s place source) →
+      ReachesWithin bound_to_row x y t u (row_entry (Some op)) (AtRow s place source) →
       is_turn_end (row_entry (Some op)) ≡ false → (r : Result Changes Reason) → TurnsBy most s y z u v turn r → TurnsBy (127 + most) s x z t v turn r
   ends_as op y z u v most place source turn c entry (Ok d) h = (h.0, comes_on 127 most c h.1 entry)
   ends_as op y z u v most place source turn c entry (Err reason) h = (h.0, comes_on 127 most c h.1 entry)

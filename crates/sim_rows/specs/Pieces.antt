@@ -1,4 +1,4 @@
--- What the pieces of a step up to its dispatch, of the operands of a row and of the end of a row come to: how many
+-- What the pieces of a step up to its dispatch, of the operands of a row and of the end of a row do: how many
 -- instructions they have, where they end, and what they change of the view, in the words of the processor. Registers,
 -- cells and ports that are not named stay.
 use Rattle.std.specs.Prelude.{ℕ, Bool, ◌+◌, ◌-◌, ◌/◌, ◌==◌, if◌then◌else◌, nat_lt, slice_index}
@@ -56,8 +56,8 @@ where_next v =
     })
 
 -- ROW, STROW and WIDE: the place of the first operand is asked for, of a number of bytes; nothing was stored yet.
-abbrev pub ask_place : ℕ → ℕ → ℕ → View → Exit
-ask_place count bytes link v = exit count ADDR (record v { r = record v.r { r3 = bytes; r11 = link; r13 = 0 } })
+abbrev pub request_place : ℕ → ℕ → ℕ → View → Exit
+request_place count bytes link v = exit count ADDR (record v { r = record v.r { r3 = bytes; r11 = link; r13 = 0 } })
 
 abbrev pub width_of_code : ℕ → ℕ
 width_of_code code = sum_of Word (conjunction_of code 1) 1
@@ -65,14 +65,14 @@ width_of_code code = sum_of Word (conjunction_of code 1) 1
 abbrev pub twice_of_code : ℕ → ℕ
 twice_of_code code = sum_of Word (shifted SRL (shifted SLA code 15) 14) 2
 
-abbrev pub ask_first : View → Exit
-ask_first v = ask_place 5 (width_of_code v.r.r0) OPSDST v
+abbrev pub request_first : View → Exit
+request_first v = request_place 5 (width_of_code v.r.r0) OPSDST v
 
-abbrev pub ask_stored : View → Exit
-ask_stored v = ask_place 5 (width_of_code v.r.r0) STDST v
+abbrev pub request_stored : View → Exit
+request_stored v = request_place 5 (width_of_code v.r.r0) STDST v
 
-abbrev pub ask_wide : View → Exit
-ask_wide v = ask_place 6 (twice_of_code v.r.r0) WIDDST v
+abbrev pub request_wide : View → Exit
+request_wide v = request_place 6 (twice_of_code v.r.r0) WIDDST v
 
 -- OPSDST and WIDDST: the value there is asked for, and the place is kept as the destination.
 abbrev pub load_kept : ℕ → View → Exit
@@ -105,8 +105,8 @@ abbrev pub keep_wide : View → Exit
 keep_wide v = exit 3 OPSTWO (record v { r = record v.r { r3 = shifted SRL v.r.r3 1; r9 = v.r.r6 } })
 
 -- OPSTWO: an immediate source is asked for, or the place of the source.
-abbrev pub ask_second : View → Exit
-ask_second v =
+abbrev pub request_second : View → Exit
+request_second v =
     let form = record v { r = record v.r { r4 = shifted SRL v.r.r0 2 } } in
     if last_out SRL v.r.r0 2
     then exit 5 STREAM (record form { r = record form.r { r11 = GO } })

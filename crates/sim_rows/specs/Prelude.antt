@@ -25,7 +25,7 @@ pub use Rattle.sim_view.specs.Prelude.{indexed, INTERP, INV, INVV, is_turn_end, 
 pub use Rattle.sim_view.specs.Prelude.{is_vdp_idle, is_visible, IsBoot, IsFetched, IsHalted, IsMachine, IsMatching}
 pub use Rattle.sim_view.specs.Prelude.{IsMemory, IsNewVdp, IsStatus, IsTurn, join, Jump, jump, last_out, LDATA}
 pub use Rattle.sim_view.specs.Prelude.{Length, length_at, length_of, listed, LOAD, low, MachineState, Matches, Memory}
-pub use Rattle.sim_view.specs.Prelude.{MemoryToMemory, modulus, most_to_dispatch, Move, move_found, MOVEA, MOVEB}
+pub use Rattle.sim_view.specs.Prelude.{MemoryToMemory, modulus, bound_to_dispatch, Move, move_found, MOVEA, MOVEB}
 pub use Rattle.sim_view.specs.Prelude.{moved, MOVED, MOVEK, MoveKind, MOVEL, MoveLength, MOVEN, MOVER, MOVES}
 pub use Rattle.sim_view.specs.Prelude.{MoveSource, MoveTarget, MOVEW, MOVEX, Moving, MUL, MULB, MULV, NEG}
 pub use Rattle.sim_view.specs.Prelude.{negation_flags, negation_of}

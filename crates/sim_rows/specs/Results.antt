@@ -7,7 +7,7 @@ use Rattle.sim_operands.specs.Values.{of_register}
 use Rattle.sim_operands.specs.Subroutines.{grom_at, marked_by}
 use Rattle.sim_rows.specs.States.{operation_in, ShowsState, StoppedBy}
 use Rattle.sim_rows.specs.Rows.{AtRow, gone_on, operands_of, row_width, StoresTo}
-use Rattle.sim_view.specs.Bounds.{most_of_result, most_of_show, most_to_row, most_to_row_stop}
+use Rattle.sim_view.specs.Bounds.{bound_of_result, bound_of_show, bound_to_row, bound_to_row_stop}
 
 -- What an operation changes, by the place of its destination, its value and its source.
 abbrev pub result_of : GplOperation → Width → Place → ℕ → Source → Changes → Result Changes Reason
@@ -47,22 +47,22 @@ SeesResult (Err reason) w = ⊥
 -- The end of a row from SHOW on, whatever was changed: the character goes to the screen if it is due.
 abbrev pub EndsRow : MachineState → MachineState → ℕ → ℕ → Type 0
 EndsRow x y before after =
-    (c : Changes) → ShowsChanges c (view x) → ReachesWithin most_of_show x y before after GSTEP (SeesFinished c)
+    (c : Changes) → ShowsChanges c (view x) → ReachesWithin bound_of_show x y before after GSTEP (SeesFinished c)
 
 -- The end of a row from STO on: the result is stored, and the row ends.
 abbrev pub StoresResult : MachineState → MachineState → ℕ → ℕ → Type 0
 StoresResult x y before after =
     (c : Changes) → (width : Width) → (place : Place) → (number : ℕ) → Storing c width place number (view x)
-    → ReachesWithin most_of_result x y before after GSTEP (SeesFinished (with_value width place number c))
+    → ReachesWithin bound_of_result x y before after GSTEP (SeesFinished (with_value width place number c))
 
 -- A row's operands are loaded, and its operation is known; or it stops.
 abbrev pub StartsRow : GplState → MachineState → MachineState → ℕ → ℕ → Option GplOperation
     → Result (Place × Source) Reason → Type 0
 StartsRow s x y before after returned (Ok operands) =
     (returned ≡ operation_in s)
-    × ReachesWithin most_to_row x y before after (row_entry (operation_in s)) (AtRow s operands.0 operands.1)
+    × ReachesWithin bound_to_row x y before after (row_entry (operation_in s)) (AtRow s operands.0 operands.1)
 StartsRow s x y before after returned (Err reason) =
-    (returned ≡ None) × ReachesWithin most_to_row_stop x y before after GSTOP (StoppedBy s reason)
+    (returned ≡ None) × ReachesWithin bound_to_row_stop x y before after GSTOP (StoppedBy s reason)
 
 pub record HasStarted (s : GplState) (x y : MachineState) (before after : ℕ) (returned : Option GplOperation)
     : Type 0 where

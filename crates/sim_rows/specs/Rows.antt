@@ -9,8 +9,8 @@ use Rattle.sim_view.specs.gpl_defs.declared.instruction.TwoName.TheVariants.{DIV
 use Rattle.sim_operands.specs.Values.{in_register, IsVisible, number_of_space, width_in}
 use Rattle.sim_rows.specs.States.{after_code, code_byte, operation_in, ShowsState, StoppedBy}
 use Rattle.sim_view.specs.native_interp.declared.addresses.TheConstants.{OPSDST, OPSTWO, STDST, WIDDST}
-use Rattle.sim_view.specs.Bounds.{most_of_operands, most_of_second_operand, most_to_first_stop, most_to_row_of_one}
-use Rattle.sim_view.specs.Bounds.{most_to_row_stop, most_to_second_operand, most_to_second_stop}
+use Rattle.sim_view.specs.Bounds.{bound_of_operands, bound_of_second_operand, bound_to_first_stop, bound_to_row_of_one}
+use Rattle.sim_view.specs.Bounds.{bound_to_row_stop, bound_to_second_operand, bound_to_second_stop}
 
 -- The operations whose operands are loaded in one way, before a second table leads on to the row of each.
 abbrev pub is_row : Option GplOperation → Bool
@@ -142,22 +142,22 @@ AtRow s place source w = Sourced s place source (next_of s) w
 -- The destination is found and kept, or the program stops. A row of one operand goes on at GO.
 abbrev pub KeepsDestination : GplState → Place → MachineState → MachineState → ℕ → ℕ → Bool → Type 0
 KeepsDestination s place x y before after true =
-    ReachesWithin most_to_second_operand x y before after OPSTWO (Kept s place (after_first s))
+    ReachesWithin bound_to_second_operand x y before after OPSTWO (Kept s place (after_first s))
 KeepsDestination s place x y before after false =
-    ReachesWithin most_to_row_of_one x y before after GO (Sourced s place unit (after_first s))
+    ReachesWithin bound_to_row_of_one x y before after GO (Sourced s place unit (after_first s))
 
 abbrev pub LoadsDestination : GplState → MachineState → MachineState → ℕ → ℕ → Bool → Result Place Reason → Type 0
 LoadsDestination s x y before after went (Ok place) =
     IsTrue went × KeepsDestination s place x y before after (has_source s)
 LoadsDestination s x y before after went (Err reason) =
-    IsFalse went × ReachesWithin most_to_first_stop x y before after GSTOP (StoppedBy s reason)
+    IsFalse went × ReachesWithin bound_to_first_stop x y before after GSTOP (StoppedBy s reason)
 
 -- From OPSTWO the value of the source is loaded, or the program stops.
 abbrev pub LoadsBy : GplState → Place → MachineState → MachineState → ℕ → ℕ → Bool → Result Source Reason → Type 0
 LoadsBy s place x y before after went (Ok source) =
-    IsTrue went × ReachesWithin most_of_second_operand x y before after GO (Sourced s place source (next_of s))
+    IsTrue went × ReachesWithin bound_of_second_operand x y before after GO (Sourced s place source (next_of s))
 LoadsBy s place x y before after went (Err reason) =
-    IsFalse went × ReachesWithin most_to_second_stop x y before after GSTOP (StoppedBy s reason)
+    IsFalse went × ReachesWithin bound_to_second_stop x y before after GSTOP (StoppedBy s reason)
 
 abbrev pub LoadsSource : MachineState → MachineState → ℕ → ℕ → Bool → Type 0
 LoadsSource x y before after went =
@@ -168,9 +168,9 @@ LoadsSource x y before after went =
 abbrev pub LoadsOperands : GplState → MachineState → MachineState → ℕ → ℕ → Bool
     → Result (Place × Source) Reason → Type 0
 LoadsOperands s x y before after went (Ok operands) =
-    IsTrue went × ReachesWithin most_of_operands x y before after GO (AtRow s operands.0 operands.1)
+    IsTrue went × ReachesWithin bound_of_operands x y before after GO (AtRow s operands.0 operands.1)
 LoadsOperands s x y before after went (Err reason) =
-    IsFalse went × ReachesWithin most_to_row_stop x y before after GSTOP (StoppedBy s reason)
+    IsFalse went × ReachesWithin bound_to_row_stop x y before after GSTOP (StoppedBy s reason)
 
 -- A machine at the entry of the row of an operation, which is one of a family: the operands are loaded, the ports are
 -- idle, and a value may be stored at the destination.

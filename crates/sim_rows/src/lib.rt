@@ -8,8 +8,8 @@ mod step;
 mod tail;
 
 pub use row::{
-    ask_first, ask_second, ask_stored, ask_wide, go_to_row, keep_first, keep_stored, keep_wide,
-    load_first, load_second, load_wide, start_row,
+    go_to_row, keep_first, keep_stored, keep_wide, load_first, load_second, load_wide,
+    request_first, request_second, request_stored, request_wide, start_row,
 };
 pub use step::{begin_step, current_operation, dispatch, where_next};
 pub use tail::{end_row, end_row_routine, finish_row, finish_row_routine, show, store_result};

@@ -16,26 +16,26 @@ use sim_view::{register, run_piece};
 use std::sync::ledger::Ledger;
 
 /// The piece of a row that asks ADDR for the place of the first operand.
-pub fn ask_first<L: Ledger>(machine: &mut Machine, steps: &mut Steps<L>)
+pub fn request_first<L: Ledger>(machine: &mut Machine, steps: &mut Steps<L>)
     requires { IsAt machine.old address.ROW }
-    ensures { Exits machine.old machine.new steps.old steps.new (piece.ask_first (view machine.old)) }
+    ensures { Exits machine.old machine.new steps.old steps.new (piece.request_first (view machine.old)) }
 {
     run_piece(machine, steps, &[ADDR]);
 }
 
 /// The same piece of ST.
-pub fn ask_stored<L: Ledger>(machine: &mut Machine, steps: &mut Steps<L>)
+pub fn request_stored<L: Ledger>(machine: &mut Machine, steps: &mut Steps<L>)
     requires { IsAt machine.old address.STROW }
-    ensures { Exits machine.old machine.new steps.old steps.new (piece.ask_stored (view machine.old)) }
+    ensures { Exits machine.old machine.new steps.old steps.new (piece.request_stored (view machine.old)) }
 {
     run_piece(machine, steps, &[ADDR]);
 }
 
 /// The same piece of MUL and DIV, whose destination has twice the width.
 /// Register 3 has twice the width while the destination is looked for, and the width after.
-pub fn ask_wide<L: Ledger>(machine: &mut Machine, steps: &mut Steps<L>)
+pub fn request_wide<L: Ledger>(machine: &mut Machine, steps: &mut Steps<L>)
     requires { IsAt machine.old address.WIDE }
-    ensures { Exits machine.old machine.new steps.old steps.new (piece.ask_wide (view machine.old)) }
+    ensures { Exits machine.old machine.new steps.old steps.new (piece.request_wide (view machine.old)) }
 {
     run_piece(machine, steps, &[ADDR]);
 }
@@ -81,9 +81,9 @@ pub fn keep_wide<L: Ledger>(machine: &mut Machine, steps: &mut Steps<L>)
 }
 
 /// The piece of a row that asks STREAM for an immediate source, or ADDR for the source's place.
-pub fn ask_second<L: Ledger>(machine: &mut Machine, steps: &mut Steps<L>)
+pub fn request_second<L: Ledger>(machine: &mut Machine, steps: &mut Steps<L>)
     requires { IsAt machine.old address.OPSTWO }
-    ensures { Exits machine.old machine.new steps.old steps.new (piece.ask_second (view machine.old)) }
+    ensures { Exits machine.old machine.new steps.old steps.new (piece.request_second (view machine.old)) }
 {
     run_piece(machine, steps, &[STREAM, ADDR]);
 }
@@ -107,18 +107,18 @@ pub fn go_to_row<L: Ledger>(machine: &mut Machine, steps: &mut Steps<L>)
 }
 
 /// Asks ADDR for the place of the destination, with its number of bytes.
-fn ask_destination<L: Ledger>(machine: &mut Machine, steps: &mut Steps<L>)
+fn request_destination<L: Ledger>(machine: &mut Machine, steps: &mut Steps<L>)
     requires { AtDispatch is_row machine.old }
     ensures { let s = state_at_dispatch (view machine.old) in
         ReachesWithin 6 machine.old machine.new steps.old steps.new address.ADDR
         (Asking s (destination_bytes s) (after_code s) (return_of_destination (operation_in s))) }
 {
     if machine.pc() == WIDE {
-        ask_wide(machine, steps);
+        request_wide(machine, steps);
     } else if machine.pc() == STROW {
-        ask_stored(machine, steps);
+        request_stored(machine, steps);
     } else {
-        ask_first(machine, steps);
+        request_first(machine, steps);
     }
 }
 
@@ -130,7 +130,7 @@ fn load_destination<L: Ledger>(machine: &mut Machine, steps: &mut Steps<L>) -> b
         LoadsDestination s machine.old machine.new steps.old steps.new result (first_of s) }
 {
     let entry = machine.pc();
-    ask_destination(machine, steps);
+    request_destination(machine, steps);
     run_address(machine, steps);
     if machine.pc() == GSTOP {
         return false;
@@ -162,7 +162,7 @@ fn load_source<L: Ledger>(machine: &mut Machine, steps: &mut Steps<L>) -> bool
     ensures { LoadsSource machine.old machine.new steps.old steps.new result }
 {
     machine.holds_bounds();
-    ask_second(machine, steps);
+    request_second(machine, steps);
     if machine.pc() == STREAM {
         stream_value(machine, steps);
         return true;

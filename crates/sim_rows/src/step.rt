@@ -1,7 +1,7 @@
 //! A step up to its dispatch.
 
 ghost use Rattle.std.specs.Prelude.{◌+◌, ◌≡◌, slice_index};
-ghost use Rattle.sim_rows.specs.Prelude.{ReachesWithin, Dispatched, Exits, IsMatching, most_to_dispatch, operation_at};
+ghost use Rattle.sim_rows.specs.Prelude.{ReachesWithin, Dispatched, Exits, IsMatching, bound_to_dispatch, operation_at};
 ghost use Rattle.sim_rows.specs.Prelude.{operation_entry, operation_in_view, shown_by, IsAt, state_at_dispatch, view};
 ghost use Rattle.sim_view.specs.native_interp.declared.addresses.TheConstants as address;
 ghost use Rattle.sim_rows.specs.Pieces as piece;
@@ -32,7 +32,7 @@ pub fn dispatch<L: Ledger>(machine: &mut Machine, steps: &mut Steps<L>)
 pub fn begin_step<L: Ledger>(machine: &mut Machine, steps: &mut Steps<L>)
     requires { IsMatching machine.old }
     ensures { let s = shown_by machine.old.cpu.memory in
-        ReachesWithin most_to_dispatch machine.old machine.new steps.old steps.new
+        ReachesWithin bound_to_dispatch machine.old machine.new steps.old steps.new
         (operation_entry (operation_at (slice_index s.image s.pc))) (Dispatched s) }
 {
     machine.holds_bounds();

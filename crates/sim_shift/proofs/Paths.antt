@@ -6,17 +6,17 @@ use Rattle.sim_rows.proofs.Common.{COUNT, count_in, Leads, pick, SLLB, SLLV, SRA
 use Rattle.sim_shift.specs.Pieces.{low_four}
 use Rattle.sim_shift.specs.Pieces as pieces
 
-pub ask_arithmetic_count : (v : View) → Leads (COUNT ∷ []) v SRAV (pieces.ask_arithmetic_count v)
-ask_arithmetic_count v = record { by = λ f q. refl }
+pub request_arithmetic_count : (v : View) → Leads (COUNT ∷ []) v SRAV (pieces.request_arithmetic_count v)
+request_arithmetic_count v = record { by = λ f q. refl }
 
-pub ask_left_count : (v : View) → Leads (COUNT ∷ []) v SLLV (pieces.ask_left_count v)
-ask_left_count v = record { by = λ f q. refl }
+pub request_left_count : (v : View) → Leads (COUNT ∷ []) v SLLV (pieces.request_left_count v)
+request_left_count v = record { by = λ f q. refl }
 
-pub ask_right_count : (v : View) → Leads (COUNT ∷ []) v SRLV (pieces.ask_right_count v)
-ask_right_count v = record { by = λ f q. refl }
+pub request_right_count : (v : View) → Leads (COUNT ∷ []) v SRLV (pieces.request_right_count v)
+request_right_count v = record { by = λ f q. refl }
 
-pub ask_turn_count : (v : View) → Leads (COUNT ∷ []) v SRCV (pieces.ask_turn_count v)
-ask_turn_count v = record { by = λ f q. refl }
+pub request_turn_count : (v : View) → Leads (COUNT ∷ []) v SRCV (pieces.request_turn_count v)
+request_turn_count v = record { by = λ f q. refl }
 
 pub take_count : (v : View) → Leads (STO ∷ []) v COUNT (pieces.take_count v)
 take_count v = record {

@@ -108,7 +108,7 @@ turn_byte v c = rw (c, pieces.turn_right) refl
 pub turn_word : (v : View) → (v.r.r3 == 1) ≡ false → pieces.turn_right v ≡ exit 4 STO (record v { r = record v.r { r9 = shifted SRC v.r.r9 v.r.r0 } })
 turn_word v c = rw (c, pieces.turn_right) refl
 
--- what a shift's last piece comes to
+-- the exit of a shift's last piece
 pub record Shifted (v : View) (e : Exit) : Type 0 where
   pub few : e.count ≤ 7
   pub to_is : e.to ≡ STO

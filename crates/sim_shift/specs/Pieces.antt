@@ -1,4 +1,4 @@
--- What the pieces of the shifts come to: how many instructions they have, where they end, and what they change of the
+-- What the pieces of the shifts do: how many instructions they have, where they end, and what they change of the
 -- view, in the words of the processor. Registers, cells and ports that are not named stay.
 use Rattle.std.specs.Prelude.{ℕ, ◌+◌, ◌==◌, if◌then◌else◌}
 use Rattle.sim_rows.specs.Prelude.{COUNT, Exit, exit, ones_set, return_of, shifted, ShiftOp, SLA, SLLB, SRA, SRAB}
@@ -9,17 +9,17 @@ abbrev pub asking : ℕ → View → Exit
 asking next v = exit 1 COUNT (record v { r = record v.r { r11 = next } })
 
 -- SRAV, SLLV, SRLV, SRCV: the count of the shift is asked for.
-abbrev pub ask_arithmetic_count : View → Exit
-ask_arithmetic_count v = asking SRAB v
+abbrev pub request_arithmetic_count : View → Exit
+request_arithmetic_count v = asking SRAB v
 
-abbrev pub ask_left_count : View → Exit
-ask_left_count v = asking SLLB v
+abbrev pub request_left_count : View → Exit
+request_left_count v = asking SLLB v
 
-abbrev pub ask_right_count : View → Exit
-ask_right_count v = asking SRLB v
+abbrev pub request_right_count : View → Exit
+request_right_count v = asking SRLB v
 
-abbrev pub ask_turn_count : View → Exit
-ask_turn_count v = asking SRCB v
+abbrev pub request_turn_count : View → Exit
+request_turn_count v = asking SRCB v
 
 -- the low four bits of a word
 abbrev pub low_four : ℕ → ℕ

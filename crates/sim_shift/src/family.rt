@@ -5,11 +5,11 @@ ghost use Rattle.sim_rows.specs.Prelude.{AtDispatch, AtEntry, Exits, IsVisible, 
 ghost use Rattle.sim_rows.specs.Prelude.{from_dispatch, RunsRow, IsAt, state_at_dispatch, Turned, Two, view};
 ghost use Rattle.sim_shift.specs.Pieces.{asking, shifts};
 ghost use Rattle.sim_shift.specs.Family as family;
-ghost use Rattle.sim_rows.specs.sim_view.Bounds.{most_of_shift_row};
+ghost use Rattle.sim_rows.specs.sim_view.Bounds.{bound_of_shift_row};
 
 use crate::pieces::{
-    ask_arithmetic_count, ask_left_count, ask_right_count, ask_turn_count, shift_arithmetic,
-    shift_left, shift_right, take_count, turn_right,
+    request_arithmetic_count, request_left_count, request_right_count, request_turn_count,
+    shift_arithmetic, shift_left, shift_right, take_count, turn_right,
 };
 use sim_rows::gpl::{GplOperation, TwoName};
 use sim_rows::instructions::ShiftOp;
@@ -30,15 +30,15 @@ fn shift_of(operation: GplOperation) -> ShiftOp
 }
 
 /// The first piece of a shift, which asks for its count.
-fn ask_count<L: Ledger>(machine: &mut Machine, steps: &mut Steps<L>, op: ShiftOp)
+fn request_count<L: Ledger>(machine: &mut Machine, steps: &mut Steps<L>, op: ShiftOp)
     requires { IsAt machine.old (family.count_entry op) }
     ensures { Exits machine.old machine.new steps.old steps.new (asking (family.shift_entry op) (view machine.old)) }
 {
     match op {
-        ShiftOp::SRA => ask_arithmetic_count(machine, steps),
-        ShiftOp::SLA => ask_left_count(machine, steps),
-        ShiftOp::SRL => ask_right_count(machine, steps),
-        ShiftOp::SRC => ask_turn_count(machine, steps),
+        ShiftOp::SRA => request_arithmetic_count(machine, steps),
+        ShiftOp::SLA => request_left_count(machine, steps),
+        ShiftOp::SRL => request_right_count(machine, steps),
+        ShiftOp::SRC => request_turn_count(machine, steps),
     }
 }
 
@@ -63,9 +63,9 @@ fn run_named<L: Ledger>(machine: &mut Machine, steps: &mut Steps<L>, op: ShiftOp
     requires idle { PortsAreIdle machine.old.cpu.memory }
     requires space { (view machine.old).r.r8 < 2 }
     requires visible { let r = (view machine.old).r in IsVisible r.r8 r.r7 r.r3 }
-    ensures { RunsRow (Two (family.name_of op)) most_of_shift_row machine.old machine.new steps.old steps.new }
+    ensures { RunsRow (Two (family.name_of op)) bound_of_shift_row machine.old machine.new steps.old steps.new }
 {
-    ask_count(machine, steps, op);
+    request_count(machine, steps, op);
     if !take_count(machine, steps) {
         finish_row(machine, steps);
         return;
@@ -77,7 +77,7 @@ fn run_named<L: Ledger>(machine: &mut Machine, steps: &mut Steps<L>, op: ShiftOp
 /// Runs a shift from its row to the end of the step.
 fn run_row<L: Ledger>(machine: &mut Machine, steps: &mut Steps<L>, operation: GplOperation)
     requires { AtEntry family.is_shift operation machine.old }
-    ensures { RunsRow operation most_of_shift_row machine.old machine.new steps.old steps.new }
+    ensures { RunsRow operation bound_of_shift_row machine.old machine.new steps.old steps.new }
 {
     run_named(machine, steps, shift_of(operation));
 }

@@ -6,6 +6,6 @@ mod pieces;
 
 pub use family::run_shift;
 pub use pieces::{
-    ask_arithmetic_count, ask_left_count, ask_right_count, ask_turn_count, shift_arithmetic,
-    shift_left, shift_right, take_count, turn_right,
+    request_arithmetic_count, request_left_count, request_right_count, request_turn_count,
+    shift_arithmetic, shift_left, shift_right, take_count, turn_right,
 };

@@ -11,33 +11,33 @@ use sim_rows::run_piece;
 use std::sync::ledger::Ledger;
 
 /// The piece of SRA that asks for its count.
-pub fn ask_arithmetic_count<L: Ledger>(machine: &mut Machine, steps: &mut Steps<L>)
+pub fn request_arithmetic_count<L: Ledger>(machine: &mut Machine, steps: &mut Steps<L>)
     requires { IsAt machine.old address.SRAV }
-    ensures { Exits machine.old machine.new steps.old steps.new (piece.ask_arithmetic_count (view machine.old)) }
+    ensures { Exits machine.old machine.new steps.old steps.new (piece.request_arithmetic_count (view machine.old)) }
 {
     run_piece(machine, steps, &[COUNT]);
 }
 
 /// The piece of SLL that asks for its count.
-pub fn ask_left_count<L: Ledger>(machine: &mut Machine, steps: &mut Steps<L>)
+pub fn request_left_count<L: Ledger>(machine: &mut Machine, steps: &mut Steps<L>)
     requires { IsAt machine.old address.SLLV }
-    ensures { Exits machine.old machine.new steps.old steps.new (piece.ask_left_count (view machine.old)) }
+    ensures { Exits machine.old machine.new steps.old steps.new (piece.request_left_count (view machine.old)) }
 {
     run_piece(machine, steps, &[COUNT]);
 }
 
 /// The piece of SRL that asks for its count.
-pub fn ask_right_count<L: Ledger>(machine: &mut Machine, steps: &mut Steps<L>)
+pub fn request_right_count<L: Ledger>(machine: &mut Machine, steps: &mut Steps<L>)
     requires { IsAt machine.old address.SRLV }
-    ensures { Exits machine.old machine.new steps.old steps.new (piece.ask_right_count (view machine.old)) }
+    ensures { Exits machine.old machine.new steps.old steps.new (piece.request_right_count (view machine.old)) }
 {
     run_piece(machine, steps, &[COUNT]);
 }
 
 /// The piece of SRC that asks for its count.
-pub fn ask_turn_count<L: Ledger>(machine: &mut Machine, steps: &mut Steps<L>)
+pub fn request_turn_count<L: Ledger>(machine: &mut Machine, steps: &mut Steps<L>)
     requires { IsAt machine.old address.SRCV }
-    ensures { Exits machine.old machine.new steps.old steps.new (piece.ask_turn_count (view machine.old)) }
+    ensures { Exits machine.old machine.new steps.old steps.new (piece.request_turn_count (view machine.old)) }
 {
     run_piece(machine, steps, &[COUNT]);
 }

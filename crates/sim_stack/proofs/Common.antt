@@ -17,9 +17,9 @@ pub use Rattle.sim_rows.proofs.StepStart.{one_at_most}
 pub use Rattle.sim_rows.specs.Pieces.{address_before, at_first}
 pub use Rattle.sim_rows.specs.sim_operands.Pieces.{fetch, one_if, seek}
 pub use Rattle.sim_rows.specs.sim_view.Routines.{◌>>?◌, ◌>>◌}
-pub use Rattle.sim_rows.proofs.Routines.{ask_store_first, load_first, row_ends, row_finishes, store_first}
+pub use Rattle.sim_rows.proofs.Routines.{request_store_first, load_first, row_ends, row_finishes, store_first}
 pub use Rattle.sim_rows.proofs.RowViews.{row_is, row_view, seen_with}
-pub use Rattle.sim_stack.specs.Pieces.{ask_byte, find_next, keep_next, keep_byte, keep_stacked_next, store_fetched}
+pub use Rattle.sim_stack.specs.Pieces.{request_byte, find_next, keep_next, keep_byte, keep_stacked_next, store_fetched}
 pub use Rattle.sim_stack.specs.Pieces.{store_next, call_offset, offset_of, pointer_at, return_offset, shows_at}
 pub use Rattle.sim_stack.specs.Pieces.{full}
 unfoldable pub use Rattle.sim_stack.specs.Pieces.{if_room}

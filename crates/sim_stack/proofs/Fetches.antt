@@ -14,7 +14,7 @@ use Rattle.sim_rows.specs.gpl_step_defs.Place.{word_at}
 use Rattle.sim_jumps.proofs.NextAddress.{later_fits, next_fits}
 use Rattle.sim_stack.proofs.NextAddress.{aside, aside_first, located, located_first}
 use Rattle.sim_stack.proofs.Room.{next_is, EndsByRoom, tests}
-use Rattle.sim_stack.proofs.Common.{◌>>?◌, ◌>>◌, ask_store_first, end_fetch, Ends, fetch_on, fetch_stacked, fetched, first}
+use Rattle.sim_stack.proofs.Common.{◌>>?◌, ◌>>◌, request_store_first, end_fetch, Ends, fetch_on, fetch_stacked, fetched, first}
 use Rattle.sim_stack.proofs.Common.{load, load_first, load_stacked, locate_stacked, regroup, resume_row, return_offset}
 use Rattle.sim_stack.proofs.Common.{row_is, row_resumes, row_view, seen_with, set_aside, store, store_first}
 use Rattle.sim_stack.specs.Pieces as pieces
@@ -24,7 +24,7 @@ use Rattle.sim_stack.specs.Pieces as pieces
 -- a word of the stack is loaded
 abbrev pub stacked : View → (word r4 address byte : ℕ) → View
 stacked v word r4 address byte =
-    let w = (pieces.ask_stacked v).left in
+    let w = (pieces.request_stacked v).left in
     record w { r = record w.r { r4 = r4; r6 = word }; vdp = record w.vdp { address = address; fetched = byte } }
 
 stacked_first : (v : View) (top : ℕ) (f : View → Exit) {b to : ℕ} {R : View → Type 0} → v.vdp.held ≡ None →
@@ -32,7 +32,7 @@ stacked_first : (v : View) (top : ℕ) (f : View → Exit) {b to : ℕ} {R : Vie
     ((r4 address byte : ℕ) → Ends (f (stacked v (word_in v.cells top) r4 address byte)) b to R) →
     Ends (load_stacked v >> f) (4 + (15 + b)) to R
 stacked_first v top f {b = b} {to = to} {R = R} held at near next =
-    let asked = pieces.ask_stacked v in
+    let asked = pieces.request_stacked v in
     let word : value_at (state_of asked.left) Word (place_in 0 v.r.r2) ≡ word_in v.cells top =
     ap (λ (n : ℕ). value_at (state_of asked.left) Word (place_in 0 n)) at
     ∙ ap (λ (n : ℕ). join (slice_index v.cells top) (slice_index v.cells n)) (next_is top (omega arith)) in
@@ -115,7 +115,7 @@ module _ (s : GplState) (place : Place) (top next byte : ℕ) where
         value = refl;
       } in
       regroup (asked >> store >> pieces.store_fetched) store resume_row
-      (ask_store_first asked pieces.store_fetched (λ w. store w >> resume_row) word (omega arith) (λ z. omega arith)
+      (request_store_first asked pieces.store_fetched (λ w. store w >> resume_row) word (omega arith) (λ z. omega arith)
       (λ r4 address read.
       let second = pieces.store_fetched (seen_with between asked.left r4 address read) in
       let stores : Storing between Byte place byte second.left = record {

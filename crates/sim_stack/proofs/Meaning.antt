@@ -3,7 +3,7 @@ use Rattle.std.proofs.Common.{eqb, ◌%◌, ◌==◌, ◌∙◌, ◌≡◌, ap, 
 use Rattle.std.proofs.Common.{refl, Result, Some, sym, true, ℕ}
 use Rattle.sim_rows.proofs.Common.{◌>>=◌, AtDispatch, AtRow, bound, bound_made, bound_stop, Byte, CALL, Changes}
 use Rattle.sim_rows.proofs.Common.{code_byte, Dispatched, EXIT, Exit, Exits, finished, from_dispatch, GplOperation, GplState}
-use Rattle.sim_rows.proofs.Common.{if_true, is_exit, is_turn_end, is_view, IsView, Jump, MachineState, matches, most_to_dispatch, never_exits}
+use Rattle.sim_rows.proofs.Common.{if_true, is_exit, is_turn_end, is_view, IsView, Jump, MachineState, matches, bound_to_dispatch, never_exits}
 use Rattle.sim_rows.proofs.Common.{One, operands_of, operation_at, operation_in, Place, Plain, PlainOp, PUSH, reaches}
 use Rattle.sim_rows.proofs.Common.{Reason, row_result, row_width, size_of, Source, IsAt, state_at_dispatch, step}
 use Rattle.sim_rows.proofs.Common.{step_jump, step_plain, Stopped, stops, Turn, Turned, turned_by, TurnsBy, unchanged}
@@ -58,17 +58,17 @@ module _ {x y : MachineState} {before after : ℕ} {turn : Turn} (turn_is : turn
   turned_by_result s (Ok c) start stays is bound_is run h =
       let k = turns_at 54 s (Ok c) run h in
       let b = bound_is (finished c) is in
-      turned_by x y before after most_to_dispatch turn s (Ok (finished c)) is (
+      turned_by x y before after bound_to_dispatch turn s (Ok (finished c)) is (
         k.0,
-        reaches most_to_dispatch (bound s) k.1 start refl (omega arith),
+        reaches bound_to_dispatch (bound s) k.1 start refl (omega arith),
         matches (finished c) y k.1.is_at k.1.holds,
       )
   turned_by_result s (Err reason) start stays is bound_is run h =
       let k = turns_at 54 s (Err reason) run h in
       let b = bound_stop s reason is in
-      turned_by x y before after most_to_dispatch turn s (Err reason) is (
+      turned_by x y before after bound_to_dispatch turn s (Err reason) is (
         k.0,
-        reaches most_to_dispatch (bound s) k.1 start refl (omega arith),
+        reaches bound_to_dispatch (bound s) k.1 start refl (omega arith),
         stops s reason y (never_exits s reason stays is) k.1.is_at k.1.holds,
       )
 

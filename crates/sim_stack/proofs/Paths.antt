@@ -120,14 +120,14 @@ keep_place v = record {
 pub keep_next : (v : View) → Leads (SEEK ∷ []) v FETCHN (pieces.keep_next v)
 keep_next v = record { by = λ f q. refl }
 
-pub ask_stacked : (v : View) → Leads (LOAD ∷ []) v FETCHP (pieces.ask_stacked v)
-ask_stacked v = record { by = λ f q. refl }
+pub request_stacked : (v : View) → Leads (LOAD ∷ []) v FETCHP (pieces.request_stacked v)
+request_stacked v = record { by = λ f q. refl }
 
 pub seek_stacked : (v : View) → Leads (SEEK ∷ []) v FETCHA (pieces.seek_stacked v)
 seek_stacked v = record { by = λ f q. refl }
 
-pub ask_byte : (v : View) → Leads (FETCH ∷ []) v FETCHR (pieces.ask_byte v)
-ask_byte v = record { by = λ f q. refl }
+pub request_byte : (v : View) → Leads (FETCH ∷ []) v FETCHR (pieces.request_byte v)
+request_byte v = record { by = λ f q. refl }
 
 pub keep_byte : (v : View) → Leads (WHERE ∷ []) v FETCHK (pieces.keep_byte v)
 keep_byte v = record { by = λ f q. refl }

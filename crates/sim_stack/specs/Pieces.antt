@@ -1,4 +1,4 @@
--- What the pieces of CALL, RTN, PUSH and FETCH come to: how many instructions they have, where they end, and what they
+-- What the pieces of CALL, RTN, PUSH and FETCH do: how many instructions they have, where they end, and what they
 -- change of the view, in the words of the processor. Registers, cells and ports that are not named stay.
 use Rattle.std.specs.Prelude.{ℕ, ◌&&◌, ◌+◌, ◌-◌, ◌==◌, Bool, if◌then◌else◌, nat_lt, not, slice_index, slice_set}
 use Rattle.sim_rows.specs.Prelude.{CALLN, CALLS, CHARACTER, difference_of, Exit, exit, FETCH, FETCHA, FETCHB, FETCHD, FETCHK}
@@ -101,15 +101,15 @@ abbrev pub keep_next : View → Exit
 keep_next v = exit 2 SEEK (record v { r = record v.r { r11 = FETCHP; r14 = v.r.r6 } })
 
 -- FETCHP: LOAD is asked for the word on the stack.
-abbrev pub ask_stacked : View → Exit
-ask_stacked v = exit 4 LOAD (record v { r = record v.r { r3 = 2; r5 = 0; r7 = v.r.r2; r11 = FETCHA } })
+abbrev pub request_stacked : View → Exit
+request_stacked v = exit 4 LOAD (record v { r = record v.r { r3 = 2; r5 = 0; r7 = v.r.r2; r11 = FETCHA } })
 
 -- FETCHA, FETCHR: GROM is set to that address, and the byte there is asked for.
 abbrev pub seek_stacked : View → Exit
 seek_stacked v = exit 1 SEEK (record v { r = record v.r { r11 = FETCHR } })
 
-abbrev pub ask_byte : View → Exit
-ask_byte v = exit 1 FETCH (record v { r = record v.r { r11 = FETCHK } })
+abbrev pub request_byte : View → Exit
+request_byte v = exit 1 FETCH (record v { r = record v.r { r11 = FETCHK } })
 
 -- FETCHK: the byte is kept, and WHERE is asked for the address after it.
 abbrev pub keep_byte : View → Exit

@@ -24,7 +24,7 @@ called v = piece.read_call_target v >>? call_on
 
 -- ---- RTN and RTNC
 
--- RTN comes to TAKE, which clears the condition; RTNC keeps it
+-- RTN reaches TAKE, which clears the condition; RTNC keeps it
 abbrev pub clear_and_go : View → Exit
 clear_and_go v = jump.take_branch v >> jump.go_to
 
@@ -41,11 +41,11 @@ set_aside v = step.where_next v >> piece.keep_next >> subroutine.seek
 
 -- the address on the stack
 abbrev pub load_stacked : View → Exit
-load_stacked v = piece.ask_stacked v >> load
+load_stacked v = piece.request_stacked v >> load
 
 -- the byte of GROM there
 abbrev pub fetch_stacked : View → Exit
-fetch_stacked v = piece.seek_stacked v >> subroutine.seek >> piece.ask_byte >> subroutine.fetch >> piece.keep_byte
+fetch_stacked v = piece.seek_stacked v >> subroutine.seek >> piece.request_byte >> subroutine.fetch >> piece.keep_byte
 
 -- the address after it
 abbrev pub locate_stacked : View → Exit

@@ -7,8 +7,8 @@ ghost use Rattle.sim_rows.specs.native_interp.declared.addresses.TheConstants as
 ghost use Rattle.sim_stack.specs.Rows as row;
 
 use crate::pieces::{
-    ask_byte, ask_stacked, keep_byte, keep_next, keep_place, keep_stacked_next, seek_stacked,
-    store_fetched, store_stacked,
+    keep_byte, keep_next, keep_place, keep_stacked_next, request_byte, request_stacked,
+    seek_stacked, store_fetched, store_stacked,
 };
 use sim_jumps::resume_row_routine;
 use sim_rows::labels::{FETCH, GSTOP, WHERE};
@@ -34,7 +34,7 @@ fn load_stacked<L: Ledger>(machine: &mut Machine, steps: &mut Steps<L>)
     requires visible { IsVisible 0 (view machine.old).r.r2 2 }
     ensures { Exits machine.old machine.new steps.old steps.new (row.load_stacked (view machine.old)) }
 {
-    ask_stacked(machine, steps);
+    request_stacked(machine, steps);
     load_routine(machine, steps);
 }
 
@@ -45,7 +45,7 @@ fn fetch_stacked<L: Ledger>(machine: &mut Machine, steps: &mut Steps<L>)
 {
     seek_stacked(machine, steps);
     seek_address(machine, steps);
-    ask_byte(machine, steps);
+    request_byte(machine, steps);
     fetch_byte(machine, steps);
     keep_byte(machine, steps);
 }

@@ -11,7 +11,7 @@ mod returns;
 
 pub use family::run_stack;
 pub use pieces::{
-    ask_byte, ask_stacked, find_next, keep_byte, keep_next, keep_place, keep_stacked_next,
-    push_pointer, read_call_target, seek_stacked, store_fetched, store_next, store_stacked,
+    find_next, keep_byte, keep_next, keep_place, keep_stacked_next, push_pointer, read_call_target,
+    request_byte, request_stacked, seek_stacked, store_fetched, store_next, store_stacked,
     take_return,
 };

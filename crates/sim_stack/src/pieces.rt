@@ -52,9 +52,9 @@ pub fn keep_next<L: Ledger>(machine: &mut Machine, steps: &mut Steps<L>)
 }
 
 /// The piece of FETCH that asks LOAD for the word on the stack.
-pub fn ask_stacked<L: Ledger>(machine: &mut Machine, steps: &mut Steps<L>)
+pub fn request_stacked<L: Ledger>(machine: &mut Machine, steps: &mut Steps<L>)
     requires { IsAt machine.old address.FETCHP }
-    ensures { Exits machine.old machine.new steps.old steps.new (piece.ask_stacked (view machine.old)) }
+    ensures { Exits machine.old machine.new steps.old steps.new (piece.request_stacked (view machine.old)) }
 {
     run_piece(machine, steps, &[LOAD]);
 }
@@ -68,9 +68,9 @@ pub fn seek_stacked<L: Ledger>(machine: &mut Machine, steps: &mut Steps<L>)
 }
 
 /// The piece of FETCH that asks for the byte there.
-pub fn ask_byte<L: Ledger>(machine: &mut Machine, steps: &mut Steps<L>)
+pub fn request_byte<L: Ledger>(machine: &mut Machine, steps: &mut Steps<L>)
     requires { IsAt machine.old address.FETCHR }
-    ensures { Exits machine.old machine.new steps.old steps.new (piece.ask_byte (view machine.old)) }
+    ensures { Exits machine.old machine.new steps.old steps.new (piece.request_byte (view machine.old)) }
 {
     run_piece(machine, steps, &[FETCH]);
 }

@@ -10,7 +10,7 @@ left_is : (a b : Bool) → (a || b) ≡ false → a ≡ false
 left_is true b e = absurd (cc)
 left_is false b e = refl
 
--- a run that begins elsewhere comes to the first step no sooner
+-- a run that begins elsewhere reaches the first step no sooner
 before_is : (count : ℕ) (x y : MachineState) → Runs count x y → eqb x.cpu.pc GSTEP ≡ false →
     (before : ℕ) → before < count → (z : MachineState) → steps before x ≡ Gives z → eqb z.cpu.pc GSTEP ≡ false
 before_is count x y r start zero less z e = ap (λ (m : MachineState). eqb m.cpu.pc GSTEP) (sym (given x z e)) ∙ start

@@ -1,6 +1,6 @@
 -- The code bytes that stop.
 use Rattle.std.proofs.Common.{ℕ, ◌≡◌, ap, arith, Err, refl}
-use Rattle.sim_rows.proofs.Common.{bound, bound_stop, comes, Dispatched, Exits, Goes, goes_in, GplState, GromState, GSTOP, is_turn_end, MachineState, most_to_dispatch, Opcode}
+use Rattle.sim_rows.proofs.Common.{bound, bound_stop, comes, Dispatched, Exits, Goes, goes_in, GplState, GromState, GSTOP, is_turn_end, MachineState, bound_to_dispatch, Opcode}
 use Rattle.sim_rows.proofs.Common.{from_dispatch, reaches, IsAt, step, Stopped, StoppedBy, stops, Turned, turned_by, UNKN, view}
 use Rattle.sim_steps.specs.Pieces as pieces
 
@@ -22,5 +22,5 @@ module _ (s : GplState) (x y : MachineState) (t u : ℕ) (d : Dispatched s (view
       }) in
       let c = comes run ended in
       let b = bound_stop s Opcode is in
-      turned_by x y t u most_to_dispatch (Stopped Opcode) s (Err Opcode) is
-      (refl, reaches most_to_dispatch (bound s) c (ap is_turn_end is_at.pc) refl (omega arith), stops s Opcode y (λ e. cc) c.is_at c.holds)
+      turned_by x y t u bound_to_dispatch (Stopped Opcode) s (Err Opcode) is
+      (refl, reaches bound_to_dispatch (bound s) c (ap is_turn_end is_at.pc) refl (omega arith), stops s Opcode y (λ e. cc) c.is_at c.holds)

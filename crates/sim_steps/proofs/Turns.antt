@@ -1,6 +1,6 @@
 -- The turn from the dispatch of a step.
 use Rattle.std.proofs.Common.{ℕ, ◌≡◌, Bool, None, Option, refl, slice_index, Some, subst, sym, true}
-use Rattle.sim_rows.proofs.Common.{AtDispatch, code_byte, ReachesWithin, Dispatched, Exits, GplOperation, GplState, MachineState, most_to_dispatch, Opcode}
+use Rattle.sim_rows.proofs.Common.{AtDispatch, code_byte, ReachesWithin, Dispatched, Exits, GplOperation, GplState, MachineState, bound_to_dispatch, Opcode}
 use Rattle.sim_rows.proofs.Common.{from_dispatch, operation_at, operation_entry, operation_in_view, IsAt, state_at, state_at_dispatch, step_none, Stopped, Turn, Turned, whole_turn}
 use Rattle.sim_rows.proofs.Common.{turned_from, UNKN, view}
 use Rattle.sim_steps.specs.declared.family.Family.TheVariants.{Refused}
@@ -9,7 +9,7 @@ use Rattle.sim_steps.proofs.RefusedCodes.{refuses}
 use Rattle.sim_steps.specs.Pieces as pieces
 use Rattle.sim_steps.proofs.Families as families
 
-module _ (s : GplState) (x y : MachineState) (t u : ℕ) (c : ReachesWithin most_to_dispatch x y t u (operation_entry (operation_at (code_byte s))) (Dispatched s)) where
+module _ (s : GplState) (x y : MachineState) (t u : ℕ) (c : ReachesWithin bound_to_dispatch x y t u (operation_entry (operation_at (code_byte s))) (Dispatched s)) where
   seen : state_at_dispatch (view y) ≡ s
   seen = state_at (view y) s c.holds
 

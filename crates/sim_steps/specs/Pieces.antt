@@ -1,4 +1,4 @@
--- What the pieces of boot and of the stop by a code byte come to: how many instructions they have, where they
+-- What the pieces of boot and of the stop by a code byte do: how many instructions they have, where they
 -- end, and what they change of the view, in the words of the processor. Registers, cells and
 -- ports that are not named stay.
 use Rattle.std.specs.Prelude.{slice_set}

@@ -9,7 +9,7 @@ abbrev pub booted : View → GplState
 booted w =
     record (state_of w) { cells = slice_set (slice_set w.cells VALUE_STACK 0x9F) RETURN_STACK 0x7E; pc = w.r.r0 }
 
--- From boot the machine comes to the first step, which it matches. It takes at most a given number of
+-- From boot the machine reaches the first step, which it matches. It takes at most a given number of
 -- instructions, which the counter shows.
 pub record StartsProgram (s : GplState) (most : ℕ) (x y : MachineState) (before after : ℕ) : Type 0 where
   pub count : ℕ

@@ -1,4 +1,4 @@
--- From runs of the view to what a piece comes to.
+-- From runs of the view to the exit of a piece.
 use Rattle.std.proofs.Common.{◌≡◌, ℕ, ◌+◌, ◌*◌, ◌<◌, ◌≤◌, List, [], ◌∷◌, ◌++◌, length, refl, sym, ap, subst, ◌∙◌, arith, get_or, take}
 use Rattle.std.proofs.Common.{drop, length-take, length-drop, lit<, ⊎_elim, zero, suc}
 use Rattle.std.proofs.lemmas.List.{get_or-drop, get_or-take, get_or_past, take_at, drop_at}
@@ -103,7 +103,7 @@ exits ends p x y before after e h l left count bounds =
       };
     }
 
--- What a piece comes to: it is at its entry, its run on the view leads to an exit, and it was run.
+-- The exit of a piece: it is at its entry, its run on the view leads to an exit, and it was run.
 pub piece : {ends : List ℕ} {p : ℕ} {x y : MachineState} {before after : ℕ} {e : Exit} →
     IsAt x p → Leads ends (view x) p e → RunsPiece ends x y before after → Exits x y before after e
 piece {ends = ends} {p = p} {x = x} {y = y} {before = before} {after = after} {e = e} is_at leads run =

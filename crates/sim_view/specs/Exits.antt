@@ -1,4 +1,4 @@
--- What a piece of the interpreter comes to.
+-- What a piece of the interpreter does: its exit.
 use Rattle.std.specs.Prelude.{◌≡◌, ◌+◌, ◌≤◌, ℕ}
 use Rattle.console_defs.specs.Machine.{MachineState}
 use Rattle.interp_defs.specs.Runs.{Runs}
@@ -11,7 +11,7 @@ pub record Exit : Type 0 where
   pub left : View
 
 -- The stretch from x to y ends so: as many instructions were executed, which the counter shows, and none of them but
--- the last came to one of the interpreter's ends.
+-- the last reached one of the interpreter's ends.
 pub record Exits (x y : MachineState) (before after : ℕ) (e : Exit) : Type 0 where
   pub counted : after ≡ before + e.count
   pub runs : Runs e.count x y

@@ -97,7 +97,7 @@ pub use Rattle.native_interp.specs.declared.addresses.TheConstants.{STO, STORE, 
 pub use Rattle.native_interp.specs.declared.addresses.TheConstants.{UNKN, WHERE, WIDE, WORKSPACE, XORV}
 pub use Rattle.native_interp.specs.declared.words.TheConstants.{INTERP}
 pub use Rattle.interp_defs.specs.Boot.{HoldsEntry, IsBoot}
-pub use Rattle.interp_defs.specs.Interpreter.{address_register, code_register, HoldsRegister, most_to_dispatch}
+pub use Rattle.interp_defs.specs.Interpreter.{address_register, code_register, HoldsRegister, bound_to_dispatch}
 pub use Rattle.interp_defs.specs.Match.{IsFetched, IsHalted, IsMatching, Matches, PortsAreIdle, shown_by, IsStoppedBy}
 pub use Rattle.interp_defs.specs.Programs.{EndsAs, RunsSteps}
 pub use Rattle.interp_defs.specs.Runs.{is_turn_end, Runs}

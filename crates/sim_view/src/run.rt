@@ -18,7 +18,7 @@ pub const PIECE: u64 = 16;
 const BRANCH_BY_REGISTER: u16 = 0x045;
 
 /// Runs a piece of the interpreter: at most 16 steps, fewer where a branch by a register was executed, or
-/// where the machine comes to GSTEP, GSTOP, GEXIT or to one of the ends of the piece. A step that
+/// where the machine reaches GSTEP, GSTOP, GEXIT or one of the ends of the piece. A step that
 /// executes no instruction ends it too.
 pub fn run_piece<L: Ledger>(machine: &mut Machine, steps: &mut Steps<L>, ends: &[u16])
     ensures { spec.RunsPiece ends.now machine.old machine.new steps.old steps.new }

@@ -20,6 +20,6 @@ hex_word word = 0x3E ∷ word_digits word
 abbrev pub hex_byte : ℕ → List ℕ
 hex_byte byte = 0x3E ∷ byte_digits byte
 
--- a number right in a number of columns; one with more digits has as many columns as digits
+-- a number in columns, to their right; one with more digits takes as many columns as it has digits
 unfoldable pub right_in : ℕ → ℕ → List ℕ
 right_in columns number = replicate (columns - length (decimal number)) 0x20 ++ decimal number

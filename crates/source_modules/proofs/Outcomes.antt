@@ -1,4 +1,4 @@
--- What a line comes to by the second checks has values of 16 bits, and bytes.
+-- The outcome of a line by the second checks has values of 16 bits, and bytes.
 use Rattle.std.proofs.Common.{◌≡◌, ℕ, ◌%◌, Bool, true, false, List, [], ◌∷◌, Some, Ok, Err, refl, arith}
 use Rattle.std.specs.Prelude.{Option, Result, IfOk, ⊤, nat_le, if◌then◌else◌}
 use Rattle.std.proofs.lemmas.Bool.Decides.{nat_tests}

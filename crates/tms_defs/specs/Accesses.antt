@@ -2,7 +2,7 @@
 use Rattle.std.specs.Prelude.{ℕ, Result, Ok, Err}
 use Rattle.tms_defs.specs.declared.port_stop.PortStop.{PortStop}
 
--- What an access, an operand or an instruction comes to: a value, a word access that met the port at an address,
+-- The outcome of an access, an operand or an instruction: a value, a word access that met the port at an address,
 -- or a word that is no instruction of the processor here.
 pub data Answer (X : Type 0) : Type 0 where
   Gives : X → Answer X

@@ -377,7 +377,7 @@ module _ (M : Type 0) (access : Accesses M) where
     Gives (record x { wp = even wp; pc = even pc; status = status_at status })
   bare _ x = NoInstruction  -- never reached: `executed_where` refuses these first
 
-  -- An instruction is executed; the program counter comes after its first word.
+  -- An instruction is executed; the program counter is after its first word.
   -- TMS9900 data manual, "Instructions".
   abbrev pub executed : Instr → Cpu M → Answer (Cpu M)
   executed (Two op byte dst src) x = two_operands op (byte_or_word byte) dst src x

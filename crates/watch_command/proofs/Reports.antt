@@ -6,7 +6,7 @@ use Rattle.gpl_step_defs.specs.declared.reason.Reason.{Reason}
 use Rattle.gpl_step_defs.specs.State.{GplState, start}
 use Rattle.gpl_step_defs.specs.Run.{GplRun, run}
 use Rattle.interp_defs.specs.Match.{shown_by}
-use Rattle.interp_defs.specs.Programs.{EndsAs, RunsSteps, most_of_boot}
+use Rattle.interp_defs.specs.Programs.{EndsAs, RunsSteps, bound_of_boot}
 use Rattle.interp_defs.proofs.Machines.{runs_program}
 use Rattle.sim_steps.specs.Running.{RunsTurns}
 use Rattle.sim_steps.specs.Starting.{StartsProgram}
@@ -56,7 +56,7 @@ runs_of result.None limit x y before after w = ((run limit (gpl_state_of x)).don
 
 -- The interpreter has booted on a new machine, and the program was watched.
 module _ (new : MachineState) (machine : IsMachine new) (is_new : IsNew new) (first : SessionState) (begun booted : ℕ)
-    (begins : StartsProgram (start (image_of new) (entry_of new)) most_of_boot new first.machine begun booted)
+    (begins : StartsProgram (start (image_of new) (entry_of new)) bound_of_boot new first.machine begun booted)
     (running : first.ended ≡ None) where
   abbrev s : GplState
   s = start (image_of new) (entry_of new)

@@ -1,6 +1,6 @@
 //! What is found in a run.
 
-/// What a run whose items are watched has come to.
+/// How far a run whose items are watched has gone, and what ended it.
 #[derive(Clone, Copy, Debug, PartialEq, Eq)]
 pub enum Found {
     /// The first step at which an item holds.

@@ -111,7 +111,7 @@ module _ (at : ℕ) (text : List ℕ) (size : ℕ) (last : Bool) (answer : Resul
           ∙ ap (λ answer. answer >>= λ found. with_room earlier (record { at = absolute_at at; outcome = found })) back.comes;
     }
 
--- ---- what the lines come to
+-- ---- outcomes of the lines
 
 pub record Holds (before : List Line) (earlier : List AssembledLine) (from : ℕ) (words : List ℕ) : Type 0 where
   pub assembled_are : assembled_lines (assembled_line predefined) before ≡ Ok earlier
@@ -124,7 +124,7 @@ Fails before refusal = assembled_lines (assembled_line predefined) before ≡ Er
 pub fails_still : (line : Line) (before : List Line) (refusal : Refusal AsmCause) → Fails before refusal → Fails (line ∷ before) refusal
 fails_still line before refusal e = rw e refl
 
--- what lines come to: words that come one after the other from a place on, or a refusal
+-- the outcomes of lines: words one after the other from a place on, or a refusal
 abbrev pub Comes : List Line → ℕ → Result (List ℕ) (Refusal AsmCause) → Type 0
 Comes before from (Ok words) = (earlier : List AssembledLine) × Holds before earlier from words
 Comes before from (Err refusal) = Fails before refusal

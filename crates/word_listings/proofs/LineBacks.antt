@@ -143,7 +143,7 @@ byte_line at byte lt =
     (rw (one_text (hex_byte byte) (omega arith) (byte_passes whole byte refl refl)) refl) (own_byte at (hex_byte byte))
     (rw (byte_value known (Absolute (at % 65536)) byte lt, small) refl)
 
--- the last line, by the entry that it names, and what it comes to
+-- the last line, by the entry that it names, and its outcome
 abbrev pub end_text : Option ℕ → List ℕ
 end_text None = codes "END"
 end_text (Some entry) = codes "END " ++ hex_word entry

@@ -20,8 +20,8 @@ pub record AreFromEvenAddress (at : ℕ) (bytes : List ℕ) : Type 0 where
   pub below : at < 65536
   pub within : at + length bytes ≤ 65536
 
--- What the listing of bytes comes to, of which the first line is AORG: the module of their words, or the refusal of the
--- first of its jumps that wraps around the ends of memory.
+-- What the listing of bytes is assembled to, of which the first line is AORG: the module of their words, or the
+-- refusal of the first of its jumps that wraps around the ends of memory.
 abbrev pub listed_module : ℕ → List ℕ → Option ℕ → Result Module (Refusal AsmCause)
 listed_module at bytes entry =
     unless_far (first_wrapping 2 at (words_of_bytes bytes)) (module_of_words at (padded_words bytes) entry)
@@ -56,7 +56,8 @@ EnteredListingsComeBack =
     → module_of_source (concat (entered_listing at bytes entry)) ≡ listed_module at bytes (Some entry)
 
 -- The law, which is proved: a listing has at most 26 bytes for each word, which is a rough bound, and 45 for its other
--- lines: AORG, BYTE of a last odd byte, and END.
+-- lines: AORG, BYTE of a last odd byte, and END. It is by words: the number of lines times the longest line would pass
+-- the largest input.
 abbrev pub WordListingsAreShort : Type 0
 WordListingsAreShort =
     (at : ℕ) (bytes : List ℕ) → AreFromEvenAddress at bytes

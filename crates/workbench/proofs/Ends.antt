@@ -34,7 +34,7 @@ use Rattle.reports.specs.Answers.{Ends, WantsMemory, Reported}
 use Rattle.reports.specs.Run.{Run, EndsParsed}
 use Rattle.reports.proofs.Runs.{by_report}
 use Rattle.reports.proofs.NoUsage.{IsNoUsage, same_no_usage, program_no_usage, large_no_usage, source_no_usage}
-use Rattle.bench_commands.specs.InputRun.{TookWithin}
+use Rattle.bench_commands.specs.InputRun.{ConsumedWithin}
 use Rattle.bench_commands.specs.Bench.{bench_program}
 use Rattle.bench_commands.proofs.Ends.{reads_whole}
 use Rattle.file_commands.specs.Inputs.{Inputs}
@@ -123,8 +123,8 @@ module _ (before after : SourceState) (bytes : List ℕ) (whole : ReadWhole larg
   is_small : nat_lt largest_input (length bytes) ≡ false
   is_small = let within = whole.within in grind (arith, nat_tests)
 
-  whole_within : TookWithin before after
-  whole_within = record { bytes = bytes; within = whole.within; empty = 1; one = omega arith; took = whole.took }
+  whole_within : ConsumedWithin before after
+  whole_within = record { bytes = bytes; within = whole.within; empty = 1; one = omega arith; consumed = whole.consumed }
 
 -- what is answered to a source that was taken whole
 module _ (before after : SourceState) (source : List ℕ) (whole : ReadWhole largest_input before after source) where

@@ -17,7 +17,7 @@ use Rattle.file_commands.specs.Reported.{Failed, CopyReported, LinkReported}
 use Rattle.file_commands.specs.Inputs.{Inputs, ShownInputs, ReadsFirst, FaultRose}
 use Rattle.bench_commands.specs.Bench.{bench_input}
 use Rattle.bench_commands.specs.InputRun as plain
-use Rattle.bench_commands.specs.InputRun.{ReadsInput, TookWithin}
+use Rattle.bench_commands.specs.InputRun.{ReadsInput, ConsumedWithin}
 use Rattle.reports.specs.Run.{Program}
 
 -- The report of `asm` on a source that was taken of the input. If that is too large, no file is opened.
@@ -49,13 +49,13 @@ Begins (Plain command) before after front =
 -- have: else it is reported as too large. `asm` opens none before it has taken the input whole.
 abbrev pub Leaves : ProgramCommand → Inputs → Inputs → Type 0
 Leaves (OverFiles AsmFiles) before after =
-    TookWithin before.input after.input × ReadWithinLimit most_bytes before.shelf after.shelf
+    ConsumedWithin before.input after.input × ReadWithinLimit most_bytes before.shelf after.shelf
     × ReadsFirst before after
 Leaves (OverFiles (LinkFiles names)) before after =
     (after.input ≡ before.input) × ReadWithinLimit largest_input before.shelf after.shelf
     × (questions : List Question) × LinkDialogue before.shelf after.shelf names questions
 Leaves (OverFiles (Watch limit items)) before after =
-    TookWithin before.input after.input × (after.shelf ≡ before.shelf)
+    ConsumedWithin before.input after.input × (after.shelf ≡ before.shelf)
 Leaves (Plain command) before after =
     plain.Leaves bench_input command before.input after.input × (after.shelf ≡ before.shelf)
 

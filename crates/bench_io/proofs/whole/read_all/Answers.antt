@@ -1,7 +1,7 @@
 use Rattle.std.proofs.Common.{◌≡◌, ◌≤◌, [], length, take, drop, ◌++◌, ap, ◌∙◌, refl, arith, rules, length-append, length-take}
 use Rattle.std.proofs.lemmas.Result.{err_from_is_err_and}
 use Rattle.std.proofs.lemmas.List.{take-append-le}
-use Rattle.bench_io.proofs.TakeCalls.{took_then, took_more, took_last, largest_last, rose_since, few_calls}
+use Rattle.bench_io.proofs.TakeCalls.{consumed_then, consumed_more, consumed_last, largest_last, rose_since, few_calls}
 use Rattle.bench_io.proofs.whole.read_all.Goals as goal
 
 pub loop-bytes-preserved : goal.loop-bytes-preserved
@@ -13,7 +13,7 @@ loop-bytes-preserved g c =
     let len : length (take count c.take_once.new.buffer) ≡ count = simp length-take (omega arith) in
     let size = length-append c.loop-bytes.bytes.items (take count c.take_once.new.buffer) in
     record {
-      took = rw items (took_more _ _ _ _ _ _ (omega arith) c.loop-bytes.invariant.took c.in_ok-count.ensures.took);
+      consumed = rw items (consumed_more _ _ _ _ _ _ (omega arith) c.loop-bytes.invariant.consumed c.in_ok-count.ensures.consumed);
       within = omega (arith, ap length items, size, len, c.loop-bytes.bytes.ok.0);
       piece = search rules;
       kept = c.take_once.ensures.kept ∙ c.loop-bytes.invariant.kept;
@@ -24,10 +24,10 @@ returns-then-count-eq0-clause-ok g c =
     let none = c.if-count-eq0.true in
     let nothing : take c.in_ok-count.count c.take_once.new.buffer ≡ [] = rw none refl in
     record {
-      took = took_last _ _ _ _ _ _ nothing (omega arith) c.loop-bytes.invariant.took c.in_ok-count.ensures.took;
+      consumed = consumed_last _ _ _ _ _ _ nothing (omega arith) c.loop-bytes.invariant.consumed c.in_ok-count.ensures.consumed;
       within = c.loop-bytes.invariant.within;
       end = c.in_ok-count.ensures.end none;
-      largest = largest_last _ _ _ _ _ _ c.loop-bytes.invariant.took c.in_ok-count.ensures.given;
+      largest = largest_last _ _ _ _ _ _ c.loop-bytes.invariant.consumed c.in_ok-count.ensures.given;
     }
 
 pub returns-in_err-count-clause-err : goal.returns-in_err-count-clause-err
@@ -36,8 +36,8 @@ returns-in_err-count-clause-err g c =
     rw (p.1, p.2) (
       c.loop-bytes.bytes.items,
       c.loop-bytes.invariant.within,
-      took_last _ _ _ _ _ _ refl refl c.loop-bytes.invariant.took c.in_err-count.ensures.failed,
-      rose_since _ _ _ c.loop-bytes.invariant.took.faults c.in_err-count.ensures.cause,
+      consumed_last _ _ _ _ _ _ refl refl c.loop-bytes.invariant.consumed c.in_err-count.ensures.failed,
+      rose_since _ _ _ c.loop-bytes.invariant.consumed.faults c.in_err-count.ensures.cause,
     )
 
 pub returns-then-limit-len-clause-err : goal.returns-then-limit-len-clause-err
@@ -58,8 +58,8 @@ returns-then-limit-len-clause-err g c =
         c.min-room.ensures,
         c.loop-bytes.bytes.ok.0,
       ),
-      took_more _ _ _ _ _ _ (omega arith) c.loop-bytes.invariant.took c.in_ok-count.ensures.took,
-      largest_last _ _ _ _ _ _ c.loop-bytes.invariant.took c.in_ok-count.ensures.given,
+      consumed_more _ _ _ _ _ _ (omega arith) c.loop-bytes.invariant.consumed c.in_ok-count.ensures.consumed,
+      largest_last _ _ _ _ _ _ c.loop-bytes.invariant.consumed c.in_ok-count.ensures.given,
     )
 
 pub returns-in_err-extend_from_slice-clause-err : goal.returns-in_err-extend_from_slice-clause-err
@@ -71,25 +71,25 @@ returns-in_err-extend_from_slice-clause-err g c =
     rw (p.1, p.2) (
       c.loop-bytes.bytes.items ++ take count c.take_once.new.buffer,
       simp length-append (omega (arith, len, c.loop-bytes.bytes.ok.0)),
-      took_more _ _ _ _ _ _ (omega arith) c.loop-bytes.invariant.took c.in_ok-count.ensures.took,
+      consumed_more _ _ _ _ _ _ (omega arith) c.loop-bytes.invariant.consumed c.in_ok-count.ensures.consumed,
     )
 
 pub returns-in_err-count-clause-calls : goal.returns-in_err-count-clause-calls
 returns-in_err-count-clause-calls g c =
-    let took = took_last _ _ _ _ _ _ refl refl c.loop-bytes.invariant.took c.in_err-count.ensures.failed in
-    few_calls _ _ _ _ _ took (omega (arith, c.loop-bytes.invariant.within))
+    let consumed = consumed_last _ _ _ _ _ _ refl refl c.loop-bytes.invariant.consumed c.in_err-count.ensures.failed in
+    few_calls _ _ _ _ _ consumed (omega (arith, c.loop-bytes.invariant.within))
 
 pub returns-then-count-eq0-clause-calls : goal.returns-then-count-eq0-clause-calls
 returns-then-count-eq0-clause-calls g c =
     let nothing : take c.in_ok-count.count c.take_once.new.buffer ≡ [] = rw c.if-count-eq0.true refl in
-    let took = took_last _ _ _ _ _ _ nothing (omega arith) c.loop-bytes.invariant.took c.in_ok-count.ensures.took in
-    few_calls _ _ _ _ _ took (omega (arith, c.loop-bytes.invariant.within))
+    let consumed = consumed_last _ _ _ _ _ _ nothing (omega arith) c.loop-bytes.invariant.consumed c.in_ok-count.ensures.consumed in
+    few_calls _ _ _ _ _ consumed (omega (arith, c.loop-bytes.invariant.within))
 
 pub returns-then-limit-len-clause-calls : goal.returns-then-limit-len-clause-calls
 returns-then-limit-len-clause-calls g c =
     let count = c.in_ok-count.count in
-    let took = took_then _ _ _ _ _ _ _ c.loop-bytes.invariant.took c.in_ok-count.ensures.took in
-    few_calls _ _ _ _ _ took (simp (length-append, length-take) (omega (
+    let consumed = consumed_then _ _ _ _ _ _ _ c.loop-bytes.invariant.consumed c.in_ok-count.ensures.consumed in
+    few_calls _ _ _ _ _ consumed (simp (length-append, length-take) (omega (
       arith,
       c.in_ok-count.ensures.within,
       length-take c.min-room.result c.loop-bytes.buffer,
@@ -99,8 +99,8 @@ returns-then-limit-len-clause-calls g c =
 
 pub returns-in_err-extend_from_slice-clause-calls : goal.returns-in_err-extend_from_slice-clause-calls
 returns-in_err-extend_from_slice-clause-calls g c =
-    let took = took_then _ _ _ _ _ _ _ c.loop-bytes.invariant.took c.in_ok-count.ensures.took in
-    few_calls _ _ _ _ _ took (simp (length-append, length-take) (omega (
+    let consumed = consumed_then _ _ _ _ _ _ _ c.loop-bytes.invariant.consumed c.in_ok-count.ensures.consumed in
+    few_calls _ _ _ _ _ consumed (simp (length-append, length-take) (omega (
       arith,
       c.in_ok-count.ensures.within,
       length-take c.min-room.result c.loop-bytes.buffer,

@@ -1,5 +1,5 @@
 use Rattle.std.proofs.Common.{◌≡◌, ◌≤◌, ◌+◌, ◌-◌, length}
-use Rattle.bench_io.specs.ReadAll.{Took}
+use Rattle.bench_io.specs.ReadAll.{Consumed}
 use Rattle.bench_io.proofs.whole.read_all.Given as goal
 
 -- the bytes so far are what the source gave, by calls that each gave some
@@ -7,7 +7,7 @@ abbrev pub invariant-loop-bytes : goal.invariant-loop-bytes
 invariant-loop-bytes g l =
     let state = g.S.Source.state in
     record {
-      took : Took (state l.fn.source) (state l.source) l.bytes.items 0;
+      consumed : Consumed (state l.fn.source) (state l.source) l.bytes.items 0;
       within : length l.bytes.items ≤ l.limit;
       piece : length l.buffer ≡ 4096;
       kept : g.S.Source.kept l.source ≡ g.S.Source.kept l.fn.source;

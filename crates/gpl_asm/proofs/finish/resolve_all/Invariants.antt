@@ -4,7 +4,7 @@ use Rattle.gpl_asm.specs.Replay.{replay}
 use Rattle.gpl_asm.specs.Room.{HasRoom}
 use Rattle.gpl_asm.proofs.finish.resolve_all.Given as goal
 
--- the lines that are left go on to what all come to
+-- the lines that are left go on to the outcomes of all
 abbrev pub invariant-loop-rest : goal.invariant-loop-rest
 invariant-loop-rest l =
     (replay l.symbols (record { image = l.image; entry = l.entry }) l.rest

@@ -4,10 +4,10 @@ use Rattle.sim_move.proofs.length.find_length.Goals as goal
 pub returns-then-pc-eq-ADDR : goal.returns-then-pc-eq-ADDR
 unfolding find_length
 returns-then-pc-eq-ADDR g c =
-    goes_at c.pc.ensures.value ADDR load_placed _ c.ask_length.ensures c.if-pc-eq-ADDR.true refl c.load_placed.ensures
+    goes_at c.pc.ensures.value ADDR load_placed _ c.request_length.ensures c.if-pc-eq-ADDR.true refl c.load_placed.ensures
 
 pub returns-else-pc-eq-ADDR : goal.returns-else-pc-eq-ADDR
 unfolding find_length
 returns-else-pc-eq-ADDR g c =
-    stays c.pc.ensures.value ADDR load_placed c.ask_length.ensures c.if-pc-eq-ADDR.false
-    (exit_then load_count c.ask_length.ensures (asks_on (view c.args.machine.now)) c.load_count.ensures)
+    stays c.pc.ensures.value ADDR load_placed c.request_length.ensures c.if-pc-eq-ADDR.false
+    (exit_then load_count c.request_length.ensures (asks_on (view c.args.machine.now)) c.load_count.ensures)

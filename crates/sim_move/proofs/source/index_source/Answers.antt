@@ -7,5 +7,5 @@ use Rattle.sim_move.proofs.source.index_source.Goals as goal
 
 pub returns : goal.returns
 returns g c =
-    let read = exit_then subroutine.stream c.ask_source.ensures refl c.stream_value.ensures in
-    exit_then check_index (exit_then piece.ask_index read refl c.ask_index.ensures) refl c.check_index.ensures
+    let read = exit_then subroutine.stream c.request_source.ensures refl c.stream_value.ensures in
+    exit_then check_index (exit_then piece.request_index read refl c.request_index.ensures) refl c.check_index.ensures

@@ -7,6 +7,6 @@ use Rattle.sim_move.proofs.source.turn_to_source.Goals as goal
 
 pub returns : goal.returns
 returns g c =
-    let located = exit_then step.where_next c.ask_next.ensures refl c.where_next.ensures in
+    let located = exit_then step.where_next c.request_next.ensures refl c.where_next.ensures in
     let kept = exit_then piece.seek_source located refl c.seek_source.ensures in
     exit_then piece.turn_to_grom (exit_then subroutine.seek kept refl c.seek_address.ensures) refl c.turn_to_grom.ensures

@@ -1,5 +1,0 @@
-use Rattle.sim_flow.proofs.Paths
-use Rattle.sim_flow.proofs.pieces.ask_table.Goals as goal
-
-pub returns : goal.returns
-returns g c = Paths.piece c.requires (Paths.ask_table _) c.run_piece.ensures

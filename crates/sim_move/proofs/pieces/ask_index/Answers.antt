@@ -1,5 +1,0 @@
-use Rattle.sim_move.proofs.Paths
-use Rattle.sim_move.proofs.pieces.ask_index.Goals as goal
-
-pub returns : goal.returns
-returns g c = Paths.piece c.requires (Paths.ask_index _) c.run_piece.ensures

@@ -1,5 +1,0 @@
-use Rattle.sim_move.proofs.Paths
-use Rattle.sim_move.proofs.pieces.ask_length.Goals as goal
-
-pub returns : goal.returns
-returns g c = Paths.piece c.requires (Paths.ask_length _) c.run_piece.ensures

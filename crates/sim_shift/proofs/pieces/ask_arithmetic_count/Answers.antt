@@ -1,5 +1,0 @@
-use Rattle.sim_shift.proofs.Paths
-use Rattle.sim_shift.proofs.pieces.ask_arithmetic_count.Goals as goal
-
-pub returns : goal.returns
-returns g c = Paths.piece c.requires (Paths.ask_arithmetic_count _) c.run_piece.ensures

@@ -1,0 +1,5 @@
+use Rattle.sim_shift.proofs.Paths
+use Rattle.sim_shift.proofs.pieces.request_left_count.Goals as goal
+
+pub returns : goal.returns
+returns g c = Paths.piece c.requires (Paths.request_left_count _) c.run_piece.ensures

@@ -1,5 +1,0 @@
-use Rattle.sim_stack.proofs.Paths
-use Rattle.sim_stack.proofs.pieces.ask_byte.Goals as goal
-
-pub returns : goal.returns
-returns g c = Paths.piece c.requires (Paths.ask_byte _) c.run_piece.ensures

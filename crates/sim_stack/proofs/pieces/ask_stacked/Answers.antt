@@ -1,5 +1,0 @@
-use Rattle.sim_stack.proofs.Paths
-use Rattle.sim_stack.proofs.pieces.ask_stacked.Goals as goal
-
-pub returns : goal.returns
-returns g c = Paths.piece c.requires (Paths.ask_stacked _) c.run_piece.ensures

@@ -1,0 +1,5 @@
+use Rattle.sim_stack.proofs.Paths
+use Rattle.sim_stack.proofs.pieces.request_byte.Goals as goal
+
+pub returns : goal.returns
+returns g c = Paths.piece c.requires (Paths.request_byte _) c.run_piece.ensures
