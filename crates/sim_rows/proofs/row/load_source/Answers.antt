@@ -39,7 +39,7 @@ pub run_address-requires-clause-idle : goal.run_address-requires-clause-idle
 run_address-requires-clause-idle g c =
     let is = Sources.shows_asking c.request_second.ensures (off c.pc.ensures.value c.if-pc-eq-STREAM.false) in
     idle_again c.args.machine.now.cpu.memory c.request_second.new.machine.cpu.memory
-        (ap (λ (v : View). v.vdp) is) (ap (λ (v : View). v.grom) is) c.requires.idle
+    (ap (λ (v : View). v.vdp) is) (ap (λ (v : View). v.grom) is) c.requires.idle
 
 pub run_address-requires-clause-fetched : goal.run_address-requires-clause-fetched
 run_address-requires-clause-fetched g c =
@@ -49,7 +49,7 @@ run_address-requires-clause-fetched g c =
 pub returns-then-pc-eq-GSTOP : goal.returns-then-pc-eq-GSTOP
 returns-then-pc-eq-GSTOP g c = λ s place has kept.
     Sources.bars c.request_second.ensures (is_view c.args.machine.now c.requires.is_at.machine)
-        s place has kept (off c.pc.ensures.value c.if-pc-eq-STREAM.false) _
+    s place has kept (off c.pc.ensures.value c.if-pc-eq-STREAM.false) _
     _ c.run_address.ensures (on c.pc-2.ensures.value c.if-pc-eq-GSTOP.true)
 
 pub load_second-requires : goal.load_second-requires

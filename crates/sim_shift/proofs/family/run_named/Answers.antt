@@ -23,7 +23,7 @@ finish_row-requires-clause-is_at g c =
 pub returns-then-not-take_count : goal.returns-then-not-take_count
 returns-then-not-take_count g c =
     λ s place source known a both. ShiftRows.runs_none c.args.op c.request_count.ensures c.take_count.ensures.exits
-        s place source known a c.requires.is_at.machine
+    s place source known a c.requires.is_at.machine
     c.finish_row.new.machine c.finish_row.new.steps (sym c.take_count.ensures.some ∙ c.if-not-take_count.true) c.finish_row.ensures
 
 pub shift_value-requires-clause-is_at : goal.shift_value-requires-clause-is_at
@@ -58,6 +58,6 @@ finish_row-requires-2-clause-is_at g c =
 pub returns : goal.returns
 returns g c =
     λ s place source known a both. ShiftRows.runs_some c.args.op c.request_count.ensures c.take_count.ensures.exits
-        s place source known a c.requires.is_at.machine
+    s place source known a c.requires.is_at.machine
     c.shift_value.new.machine c.finish_row-2.new.machine c.shift_value.new.steps c.finish_row-2.new.steps
     (sym c.take_count.ensures.some ∙ c.if-not-take_count.false) c.shift_value.ensures c.finish_row-2.ensures
