@@ -156,7 +156,7 @@ def shared(found):
 
 
 def blocks_file(found):
-    lines = [f'-- {WRITTEN}', '-- Blocks of the source\'s lines: each line by itself comes to what its row says.']
+    lines = [f'-- {WRITTEN}', '-- Blocks of the source\'s lines: each line by itself has the outcome of its row.']
     lines += BLOCK_USES.split('\n')
     for first, count, named, names in found:
         name = f'lines_{first:03}'
